@@ -1,26 +1,32 @@
-# Completion of fcanon-store for bash.
+# Completion of fcanon-store for bash, which tools/completions wrote.
 _fcanon_store() {
-    local word=${COMP_WORDS[COMP_CWORD]} before=${COMP_WORDS[COMP_CWORD-1]} words=
+    local commands='add look solve export query stats check'
+    local word=${COMP_WORDS[COMP_CWORD]} before=${COMP_WORDS[COMP_CWORD-1]} command=${COMP_WORDS[1]} words=
+    # after < or > comes a file: bash completes its name where nothing is offered here
+    case $before in *[\<\>]*)
+        COMPREPLY=()
+        return
+    esac
+    # bash takes --option=value for three words
+    if [ "$before" = = ]; then
+        before=${COMP_WORDS[COMP_CWORD-2]}
+    elif [ "$word" = = ]; then
+        word=
+    fi
     if [ "$COMP_CWORD" -eq 1 ]; then
-        words='add look solve export query stats check -h --help'
+        words="$commands -h --help"
     else
-        case $before in
-        --variant|--game) words='freecell bakers_game eight_off' ;;
-        --solver|--prover|--limit|--seconds|--jobs|--unsolvable|--name|--least|--most|--wait) ;;
-        *)
-            case $word in -*)
-                words='-h --help --wait'
-                case ${COMP_WORDS[1]} in
-                add|look) words="--variant $words" ;;
-                solve) words="--solver --prover --limit --seconds --jobs --unsolvable $words" ;;
-                export) words="--name --game --least --most --solved --unsolved $words" ;;
-                query) words="--name --game --least --most --solved --unsolved --json $words" ;;
-                stats) words="--json $words" ;;
-                esac
-            esac
+        case $command.$before.$word in
+        *.--variant.*|*.--game.*) words='freecell bakers_game eight_off' ;;
+        *.--wait.*|*.--solver.*|*.--prover.*|*.--limit.*|*.--seconds.*|*.--jobs.*|*.--unsolvable.*|*.--name.*|*.--least.*|*.--most.*) ;;
+        solve.*.-*) words='-h --help --solver --prover --limit --seconds --jobs --unsolvable --wait' ;;
+        export.*.-*) words='-h --help --name --game --least --most --solved --unsolved --wait' ;;
+        query.*.-*) words='-h --help --name --game --least --most --solved --unsolved --json --wait' ;;
+        stats.*.-*) words='-h --help --json --wait' ;;
+        check.*.-*) words='-h --help --wait' ;;
+        *.*.-*) words='-h --help --variant --wait' ;;
         esac
     fi
-    # bash completes the name of a file where nothing is offered here
     COMPREPLY=($(compgen -W "$words" -- "$word"))
 }
 complete -o default -F _fcanon_store fcanon-store

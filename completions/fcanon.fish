@@ -1,4 +1,4 @@
-# Completion of fcanon for fish.
+# Completion of fcanon for fish, which tools/completions wrote.
 complete -c fcanon -f
 complete -c fcanon -n __fish_use_subcommand -a show -d 'Print each record in one spelling, or name its first fault'
 complete -c fcanon -n __fish_use_subcommand -a canon -d 'Print the canonical board of each record'
@@ -14,8 +14,8 @@ complete -c fcanon -n __fish_use_subcommand -a count -d 'Print figures of the wh
 complete -c fcanon -n __fish_use_subcommand -a import -d 'Make a collection of boards as other programs print them'
 complete -c fcanon -n __fish_use_subcommand -a deal -d 'Print the board of one of Microsoft\'s numbered deals'
 complete -c fcanon -n __fish_use_subcommand -a help -d 'Print this message or the help of the given subcommand(s)'
-complete -c fcanon -n __fish_use_subcommand -s V -l version -d 'Print version'
 complete -c fcanon -s h -l help -d 'Print help'
+complete -c fcanon -n __fish_use_subcommand -s V -l version -d 'Print version'
 complete -c fcanon -n '__fish_seen_subcommand_from show canon check group share expand unique table same symmetries count import' -x -l variant -a 'freecell bakers_game eight_off' -d 'The game of a board without a header'
 complete -c fcanon -n '__fish_seen_subcommand_from show canon check group share expand unique table same symmetries count' -l any-size -d 'Read more than 65536 records or 16 MiB, as far as there is memory'
 complete -c fcanon -n '__fish_seen_subcommand_from show canon check group share expand unique table symmetries' -x -l from-record -d 'The number of the first record, in a piece of a larger collection, from 1 to 1152921504606846976'

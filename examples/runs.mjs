@@ -3,11 +3,13 @@
 //
 //     node runs.mjs fcanon_runs.wasm group < positions.collection
 
+// tools/tables wrote this from fcanon.h and fcanon_runs.h, to the next empty line.
 const TASKS = ['show', 'canon', 'check', 'group', 'share', 'expand', 'unique', 'table', 'same', 'symmetries', 'count'];
 const FORMATS = ['lines', 'header', 'json'];
 const GAMES = ['freecell', 'bakers_game', 'eight_off'];
 const FAULTS = { 1: 'no such game', 10: 'no such task', 11: 'no such format', 12: 'out of memory', 13: 'input too large' };
 const [DONE, NO_ROOM, NO_MEMORY] = [0, 9, 12];
+
 const [REQUEST_BYTES, SEED_PLACE, WRITTEN_BYTES, SIZE_BYTES] = [24, 16, 24, 8];
 
 export class Runs {

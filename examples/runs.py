@@ -8,6 +8,7 @@ import secrets
 import sys
 from typing import NamedTuple
 
+# tools/tables wrote this from fcanon.h and fcanon_runs.h, to the next empty line.
 TASKS = ["show", "canon", "check", "group", "share", "expand", "unique", "table", "same", "symmetries", "count"]
 FORMATS = ["lines", "header", "json"]
 GAMES = ["freecell", "bakers_game", "eight_off"]

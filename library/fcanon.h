@@ -65,7 +65,12 @@
 extern "C" {
 #endif
 
-enum fcanon_game { FCANON_FREECELL, FCANON_BAKERS_GAME, FCANON_EIGHT_OFF };
+/* The games. The program's word for each is its name here, in lower case. */
+enum fcanon_game {
+    FCANON_FREECELL,    /* FreeCell: 4 cells; any card fills an empty column; built in alternating colours */
+    FCANON_BAKERS_GAME, /* Baker's Game: 4 cells; any card fills an empty column; built in suit */
+    FCANON_EIGHT_OFF    /* Eight Off: 8 cells; kings alone fill an empty column; built in suit */
+};
 
 /* A card is 1 to 52: 4 * (rank - 1) + suit + 1, with ranks 1 (ace) to 13 (king) and the suits 0
  * clubs, 1 diamonds, 2 hearts, 3 spades. 0 is no card. */
@@ -106,7 +111,7 @@ typedef struct fcanon_run {
 
 #define FCANON_MOST_MOVES 49 /* a move of several cards is never more moves of one card than these */
 #define FCANON_MOST_CHILDREN 272 /* a board never allows more moves of one card than these */
-#define FCANON_MOST_RUN_MOVES 672 /* nor more moves of several cards than these */
+#define FCANON_MOST_RUN_MOVES 672 /* a board never allows more moves of several cards than these */
 
 enum fcanon_answer {
     FCANON_DONE,
@@ -150,7 +155,8 @@ static inline uint8_t fcanon_missing_card(uint32_t answer) {
 FCANON_EXPORT uint32_t fcanon_version(void);
 
 /* Puts the words for an answer into *text, as "not building": a C string that stays. Reasons and
- * faults have the words that the program prints; of a missing card these do not name the card. */
+ * faults have the words that the program prints, which are their names here; of a missing card these do
+ * not name the card. */
 FCANON_EXPORT FCANON_ATTRIBUTES((nonnull)) void fcanon_find_answer_text(uint32_t answer, const char **text);
 
 static inline const char *fcanon_answer_text(uint32_t answer) {

@@ -28,7 +28,7 @@
 extern "C" {
 #endif
 
-/* The commands. */
+/* The commands, and how many they are. */
 #define FCANON_TASK_SHOW 0
 #define FCANON_TASK_CANON 1
 #define FCANON_TASK_CHECK 2
@@ -40,6 +40,7 @@ extern "C" {
 #define FCANON_TASK_SAME 8
 #define FCANON_TASK_SYMMETRIES 9
 #define FCANON_TASK_COUNT 10
+#define FCANON_TASKS 11
 
 /* How a table, or the figures of FCANON_TASK_COUNT, are written; other tasks have one format. */
 #define FCANON_FORMAT_LINES 0

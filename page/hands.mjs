@@ -2,7 +2,7 @@
 
 import { makeMove, shuffle } from './actions.mjs';
 import { at, hide, say, setIdle } from './elements.mjs';
-import { fcanon, REASONS, SUITS } from './library.mjs';
+import { fcanon, SUITS, wordsOfReason } from './library.mjs';
 import { areEqual, cardsByPile, isColumn, keyAfter, keyBefore, pileKeys, renamed, suitOf } from './passages.mjs';
 import { shown } from './shown.mjs';
 import { redo, store, undo } from './store.mjs';
@@ -127,7 +127,7 @@ function whyNot(tried, name, key) {
   const { game } = shown.record;
   const { answer } = held.cards.size === 1 ? fcanon.play(game, board, { sign: '>', bytes: tried.move }) : tried;
   const capacity = isColumn(key) ? fcanon.capacity(game, board, key.charCodeAt(0)) : 1;
-  return refusalWords({ game, board, passage, cards: held.cards, key, reason: REASONS[answer - 32], capacity });
+  return refusalWords({ game, board, passage, cards: held.cards, key, reason: wordsOfReason(answer), capacity });
 }
 
 // Says all moves that the game allows on the left board; cells that are empty are alike, and so are such columns.

@@ -2,26 +2,37 @@
 // `>>`, and three bytes for each move: its two characters and how many cards it says, or 0. No rule of a game is in the
 // page: boards, canonical boards, passages and moves come from these calls, which are proved.
 
+// tools/tables wrote this from fcanon.h, to the next empty line.
 export const GAMES = ['freecell', 'bakers_game', 'eight_off'];
+export const TITLES = ['FreeCell', "Baker's Game", 'Eight Off'];
 export const CELL_COUNTS = [4, 4, 8];
+export const IN_SUIT = [false, true, true];
+const MOST_MOVES = 49;
+const MOST_CHILDREN = 272;
+const MOST_RUN_MOVES = 672;
+const FIRST_REASON = 32;
+const FIRST_FAULT = 64;
+const FIRST_MISSING_CARD = 128;
+const REASONS = ['same pile', 'empty source', 'target taken', 'kings only', 'not building', 'not next', 'no run',
+  'over capacity', 'wrong count'];
+const FAULTS = ['repeated line', 'too many columns', 'too many cells', 'bad card', 'bad foundation', 'repeated card'];
+
 export const SUITS = 'CDHS';
 export const RANKS = 'A23456789TJQK';
 export const CELLS = 'abcdefgk';
 export const COUNTS = '123456789abcd';
 export const MOST = { input: 16_777_216, record: 65_536, records: 65_536, moves: 4_096 };
 export const MOVE_SIZE = 3;
-const MOST_OF_ONE = 49; // one-card moves of a move of several cards, as fcanon.h says
-const MOST_MOVES = { one: 272, run: 672 }; // of a board, as fcanon.h says
 
-// What the answers of fcanon.h say, in the program's words.
-export const REASONS = ['same pile', 'empty source', 'target taken', 'kings only', 'not building', 'not next', 'no run',
-  'over capacity', 'wrong count'];
-const FAULTS = ['repeated line', 'too many columns', 'too many cells', 'bad card', 'bad foundation', 'repeated card'];
-
+// What an answer says, in the program's words.
 export function wordsOfAnswer(answer) {
-  if (answer >= 128) return `missing card ${RANKS[(answer - 128) >> 2]}${SUITS[(answer - 128) & 3]}`;
-  return answer >= 64 ? FAULTS[answer - 64] : REASONS[answer - 32];
+  const card = answer - FIRST_MISSING_CARD;
+  if (card >= 0) return `missing card ${RANKS[card >> 2]}${SUITS[card & 3]}`;
+  return FAULTS[answer - FIRST_FAULT] ?? wordsOfReason(answer);
 }
+
+// The words of an answer that refuses a move.
+export const wordsOfReason = (answer) => REASONS[answer - FIRST_REASON];
 
 export const movesIn = (list) => list.bytes.length / MOVE_SIZE;
 
@@ -105,9 +116,9 @@ class Library {
   moves(game, board) {
     const { addresses } = this;
     this.put('board', board);
-    this.must('fcanon_moves', game, addresses.board, addresses.moves, BigInt(MOST_MOVES.one), addresses.size);
+    this.must('fcanon_moves', game, addresses.board, addresses.moves, BigInt(MOST_CHILDREN), addresses.size);
     const ones = this.get('moves', 2 * this.number());
-    this.must('fcanon_run_moves', game, addresses.board, addresses.moves, BigInt(MOST_MOVES.run), addresses.size);
+    this.must('fcanon_run_moves', game, addresses.board, addresses.moves, BigInt(MOST_RUN_MOVES), addresses.size);
     const runs = this.get('moves', MOVE_SIZE * this.number());
     return [...movesOf(ones, 2), ...movesOf(runs, MOVE_SIZE)];
   }
@@ -171,7 +182,7 @@ class Library {
     const { addresses } = this;
     this.put('board', board);
     this.put('move', move);
-    const room = BigInt(MOST_OF_ONE);
+    const room = BigInt(MOST_MOVES);
     this.must('fcanon_expand', game, addresses.board, addresses.move, addresses.moves, room, addresses.size);
     return this.get('moves', 2 * this.number());
   }

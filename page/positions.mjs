@@ -3,7 +3,7 @@
 import { carryTo, choose, dealNumber, replace, type } from './actions.mjs';
 import { collection, inSlices, isLarge, LARGE } from './collection.mjs';
 import { at, element, setIdle, isIdle, write } from './elements.mjs';
-import { GAMES } from './library.mjs';
+import { fcanon, GAMES, TITLES } from './library.mjs';
 import { afterField, asText, bytesOf, fieldText, joined, spliceOf } from './lines.mjs';
 import { carriedTo, listLine, verdictOf } from './lists.mjs';
 import { PIECES } from './printed.mjs';
@@ -66,7 +66,8 @@ export function deal(event) {
   const game = Number(at('game').value);
   const word = at('deal').value.trim().replace(/[#,\s]/g, '');
   const number = /^\d{1,10}$/.test(word) && Number(word) < 2 ** 32 ? Number(word) : 0;
-  const why = game === 2 ? 'Eight Off has no numbered deals.' : 'Deals have the numbers 1 to 2,147,483,647.';
+  const isDealt = fcanon.deal(game, 1) !== null;
+  const why = isDealt ? 'Deals have the numbers 1 to 2,147,483,647.' : `${TITLES[game]} has no numbered deals.`;
   write('deal-said', dealNumber(game, number) ? '' : why);
 }
 

@@ -2,11 +2,11 @@
 
 import { BoardView } from './boards.mjs';
 import { at, drawing, element, hide, nameButton, setIdle, write } from './elements.mjs';
-import { CELL_COUNTS, CELLS, fcanon, MOVE_SIZE, movesIn, SUITS } from './library.mjs';
+import { CELL_COUNTS, CELLS, fcanon, MOVE_SIZE, movesIn, SUITS, TITLES } from './library.mjs';
 import { capacityFor, expandedMove, isWon } from './lists.mjs';
 import { cardsByPile, countEquivalent, keyAfter, keyBefore, upTo } from './passages.mjs';
 import { shown } from './shown.mjs';
-import { inFigures, moveWords, pileTitle, pileWords, SUIT_NAMES, TITLES } from './words.mjs';
+import { inFigures, moveWords, pileTitle, pileWords, SUIT_NAMES } from './words.mjs';
 
 export const views = {};
 

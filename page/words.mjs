@@ -1,10 +1,9 @@
 // Words of players: cards, piles and moves, as they are seen and as they are read out.
 
-import { fcanon, GAMES, MOVE_SIZE } from './library.mjs';
+import { fcanon, GAMES, IN_SUIT, MOVE_SIZE, TITLES } from './library.mjs';
 import { cardsByPile, cardText, isColumn, renamed, suitOf } from './passages.mjs';
 
-export const TITLES = ['FreeCell', "Baker's Game", 'Eight Off'];
-const BUILDING = ['by one in the other colour', 'by one in the same suit', 'by one in the same suit'];
+const BUILDING = IN_SUIT.map((it) => (it ? 'by one in the same suit' : 'by one in the other colour'));
 const GLYPHS = { C: '♣', D: '♦', H: '♥', S: '♠' };
 export const SUIT_NAMES = { C: 'clubs', D: 'diamonds', H: 'hearts', S: 'spades' };
 const RANK_NAMES = { A: 'ace', T: '10', J: 'jack', Q: 'queen', K: 'king' };

@@ -4,6 +4,7 @@ export default function init(source?: URL | string | BufferSource | WebAssembly.
 
 /** The games, in the order of their numbers in fcanon.h. */
 export const GAMES: readonly Game[];
+// tools/tables wrote this from fcanon.h, to the next empty line.
 export type Game = 'freecell' | 'bakers_game' | 'eight_off';
 
 /** Why a call did not do what it was asked for. */

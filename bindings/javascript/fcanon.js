@@ -2,12 +2,17 @@
 // fcanon.d.ts says what each method does. Behind it is a call of fcanon.h, in the WebAssembly
 // module fcanon.wasm, which node.js or browser.js hands to `start`.
 
+// tools/tables wrote this from fcanon.h, to the next empty line.
 export const GAMES = ['freecell', 'bakers_game', 'eight_off'];
-const SUITS = 'CDHS';
-const RANKS = 'A23456789TJQK';
+const CELL_COUNTS = [4, 4, 8];
 const MOST_MOVES = 49;
 const MOST_CHILDREN = 272;
 const MOST_RUN_MOVES = 672;
+const FIRST_MISSING_CARD = 128;
+
+const SUITS = 'CDHS';
+const RANKS = 'A23456789TJQK';
+const CELLS = 'abcdefgk';
 const MOST_SYMMETRIES = 24;
 
 export class FcanonError extends Error {
@@ -49,7 +54,7 @@ function wordsOf(answer) {
   calls.fcanon_find_answer_text(answer, BigInt(firstFree));
   const place = Number(new DataView(calls.memory.buffer).getBigUint64(firstFree, true));
   const words = textOf(new Uint8Array(calls.memory.buffer, place, 20));
-  const card = answer - 128;
+  const card = answer - FIRST_MISSING_CARD;
   return card >= 0 && card < 52 ? `${words} ${RANKS[card >> 2]}${SUITS[card & 3]}` : words;
 }
 
@@ -162,7 +167,7 @@ export class Passage {
     const letters = (names, bytes) => Array.from(bytes, (it) => names[it]).join('');
     const suits = letters(SUITS, this.#bytes.slice(0, 4));
     const columns = letters('12345678', this.#bytes.slice(4, 12));
-    const cells = letters('abcdefgk', this.#bytes.slice(12, this.game === 'eight_off' ? 20 : 16));
+    const cells = letters(CELLS, this.#bytes.slice(12, 12 + CELL_COUNTS[GAMES.indexOf(this.game)]));
     return `renaming ${suits} columns ${columns} cells ${cells}`;
   }
 }

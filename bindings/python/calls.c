@@ -20,8 +20,13 @@ typedef struct {
     fcanon_passage passage;
 } Passage;
 
+/* tools/tables wrote this from fcanon.h, to the next empty line. */
+enum { GAMES = 3 };
+static const char *const game_names[GAMES] = {"freecell", "bakers_game", "eight_off"};
+static const int cell_counts[GAMES] = {4, 4, 8};
+
 static PyTypeObject *board_type, *passage_type;
-static PyObject *error_class, *games[3];
+static PyObject *error_class, *games[GAMES];
 
 /* ---- errors, games and moves */
 
@@ -37,7 +42,7 @@ static void *refuse(uint32_t answer, Py_ssize_t place) {
 /* The number of a game, or -1 with an error raised. Without a name it is FreeCell. */
 static int game_of(PyObject *name) {
     if (!name) return FCANON_FREECELL;
-    for (int game = 0; game < 3 && PyUnicode_Check(name); game++)
+    for (int game = 0; game < GAMES && PyUnicode_Check(name); game++)
         if (name == games[game] || !PyUnicode_Compare(name, games[game])) return game;
     refuse(FCANON_NO_GAME, -1);
     return -1;
@@ -247,7 +252,7 @@ static Py_hash_t passage_hash(Passage *self) { return mixed(self->game, &self->p
 
 static PyObject *passage_str(Passage *self) {
     char text[64] = "renaming CDHS columns 12345678 cells ";
-    int cells = self->game == FCANON_EIGHT_OFF ? 8 : 4;
+    int cells = cell_counts[self->game];
     for (int i = 0; i < 4; i++) text[9 + i] = "CDHS"[self->passage.suits[i]];
     for (int i = 0; i < 8; i++) text[22 + i] = (char)('1' + self->passage.columns[i]);
     for (int i = 0; i < cells; i++) text[37 + i] = "abcdefgk"[self->passage.cells[i]];
@@ -707,12 +712,11 @@ static PyTypeObject *type_in(PyObject *module, const char *name, PyType_Spec *sp
 }
 
 PyMODINIT_FUNC PyInit__calls(void) {
-    static const char *const names[] = {"freecell", "bakers_game", "eight_off"};
     PyObject *module = PyModule_Create(&definition);
     if (!module) return NULL;
     int are_named = 1;
-    for (int game = 0; game < 3; game++)
-        are_named &= (games[game] = PyUnicode_InternFromString(names[game])) != NULL;
+    for (int game = 0; game < GAMES; game++)
+        are_named &= (games[game] = PyUnicode_InternFromString(game_names[game])) != NULL;
     board_type = type_in(module, "Board", &board_spec);
     passage_type = board_type ? type_in(module, "Passage", &passage_spec) : NULL;
     if (are_named && passage_type) return module;

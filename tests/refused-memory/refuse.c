@@ -1,4 +1,4 @@
-/* Refuses one request for memory, or it and all later ones, to the runs that tests/runs.c makes, which is linked with it. */
+/* Refuses one request for memory, or it and all later ones, to the runs that tests/lib/runs.c makes, which is linked with it. */
 #include <errno.h>
 #include <stddef.h>
 #include <stdint.h>

@@ -12,7 +12,7 @@
 #include <stdlib.h>
 #include <string.h>
 
-enum { IMPORT = FCANON_TASK_COUNT + 1, TASKS };
+enum { IMPORT = FCANON_TASKS, TASKS };
 enum { DONE = 0, NO_ROOM = 9, NO_MEMORY = 12 };
 enum { INPUT = 1 << 16, OUTPUT = 1 << 18, NOTES = 1 << 16, UNTOUCHED = 'z' };
 

@@ -3,13 +3,9 @@
 Nothing here is taken from the program. Deals are by chance.
 """
 
-import sys
-from pathlib import Path
-
-sys.path.insert(0, str(Path(__file__).resolve().parent.parent / "groups"))
-from boards import BAKERS_GAME, EIGHT_OFF, FREECELL, Board, board_text, card_text  # noqa: E402
-from boards import late_board, may_fill, may_go_on  # noqa: E402
-from collection import Draws, eight_off_board, put  # noqa: E402
+from lib.boards import (BAKERS_GAME, EIGHT_OFF, FREECELL, Board, board_text, card_text, late_board, may_fill,
+                        may_go_on)
+from lib.collection import Draws, eight_off_board, put
 
 RECORDS = 400
 PLAYED = 9  # boards of play on each deal

@@ -3,9 +3,9 @@
 import re
 
 from markup import from_page, inline, link, linked
-from sources import CRATES, ITEM, LAW_MODULES, believe, is_law
+from sources import CRATES, ITEM, LAW_MODULES, definitions, is_law
 
-CALL = re.compile(rf"{believe.WORD.pattern}(?=\(|::<)")
+CALL = re.compile(rf"{definitions.WORD.pattern}(?=\(|::<)")
 KINDS = ("Function", "Type", "Laws", "Definitions", "Crate")
 
 
@@ -72,7 +72,7 @@ class Links:
         self.citing = gathered((*home, piece) for piece in self.functions() for home in piece.cites)
         proofs = [proof for of_crate in sources.proofs.values() for proof in of_crate]
         self.lemmas = {proof.module: proof for proof in proofs if not proof.is_of_function}
-        self.imported = {home for proof in proofs for home in believe.imports_of(proof.text).values()}
+        self.imported = {home for proof in proofs for home in definitions.imports_of(proof.text).values()}
 
     def functions(self):
         return [piece for crate in CRATES for piece in self.sources.functions(crate)]

@@ -3,7 +3,7 @@
 import re
 from html import escape
 
-from sources import believe
+from sources import definitions
 
 STYLE = """:root {
   color-scheme: light dark;
@@ -74,7 +74,7 @@ def page(title, body):
             + f"</nav>\n<main>\n<h1>{escape(title)}</h1>\n{body}</main>\n</body>\n</html>\n")
 
 
-def linked(text, target_of, words=believe.WORD):
+def linked(text, target_of, words=definitions.WORD):
     """The text with a link for each of these words that has a target, but for fields, which follow a dot."""
     done, parts = 0, []
     for word in words.finditer(text):

@@ -6,7 +6,7 @@ from html import escape
 import documents
 from links import CALL, Links, edit_link, gathered, lemma_target, module_path, page_of_code, proof_link, types_of
 from markup import code_block, faint, folded, from_page, items, link, linked, page, paragraph, section
-from sources import CRATES, LAW_MODULES, LEMMA, ROOT, believe, is_law
+from sources import CRATES, LAW_MODULES, LEMMA, ROOT, definitions, is_law
 
 HEADLINE_LAW = ("fc_laws", "canonical_boards_represent_their_classes")
 
@@ -176,7 +176,7 @@ class Book(Links):
 
     def lemmas_of(self, proof, file):
         """The lemmas that a written proof imports, each where it is proved."""
-        for word, (module, name) in sorted(believe.imports_of(proof.text).items()):
+        for word, (module, name) in sorted(definitions.imports_of(proof.text).items()):
             other = self.lemmas.get(module)
             if other and name in other.lemmas:
                 yield link(from_page(lemma_target(other, name), file), word)

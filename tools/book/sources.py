@@ -1,27 +1,14 @@
-"""What the book is made of: definitions, contracts and laws as tests/documents/believe reads them, and beside them functions
+"""What the book is made of: definitions, contracts and laws as tests/lib/definitions.py reads them, and beside them functions
 with their code, wrong bodies, and written proofs."""
 
 import re
 import sys
-from importlib.machinery import SourceFileLoader
-from importlib.util import module_from_spec, spec_from_loader
 from pathlib import Path
 
 sys.dont_write_bytecode = True
-ROOT = Path(__file__).resolve().parent.parent.parent
-sys.path.insert(0, str(ROOT / "tests" / "documents"))
-from trust import CRATES  # noqa: E402
-
-
-def loaded(name, path):
-    """A script of the repository as a module."""
-    loader = SourceFileLoader(name, str(path))
-    module = module_from_spec(spec_from_loader(name, loader))
-    loader.exec_module(module)
-    return module
-
-
-believe = loaded("believe", ROOT / "tests" / "documents" / "believe")
+sys.path.append(str(Path(__file__).resolve().parent.parent.parent / "tests"))
+from lib import definitions  # noqa: E402
+from lib.paths import CRATES, ROOT  # noqa: E402
 
 FUNCTION = re.compile(r"( *)((?:pub(?:\(\w+\))? )?)(?:const |unsafe |extern \"C\" )*fn (\w+)")
 OWNER = re.compile(r"((?:pub(?:\(\w+\))? )?)(impl|trait)\b(.*)")
@@ -157,7 +144,7 @@ class Sources:
     """All that pages are made of."""
 
     def __init__(self):
-        self.definitions = believe.Repository()
+        self.definitions = definitions.Repository()
         self.pieces = {crate: list(self.pieces_in(crate)) for crate in CRATES}
         self.edits = {crate: list(edits_of(crate)) for crate in CRATES}
         self.proofs = {crate: list(proofs_of(crate)) for crate in CRATES}
@@ -168,9 +155,9 @@ class Sources:
         folder = CRATES[crate] / "src"
         paths = [path for path in folder.rglob("*.rt") if "tests" not in path.with_suffix("").parts]
         for path in sorted(paths, key=lambda it: (it.stem != "lib", it.with_suffix("").parts)):
-            names = believe.imports_of(path.read_text())
+            names = definitions.imports_of(path.read_text())
             for piece in pieces_of(crate, path, str(path.relative_to(folder))):
-                own = {**names, **believe.imports_of("\n".join(piece.lines))}
+                own = {**names, **definitions.imports_of("\n".join(piece.lines))}
                 clauses = "\n".join(piece.signature[1] if piece.name else piece.lines)
                 piece.names, piece.cites = own, self.definitions.homes_in(clauses, own)
                 yield piece

@@ -33,6 +33,7 @@ __all__ = [
     "canonicalize_all_with_passages",
     "hash_all",
 ]
+# tools/tables wrote this from fcanon.h, to the next empty line.
 GAMES = ("freecell", "bakers_game", "eight_off")
 
 

@@ -3,15 +3,14 @@ ghost use Rattle.std.specs.Prelude.{◌<◌, ◌==◌, ◌↔◌, ◌≡◌, ◌
 ghost use Rattle.std.specs.Prelude.{is_none, IsNone, IsOk, IsTrue, length, map, replicate};
 ghost use Rattle.std.specs.Prelude.{slice_index, take};
 ghost use Rattle.fc_card.specs.{AreCountsOf, suit_number};
-ghost use Rattle.fc_parts.specs.{board_of_parts, cell_at, column_at, empty_cells_of};
-ghost use Rattle.fc_parts.specs.{empty_columns_of, HasEachCardOnce, height_of};
-ghost use Rattle.fc_parts.specs.inside.{AscendTo, board_of_laid, columns_from};
-ghost use Rattle.fc_parts.specs.{IsDeckFault, IsWellFormed, IsWon};
+ghost use Rattle.fc_board.specs.Boards.{board_of_parts, empty_cells_of, empty_columns_of};
+ghost use Rattle.fc_board.specs.Boards.{HasEachCardOnce, IsDeckFault, IsWellFormed};
+ghost use Rattle.fc_board.specs.{inside.{AscendTo, board_of_laid, columns_from}, Play.{IsWon}};
+ghost use Rattle.fc_board.specs.Steps.{cell_at, column_at, height_of};
 
-use crate::{DeckFault, Height, Rule};
+use crate::{Columns, DeckFault, Height, Rule, cards_of_columns, deck_fault};
 use arrayvec::ArrayVec;
 use fc_card::{Card, CardSet, Suit};
-use fc_parts::{Columns, cards_of_columns, deck_fault};
 use std::marker::{Model, PhantomData};
 
 mod capacity;
@@ -32,7 +31,8 @@ pub struct Board<R: Rule> {
 
 impl<R: Rule> Model for Board<R> {
     ghost use Rattle.std.specs.Prelude.{All, drop, IsNone};
-    ghost use Rattle.fc_parts.specs.{Board as Layout, inside.{board_of_laid}, IsWellFormed};
+    ghost use Rattle.fc_board.specs.Boards.{Board as Layout, IsWellFormed};
+    ghost use Rattle.fc_board.specs.inside.{board_of_laid};
 
     ghost Value = { Layout };
 

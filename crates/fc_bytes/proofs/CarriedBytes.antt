@@ -10,24 +10,18 @@ use Rattle.std.proofs.lemmas.List.Folds.{length-flat_map-take}
 use Rattle.std.specs.List.{flat_map}
 use Rattle.fc_card.specs.{AllBelow, IsCard, IsCode, pick, renamed_card, renamed_code}
 use Rattle.fc_card.specs.laws.OrderLaws.{get_or-pick, length-pick}
-use Rattle.fc_parts.proofs.BoardLemmas.{in_columns}
-use Rattle.fc_parts.proofs.CarriedLemmas.{carried-IsWellFormed}
-use Rattle.fc_parts.proofs.PassageLemmas.{map-pick}
-use Rattle.fc_parts.specs.{Board, carried, Game, IsPassage, IsWellFormed, Passage, renamed_column}
+use Rattle.fc_board.proofs.BoardLemmas.{in_columns}
+use Rattle.fc_board.proofs.CarriedLemmas.{carried-IsWellFormed}
+use Rattle.fc_board.proofs.PassageLemmas.{map-pick}
+use Rattle.fc_board.specs.{Boards.{Board, IsWellFormed}, Games.{Game}}
+use Rattle.fc_board.specs.Passages.{carried, IsPassage, Passage, renamed_column}
 use Rattle.fc_bytes.proofs.ExactBytes.{columns_exact}
 use Rattle.fc_bytes.proofs.PutCards.{cards_fit}
 use Rattle.fc_bytes.specs.{padded}
 use Rattle.fc_bytes.specs.inside.{card_byte, IsCardByte}
+use Rattle.fc_text.proofs.BoardViewLemmas.{number-renamed}
 
 -- ---- bytes are renamed as codes are
-number-renamed : (renaming : List ℕ) (card : ℕ) → renamed_code renaming (card + 1) ≡ renamed_card renaming card + 1
-number-renamed renaming card =
-    let back : card + 1 - 1 ≡ card = omega arith in
-    let suit = slice_index renaming (card % 4) in
-    let rank : 4 * (card / 4) + suit + 1 ≡ renamed_card renaming card + 1 = omega arith in
-    ap (λ test. cond test 0 (4 * ((card + 1 - 1) / 4) + slice_index renaming ((card + 1 - 1) % 4) + 1)) (ne_eqb (card + 1) 0 (λ e. omega arith))
-    ∙ ap (λ n. 4 * (n / 4) + slice_index renaming (n % 4) + 1) back ∙ rank
-
 renamed_bytes : (renaming column : List ℕ) → map (renamed_code renaming) (map card_byte column) ≡ map card_byte (renamed_column renaming column)
 renamed_bytes renaming [] = refl
 renamed_bytes renaming (card ∷ column) = ap₂ (λ (byte : ℕ) (bytes : List ℕ). byte ∷ bytes) (number-renamed renaming card) (renamed_bytes renaming column)

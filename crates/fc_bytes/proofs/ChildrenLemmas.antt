@@ -9,9 +9,10 @@ use Rattle.std.proofs.lemmas.List.{get_or-set_other, get_or-set_same, get_or-tak
 use Rattle.std.{proofs.lemmas.List.{length-take-le}, specs.List.{filter, flat_map}}
 use Rattle.std.specs.Option.{is_none}
 use Rattle.fc_card.{proofs.OrderLemmas.{places-more}, specs.{places}}
-use Rattle.fc_parts.specs.{Board, card_at, found_refusal, Game, is_same_pile, move_between, refusal}
-use Rattle.fc_parts.specs.declared.fault.StepFault.TheVariants.{EmptySource, SamePile}
-use Rattle.fc_parts.specs.declared.moves.{Move.{Move}, Place.{Place}, Source.{Source}}
+use Rattle.fc_board.specs.{Boards.{Board}, Games.{Game}, Moves.{move_between}}
+use Rattle.fc_board.specs.Steps.{card_at, found_refusal, is_same_pile, refusal}
+use Rattle.fc_board.specs.declared.fault.StepFault.TheVariants.{EmptySource, SamePile}
+use Rattle.fc_board.specs.declared.moves.{Move.{Move}, Place.{Place}, Source.{Source}}
 use Rattle.fc_bytes.specs.{AreKeysAfter, IsKeyAfter, legal_moves_from, source_numbered}
 use Rattle.fc_bytes.specs.{target_numbered}
 use Rattle.fc_bytes.specs.declared.board.BoardBytes.{BoardBytes}

@@ -17,10 +17,11 @@ use Rattle.std.specs.List.{flat_map}
 use Rattle.std.specs.Option.{unwrap_or}
 use Rattle.std.specs.Prelude.{min}
 use Rattle.fc_card.specs.{IsCard, places}
-use Rattle.fc_parts.proofs.BoardLemmas.{in_cells, in_columns, parts_same}
-use Rattle.fc_parts.specs.{Board, cell_at, column_at, Game, height_of, IsWellFormed}
-use Rattle.fc_parts.specs.inside.{board_of_laid, columns_from}
-use Rattle.fc_parts.specs.laws.ListWords.{IsCell}
+use Rattle.fc_board.proofs.BoardLemmas.{in_cells, in_columns, parts_same}
+use Rattle.fc_board.specs.{Boards.{Board, IsWellFormed}, Games.{Game}}
+use Rattle.fc_board.specs.Steps.{cell_at, column_at, height_of}
+use Rattle.fc_board.specs.inside.{board_of_laid, columns_from}
+use Rattle.fc_board.specs.laws.ListWords.{IsCell}
 use Rattle.fc_bytes.specs.{board_bytes, cell_byte, HoldsBoard, padded}
 use Rattle.fc_bytes.specs.inside.{card_byte, card_decoded, cell_decoded, columns_decoded, decoded}
 use Rattle.fc_bytes.specs.inside.{ends_decoded, next_count}

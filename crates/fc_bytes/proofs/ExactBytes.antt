@@ -14,10 +14,10 @@ use Rattle.std.proofs.lemmas.List.Sums.{sum_by-cons}
 use Rattle.std.specs.List.{flat_map, sum}
 use Rattle.std.specs.Option.{unwrap_or}
 use Rattle.fc_card.specs.{IsCard}
-use Rattle.fc_parts.proofs.BoardLemmas.{All-left, All-right, in_cells, in_columns}
-use Rattle.fc_parts.specs.{Board, Game}
-use Rattle.fc_parts.specs.inside.{board_of_laid, columns_from}
-use Rattle.fc_parts.specs.laws.ListWords.{IsCell}
+use Rattle.fc_board.proofs.BoardLemmas.{All-left, All-right, in_cells, in_columns}
+use Rattle.fc_board.specs.{Boards.{Board}, Games.{Game}}
+use Rattle.fc_board.specs.inside.{board_of_laid, columns_from}
+use Rattle.fc_board.specs.laws.ListWords.{IsCell}
 use Rattle.fc_bytes.proofs.DecodedLemmas.{card_back, columns_read, empty_rest}
 use Rattle.fc_bytes.proofs.PutCards.{cards_fit}
 use Rattle.fc_bytes.specs.{board_bytes, cell_byte, HoldsBoard, padded}

@@ -5,11 +5,12 @@ use Rattle.std.proofs.lemmas.{Bool.{cases_lt, le-ltb, lt-ltb}, List.Elements.{Co
 use Rattle.std.proofs.lemmas.List.Elements.{Contains-append_right, Contains-push}
 use Rattle.std.specs.{List.{Contains, filter, flat_map}, Option.{is_none}}
 use Rattle.fc_card.specs.{places}
-use Rattle.fc_parts.specs.{Board, Game, move_between, PlaceFits, refusal, SourceFits}
-use Rattle.fc_parts.specs.declared.moves.{Move.{Move}, Place.{Place, TheVariants.{Cell as ToCell}}}
-use Rattle.fc_parts.specs.declared.moves.Place.TheVariants.{Column as ToColumn, Home}
-use Rattle.fc_parts.specs.declared.moves.Source.{Source}
-use Rattle.fc_parts.specs.declared.moves.Source.TheVariants.{Cell as FromCell, Column as FromColumn}
+use Rattle.fc_board.specs.{Boards.{Board}, Games.{Game}}
+use Rattle.fc_board.specs.{Moves.{move_between, PlaceFits, SourceFits}, Steps.{refusal}}
+use Rattle.fc_board.specs.declared.moves.{Move.{Move}, Place.{Place, TheVariants.{Cell as ToCell}}}
+use Rattle.fc_board.specs.declared.moves.Place.TheVariants.{Column as ToColumn, Home}
+use Rattle.fc_board.specs.declared.moves.Source.{Source}
+use Rattle.fc_board.specs.declared.moves.Source.TheVariants.{Cell as FromCell, Column as FromColumn}
 use Rattle.fc_bytes.{proofs.ChildrenLemmas.{source_more, tried_more}, specs.{IsAllowed}}
 use Rattle.fc_bytes.specs.{legal_moves, legal_moves_from, source_numbered, target_numbered}
 

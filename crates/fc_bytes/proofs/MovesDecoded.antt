@@ -6,20 +6,20 @@ use Rattle.std.proofs.lemmas.Bool.{eqb-true, leb-true}
 use Rattle.std.proofs.lemmas.Bool.Decides.{nat_tests}
 use Rattle.std.proofs.lemmas.Option.{cond_some, same_Some}
 use Rattle.std.specs.Option.{unwrap_or}
-use Rattle.fc_parts.specs.{both_columns, Game, IsCount, move_between, PlaceFits, RunFits}
-use Rattle.fc_parts.specs.{SourceFits}
-use Rattle.fc_parts.specs.declared.moves.Move.{Move}
-use Rattle.fc_parts.specs.declared.moves.Place.{Place}
-use Rattle.fc_parts.specs.declared.moves.Place.TheVariants.{Cell as ToCell, Column as ToColumn}
-use Rattle.fc_parts.specs.declared.moves.Place.TheVariants.{Home}
-use Rattle.fc_parts.specs.declared.moves.Source.{Source}
-use Rattle.fc_parts.specs.declared.moves.Source.TheVariants.{Cell as FromCell, Column as FromColumn}
-use Rattle.fc_parts.specs.declared.run_move.RunMove.{RunMove}
-use Rattle.fc_parts.specs.declared.run_move.RunMove.TheVariants.{One, Run}
-use Rattle.fc_print.proofs.TokenLemmas.{source_named-fits, source_read, target_named-fits}
-use Rattle.fc_print.proofs.TokenLemmas.{target_read}
-use Rattle.fc_print.specs.{source_character, target_character}
-use Rattle.fc_print.specs.reader.{source_named, target_named}
+use Rattle.fc_board.specs.{Games.{Game}, Moves.{both_columns, IsCount, move_between, PlaceFits}}
+use Rattle.fc_board.specs.Moves.{RunFits, SourceFits}
+use Rattle.fc_text.specs.Notation.{source_character, target_character}
+use Rattle.fc_board.specs.declared.moves.Move.{Move}
+use Rattle.fc_board.specs.declared.moves.Place.{Place}
+use Rattle.fc_board.specs.declared.moves.Place.TheVariants.{Cell as ToCell, Column as ToColumn}
+use Rattle.fc_board.specs.declared.moves.Place.TheVariants.{Home}
+use Rattle.fc_board.specs.declared.moves.Source.{Source}
+use Rattle.fc_board.specs.declared.moves.Source.TheVariants.{Cell as FromCell, Column as FromColumn}
+use Rattle.fc_board.specs.declared.run_move.RunMove.{RunMove}
+use Rattle.fc_board.specs.declared.run_move.RunMove.TheVariants.{One, Run}
+use Rattle.fc_text.proofs.TokenLemmas.{source_named-fits, source_read, target_named-fits}
+use Rattle.fc_text.proofs.TokenLemmas.{target_read}
+use Rattle.fc_text.specs.reader.{source_named, target_named}
 use Rattle.fc_bytes.specs.{HoldsMove, HoldsRun, run_bytes}
 use Rattle.fc_bytes.specs.inside.{count_decoded, run_decoded}
 use Rattle.fc_bytes.specs.declared.moves.MoveBytes.{MoveBytes}

@@ -6,10 +6,11 @@ use Rattle.std.proofs.lemmas.Bool.{cases_lt}
 use Rattle.std.proofs.lemmas.List.{drop-drop, drop-set-lt, get_or-drop, get_or-set_other}
 use Rattle.std.proofs.lemmas.List.{get_or-set_same, length-set}
 use Rattle.std.proofs.lemmas.List.Elements.{All-drop, All-replicate}
-use Rattle.fc_parts.proofs.CarriedLemmas.{carried-IsWellFormed}
-use Rattle.fc_parts.proofs.PassageLemmas.{same_passage}
-use Rattle.fc_parts.specs.{Board, carried, Game, IsPassage, IsWellFormed, Passage}
-use Rattle.fc_print.specs.{text_of}
+use Rattle.fc_board.proofs.CarriedLemmas.{carried-IsWellFormed}
+use Rattle.fc_board.proofs.PassageLemmas.{same_passage}
+use Rattle.fc_board.specs.{Boards.{Board, IsWellFormed}, Games.{Game}}
+use Rattle.fc_board.specs.Passages.{carried, IsPassage, Passage}
+use Rattle.fc_text.specs.Printed.{text_of}
 use Rattle.fc_canon.proofs.CanonicalLemmas.{Equivalent-from_canonical}
 use Rattle.fc_canon.proofs.LeastTextLemmas.{chosen-same}
 use Rattle.fc_canon.specs.{Canonical, Chosen, Equivalent}

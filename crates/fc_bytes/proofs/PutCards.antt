@@ -8,8 +8,8 @@ use Rattle.std.proofs.lemmas.List.{append-nil, drop-drop, drop-set-lt, length-ma
 use Rattle.std.proofs.lemmas.List.Folds.{length-flat_map-take}
 use Rattle.std.specs.List.{flat_map}
 use Rattle.std.specs.Option.{option_to_list}
-use Rattle.fc_parts.proofs.BoardLemmas.{length-cards_in_play}
-use Rattle.fc_parts.specs.{Board, Game, IsWellFormed}
+use Rattle.fc_board.proofs.BoardLemmas.{length-cards_in_play}
+use Rattle.fc_board.specs.{Boards.{Board, IsWellFormed}, Games.{Game}}
 use Rattle.fc_bytes.specs.{padded}
 use Rattle.fc_bytes.specs.inside.{card_byte}
 

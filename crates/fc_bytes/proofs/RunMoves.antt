@@ -7,10 +7,11 @@ use Rattle.std.proofs.lemmas.List.Elements.{All-append, All-cons, All-contains, 
 use Rattle.std.proofs.lemmas.List.{length-map, map-append}
 use Rattle.std.specs.{List.{Contains, filter, flat_map}, Option.{is_none}}
 use Rattle.{fc_bytes.specs.declared.runs.RunBytes.{RunBytes}, fc_card.specs.{places}}
-use Rattle.fc_parts.{proofs.RunStepLemmas.{not_refused_exactly}, specs.{Board, column_at, fault_or}}
-use Rattle.fc_parts.specs.{Game, last_card, longest_run, onto, run_refusal, RunFits}
-use Rattle.fc_parts.specs.declared.fault.StepFault.{StepFault, TheVariants.{SamePile}}
-use Rattle.fc_parts.specs.declared.run_move.RunMove.{RunMove, TheVariants.{Run}}
+use Rattle.fc_board.{proofs.RunStepLemmas.{not_refused_exactly}, specs.Boards.{Board}}
+use Rattle.fc_board.specs.{Games.{Game}, Moves.{RunFits}}
+use Rattle.fc_board.specs.Steps.{column_at, fault_or, last_card, longest_run, onto, run_refusal}
+use Rattle.fc_board.specs.declared.fault.StepFault.{StepFault, TheVariants.{SamePile}}
+use Rattle.fc_board.specs.declared.run_move.RunMove.{RunMove, TheVariants.{Run}}
 use Rattle.fc_bytes.proofs.ChildrenLemmas.{listed_more, none_of, none_pass, passed_more}
 use Rattle.fc_bytes.proofs.ChildrenLemmas.{source_more, tried_more}
 use Rattle.fc_bytes.proofs.LegalMoves.{sourced_all, tried_all}

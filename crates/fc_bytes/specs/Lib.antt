@@ -4,24 +4,27 @@ use Rattle.std.specs.{Int.{to_le_bytes, w64}, List.{Contains, filter, flat_map}}
 use Rattle.std.specs.{Option.{is_none, unwrap_or}, Prelude.{◌++◌, ◌+◌, ◌-◌, ◌<◌, ◌↔◌, ◌∷◌, ◌≡◌}}
 use Rattle.std.specs.Prelude.{◌≤◌, [], drop, if◌then◌else◌, length, List, map, nat_lt, None, Option}
 use Rattle.std.specs.Prelude.{replicate, slice_get, slice_index, slice_index_or, Some, ℕ}
-use Rattle.{fc_card.specs.{places}, fc_text.specs.{first_fault, Spells}}
-use Rattle.fc_parts.specs.{AscendByWord, Board, capacity, carried, Carries, Expands, expansion_of}
-use Rattle.fc_parts.specs.{Fits, Game, inverse_passage, IsPassage, IsWellFormed, move_between}
-use Rattle.fc_parts.specs.{Passage, passage_product, refusal, run_refusal, RunFits, Step}
-use Rattle.fc_parts.specs.declared.{
+use Rattle.{fc_canon.specs.{Chosen, chosen_passage, Equivalent, IsSymmetry}, fc_card.specs.{places}}
+use Rattle.fc_board.specs.{Boards.{Board, IsWellFormed}, Games.{AscendByWord, Game}}
+use Rattle.fc_board.specs.{Moves.{Fits, move_between, RunFits}, Passages.{carried, Carries}}
+use Rattle.fc_board.specs.Passages.{inverse_passage, IsPassage, Passage, passage_product}
+use Rattle.fc_board.specs.Play.{Expands, expansion_of}
+use Rattle.fc_board.specs.Steps.{capacity, refusal, run_refusal, Step}
+use Rattle.fc_board.specs.declared.{
   fault.StepFault.{StepFault, TheVariants.{EmptySource, KingsOnly, NoRun, NotBuilding, NotNext}},
   fault.StepFault.TheVariants.{OverCapacity, SamePile, TargetTaken, WrongCount},
   moves.{Move.{Move}, Place.{Place, TheVariants.{Cell as ToCell, Column as ToColumn, Home}}},
   moves.Source.{Source, TheVariants.{Cell as FromCell, Column as FromColumn}},
   run_move.RunMove.{RunMove, TheVariants.{One, Run}},
 }
-use Rattle.fc_print.specs.{column_digits, source_character, target_character, text_of}
+use Rattle.fc_text.specs.Faults.{first_fault}
+use Rattle.fc_text.specs.Notation.{column_digits, source_character, target_character}
+use Rattle.fc_text.specs.{Printed.{text_of}, Spelling.{Spells}}
 use Rattle.fc_text.specs.declared.fault.{BoardFault.{BoardFault}, BoardFaultKind.{BoardFaultKind}}
 use Rattle.fc_text.specs.declared.fault.BoardFaultKind.TheVariants.{BadCard, BadFoundation}
 use Rattle.fc_text.specs.declared.fault.BoardFaultKind.TheVariants.{MissingCard, RepeatedCard}
 use Rattle.fc_text.specs.declared.fault.BoardFaultKind.TheVariants.{RepeatedLine, TooManyCells}
 use Rattle.fc_text.specs.declared.fault.BoardFaultKind.TheVariants.{TooManyColumns}
-use Rattle.fc_canon.specs.{Chosen, chosen_passage, Equivalent, IsSymmetry}
 use Rattle.fc_bytes.specs.declared.{board.BoardBytes.{BoardBytes}, moves.MoveBytes.{MoveBytes}}
 use Rattle.fc_bytes.specs.declared.{passage.PassageBytes.{PassageBytes}, runs.RunBytes.{RunBytes}}
 use Rattle.std.specs.Hash.DefaultHasher as sip

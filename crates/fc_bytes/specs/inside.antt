@@ -2,10 +2,10 @@
 use Rattle.std.specs.{List.{sum}, Option.{unwrap_or}, Prelude.{◌+◌, ◌-◌, ◌<◌, ◌==◌, ◌↔◌, ◌∷◌, ◌≤◌}}
 use Rattle.std.specs.Prelude.{[], All, drop, if◌then◌else◌, length, List, map, min, nat_le, nat_lt}
 use Rattle.std.specs.Prelude.{None, Option, slice_index, Some, take, ℕ}
-use Rattle.fc_parts.specs.{Board, move_between}
-use Rattle.fc_parts.specs.declared.moves.Place.{Place, TheVariants.{Column as ToColumn}}
-use Rattle.fc_parts.specs.declared.moves.Source.{Source, TheVariants.{Column as FromColumn}}
-use Rattle.fc_parts.specs.declared.run_move.RunMove.{RunMove, TheVariants.{One, Run}}
+use Rattle.fc_board.specs.{Boards.{Board}, Moves.{move_between}}
+use Rattle.fc_board.specs.declared.moves.Place.{Place, TheVariants.{Column as ToColumn}}
+use Rattle.fc_board.specs.declared.moves.Source.{Source, TheVariants.{Column as FromColumn}}
+use Rattle.fc_board.specs.declared.run_move.RunMove.{RunMove, TheVariants.{One, Run}}
 use Rattle.fc_bytes.specs.declared.board.BoardBytes.{BoardBytes}
 
 -- the byte of a card

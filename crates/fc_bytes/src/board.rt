@@ -3,8 +3,8 @@ ghost use Rattle.std.specs.{List.{flat_map, sum}, Prelude.{◌*◌, ◌++◌, �
 ghost use Rattle.std.specs.Prelude.{All, drop, IfSome, IsNone, IsTrue, length, List, map, min};
 ghost use Rattle.std.specs.Prelude.{SomeIff, take, ℕ};
 ghost use Rattle.fc_card.specs.{places};
-ghost use Rattle.fc_parts.specs.{Board as Layout, cell_at, column_at, height_of, inside.{AscendTo}};
-ghost use Rattle.fc_parts.specs.{IsHeight, IsWellFormed};
+ghost use Rattle.fc_board.specs.Boards.{Board as Layout, IsHeight, IsWellFormed};
+ghost use Rattle.fc_board.specs.{inside.{AscendTo}, Steps.{cell_at, column_at, height_of}};
 ghost use Rattle.fc_bytes.specs.{cell_byte, HoldsBoard, inside.{AreLaid, card_byte, card_decoded}};
 ghost use Rattle.fc_bytes.specs.{inside.{cell_decoded, ends_decoded, IsExact}, padded};
 

@@ -1,7 +1,7 @@
 //! The bytes of boards that passages lead to, without a board of their own.
 ghost use Rattle.std.specs.{List.{flat_map}, Prelude.{◌<◌, ◌≡◌, ◌≤◌, All, length, map}};
 ghost use Rattle.fc_card.specs.{IsCode, pick, places};
-ghost use Rattle.fc_parts.specs.{carried, column_at, IsWellFormed};
+ghost use Rattle.fc_board.specs.{Boards.{IsWellFormed}, Passages.{carried}, Steps.{column_at}};
 ghost use Rattle.fc_bytes.specs.{cell_byte, HoldsBoard, inside.{card_byte}, padded};
 
 use crate::BoardBytes;

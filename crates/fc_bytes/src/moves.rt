@@ -1,6 +1,6 @@
 //! Moves in two bytes.
-ghost use Rattle.{fc_parts.specs.{Fits}, std.specs.Prelude.{IfSome, IsNone}};
-ghost use Rattle.{fc_bytes.specs.{HoldsMove}, fc_parts.specs.declared.moves.Move.{Move as OneCard}};
+ghost use Rattle.{fc_board.specs.Moves.{Fits}, std.specs.Prelude.{IfSome, IsNone}};
+ghost use Rattle.{fc_board.specs.declared.moves.Move.{Move as OneCard}, fc_bytes.specs.{HoldsMove}};
 
 use fc_board::{Move, Rule};
 use fc_text::{source_character, source_named, target_character, target_named};

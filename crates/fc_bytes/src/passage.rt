@@ -2,7 +2,8 @@
 ghost use Rattle.std.specs.Prelude.{◌<◌, ◌↔◌, ◌≡◌, ◌≤◌, All, IfSome, IsNone, IsTrue, length, map};
 ghost use Rattle.std.specs.Prelude.{SomeIff};
 ghost use Rattle.fc_card.specs.{IsOrder, IsRenaming, suit_number};
-ghost use Rattle.{fc_bytes.specs.{HoldsPassage, padded}, fc_parts.specs.{Passage as Parts}};
+ghost use Rattle.fc_board.specs.Passages.{Passage as Parts};
+ghost use Rattle.fc_bytes.specs.{HoldsPassage, padded};
 
 use crate::board::are_zero;
 use arrayvec::ArrayVec;

@@ -1,6 +1,6 @@
 //! Moves of several cards in three bytes.
 ghost use Rattle.std.specs.Prelude.{◌≡◌, IfSome, IsNone};
-ghost use Rattle.fc_parts.specs.{declared.run_move.RunMove.{RunMove as Run}, RunFits};
+ghost use Rattle.fc_board.specs.{declared.run_move.RunMove.{RunMove as Run}, Moves.{RunFits}};
 ghost use Rattle.fc_bytes.specs.{HoldsRun, inside.{count_decoded, run_decoded}};
 
 use fc_board::{Move, Place, Rule, RunMove, Source};

@@ -1,179 +1,349 @@
--- What was printed part by part is what is printed for a group.
+-- What one more member makes of the groups, and of what is kept of them.
 use Rattle.indexmap.specs.IndexSet.{insert_key}
-use Rattle.std.proofs.Common.{◌&&◌, ◌++◌, ◌||◌, ◌↔◌, ◌∙◌, ◌∷◌, ◌≡◌, [], All, ap, append-nil}
-use Rattle.std.proofs.Common.{append_assoc, ap₂, arith, Bool, codes, cond, Contains, decimal, false}
-use Rattle.std.proofs.Common.{filter, flat_map, length, List, map, not, refl, subst, sym, take}
-use Rattle.std.proofs.Common.{true, true≢false, ℕ}
-use Rattle.std.proofs.Math.Seq.{take-append_seam}
-use Rattle.std.proofs.lemmas.List.Folds.{list_any_at}
-use Rattle.std.proofs.lemmas.Slice.Eq.{bytes_eq-Decides}
-use Rattle.std.specs.List.{join_with_byte, list_any}
-use Rattle.fc_parts.specs.{Board, game_of, IsWellFormed, renamings_of}
-use Rattle.fc_parts.specs.laws.RenamingTests.{bakers_game_laws, eight_off_laws, freecell_laws}
-use Rattle.fc_parts.specs.declared.rule.Variant.{Variant}
-use Rattle.fc_parts.specs.declared.rule.Variant.TheVariants.{BakersGame, EightOff, FreeCell}
-use Rattle.fc_print.specs.{blank, line_feed}
-use Rattle.fc_canon.proofs.LeastTextLemmas.{one_least_text_where_equivalent}
-use Rattle.fc_canon.specs.{Equivalent, least_text}
-use Rattle.fc_record.specs.{Contents, header_text, Heading, show_lines, variant_word}
-use Rattle.fc_engine.specs.{belong_together, canonical_text, group_lines, leaders_after, Member}
-use Rattle.fc_engine.specs.{name_of_member, unique_lines}
-use Rattle.fc_engine.specs.inside.{member_of}
-use Rattle.fc_groups.proofs.GroupLemmas.{Apart, has_one, keys-has_one, keys-more, leaders-Apart}
-use Rattle.fc_groups.proofs.GroupLemmas.{leaders-cover, together}
-use Rattle.fc_groups.proofs.KeyedLemmas.{boards-more, leaders-All, one_text, one_variant}
-use Rattle.fc_groups.specs.inside.{group_key, HasBoard, same_key}
-use Rattle.fc_groups.specs.declared.groups.GroupKey.{GroupKey}
-use Rattle.fc_collect.specs.inside.{AreNames, KeepsNames, name_word}
-use Rattle.fc_collect.specs.declared.commands.names.GroupNames.{GroupNames}
+use Rattle.std.proofs.Common.{◌++◌, ◌+◌, ◌<◌, ◌||◌, ◌∙◌, ◌∷◌, ◌≡◌, [], All, ap, append-nil}
+use Rattle.std.proofs.Common.{append_assoc, ap₂, arith, Bool, cond, false, filter, get_or}
+use Rattle.std.proofs.Common.{if◌then◌else◌, length, List, map, None, not, one-add, refl, set}
+use Rattle.std.proofs.Common.{slice_get, Some, subst, subst₂, suc, sym, true, true≢false, unwrap_or}
+use Rattle.std.proofs.Common.{zero, ℕ}
+use Rattle.std.proofs.Math.Bool.{or-false}
+use Rattle.std.proofs.lemmas.List.{length-map, map-append}
+use Rattle.std.proofs.lemmas.List.Elements.{All-filter, All-head, All-nil, All-tail, All-weaker}
+use Rattle.std.proofs.lemmas.List.Elements.{filter-append, filter_passes}
+use Rattle.std.proofs.lemmas.List.Folds.{list_any-append}
+use Rattle.std.proofs.lemmas.List.Sums.{prefix_len-le-length}
+use Rattle.std.proofs.lemmas.Slice.Zip.{AllZip-long}
+use Rattle.std.specs.Cmp.{and_equiv, IsEquivalence}
+use Rattle.std.specs.Cmp.Lexicographic.{on_texts_equal}
+use Rattle.std.specs.List.{AllZip, list_any, position_or_len}
+use Rattle.fc_record.specs.Grammar.{variant_word}
+use Rattle.fc_collect.specs.Groups.{belong_together, canonical_text, groups_of, leaders_after}
+use Rattle.fc_collect.specs.Groups.{Member}
+use Rattle.fc_collect.proofs.KeyedLemmas.{boards-more, leaders-All, one_key, same-together}
+use Rattle.fc_collect.specs.inside.{Gathers, group_key, HasBoard, IsPlaceAmong, same_key}
+use Rattle.fc_collect.specs.declared.groups.Gathered.{Gathered}
+use Rattle.fc_collect.specs.declared.groups.GroupKey.{GroupKey}
 
-seven_parts : (old a b c d e f new header mark count colon names end text : List ℕ) → a ≡ old ++ header → b ≡ a ++ mark → c ≡ b ++ count → d ≡ c ++ colon
-    → e ≡ d ++ names → f ≡ e ++ end → new ≡ f ++ text → new ≡ old ++ (header ++ ((mark ++ (count ++ (colon ++ (names ++ end)))) ++ text))
-seven_parts old a b c d e f new header mark count colon names end text one two three four five six seven =
-    seven ∙ ap (λ front. front ++ text) (six ∙ ap (λ front. front ++ end) (five ∙ ap (λ front. front ++ names) (four ∙ ap (λ front. front ++ colon)
-    (three ∙ ap (λ front. front ++ count) (two ∙ ap (λ front. front ++ mark) one)))))
-    ∙ simp append_assoc
+-- ---- one more in a group
 
-as_defined : (old header mark count colon names end text : List ℕ)
-    → old ++ (header ++ ((mark ++ (count ++ (colon ++ (names ++ end)))) ++ text)) ≡ old ++ (header ++ (mark ++ count ++ colon ++ names ++ end) ++ text)
-as_defined old header mark count colon names end text = simp append_assoc
+-- the groups with one more member: in the group at this place, or in a new one after the last
+abbrev pub joined : {X : Type 0} → List (List X) → ℕ → X → List (List X)
+joined [] place member = (member ∷ []) ∷ []
+joined (group ∷ groups) zero member = (group ++ member ∷ []) ∷ groups
+joined (group ∷ groups) (suc place) member = group ∷ joined groups place member
 
-blank_between : (first : Member) (others : List Member)
-    → name_of_member first ++ flat_map name_word others ≡ join_with_byte blank (map name_of_member (first ∷ others))
-blank_between first [] = append-nil (name_of_member first)
-blank_between first (next ∷ others) = ap (λ rest. name_of_member first ++ blank ∷ rest) (blank_between next others)
+module _ {K X : Type 0} (keeps : K → List X → Type 0) where
+  -- what is kept of a group is kept of it with this member more
+  abbrev pub Gains : X → K → K → Type 0
+  Gains member old new = (members : List X) → keeps old members → keeps new (members ++ member ∷ [])
 
-first_name : (kept : GroupNames) (first : Member) (others : List Member) → AreNames kept first others → take kept.first_len kept.names.items ≡ name_of_member first
-first_name kept first others are =
-    (λ i. take (are.first_len i) (are.names i)) ∙ take-append_seam (name_of_member first) (flat_map name_word others)
+  -- after the others of its group
+  pub joined-there : (kept : List K) (groups : List (List X)) (place : ℕ) (d old new : K) (member : X) → place < length kept → AllZip keeps kept groups
+      → old ≡ get_or kept place d → Gains member old new → AllZip keeps (set kept place new) (joined groups place member)
+  joined-there [] groups place d old new member within all here gains = absurd (omega (arith, within))
+  joined-there (first ∷ kept) [] place d old new member within all here gains = absurd all
+  joined-there (first ∷ kept) (group ∷ groups) zero d old new member within all here gains =
+      (gains group (subst (λ k. keeps k group) (sym here) all.0), all.1)
+  joined-there (first ∷ kept) (group ∷ groups) (suc place) d old new member within all here gains =
+      (all.0, joined-there kept groups place d old new member (omega (arith, within)) all.1 here gains)
 
--- the lines for a group, by its key and the names of its members
-pub group-printed : (key : GroupKey) (kept : GroupNames) (members : List Member) (old a b c d e f new : List ℕ)
-    → KeepsNames kept members → All HasBoard members → All (λ member. group_key member ≡ key) members
-    → a ≡ old ++ header_text key.variant (take kept.first_len kept.names.items) → b ≡ a ++ codes "# members " → c ≡ b ++ decimal kept.count → d ≡ c ++ codes ": "
-    → e ≡ d ++ kept.names.items → f ≡ e ++ line_feed ∷ [] → ((member : Member) → HasBoard member → group_key member ≡ key → new ≡ f ++ canonical_text member) → new ≡ old ++ group_lines members
-group-printed key kept [] old a b c d e f new keeps boards keyed one two three four five six printed = absurd keeps
-group-printed key kept (member ∷ members) old a b c d e f new keeps boards keyed one two three four five six printed =
-    let own : group_key member ≡ key = keyed 0 member (omega arith) in
-    let seven = printed member (boards 0 member (omega arith)) own in
-    let called = first_name kept member members keeps in
-    let listed = keeps.names ∙ blank_between member members in
-    let counted : kept.count ≡ length (member ∷ members) = omega (arith, keeps.count) in
-    seven_parts old a b c d e f new _ _ _ _ _ _ _ one two three four five six seven
-    ∙ (λ i. old ++ (header_text (sym own i).variant (called i) ++ ((codes "# members " ++ (decimal (counted i) ++ (codes ": " ++ (listed i ++ line_feed ∷ [])))) ++ canonical_text member)))
-    ∙ as_defined old (header_text member.heading.variant (name_of_member member)) (codes "# members ") (decimal (length (member ∷ members))) (codes ": ")
-    (join_with_byte blank (map name_of_member (member ∷ members))) (line_feed ∷ []) (canonical_text member)
+  -- in a new group
+  pub joined-last : (kept : List K) (groups : List (List X)) (place : ℕ) (new : K) (member : X) → place ≡ length kept → AllZip keeps kept groups
+      → keeps new (member ∷ []) → AllZip keeps (kept ++ new ∷ []) (joined groups place member)
+  joined-last [] [] place new member last all begun = (begun, tt)
+  joined-last [] (group ∷ groups) place new member last all begun = absurd all
+  joined-last (first ∷ kept) [] place new member last all begun = absurd all
+  joined-last (first ∷ kept) (group ∷ groups) zero new member last all begun = absurd (omega (arith, last))
+  joined-last (first ∷ kept) (group ∷ groups) (suc place) new member last all begun =
+      (all.0, joined-last kept groups place new member (omega (arith, last)) all.1 begun)
 
--- ---- members belong together exactly where their boards are equivalent, and each has one leader
-one_least : (variant : Variant) (board other : Board) → IsWellFormed (game_of variant) board → IsWellFormed (game_of variant) other
-    → Equivalent (game_of variant) board other ↔ (least_text (renamings_of variant) board ≡ least_text (renamings_of variant) other)
-one_least FreeCell = one_least_text_where_equivalent freecell_laws
-one_least BakersGame = one_least_text_where_equivalent bakers_game_laws
-one_least EightOff = one_least_text_where_equivalent eight_off_laws
+-- ---- members that belong together
 
--- the canonical text of the other in the variant of the first
-text-in : (member other : Member) → member.heading.variant ≡ other.heading.variant → least_text (renamings_of member.heading.variant) other.contents.board ≡ canonical_text other
-text-in member other same = ap (λ variant. least_text (renamings_of variant) other.contents.board) same
+or-true : (b : Bool) → (b || true) ≡ true
+or-true true = refl
+or-true false = refl
 
-pub together-Equivalent : (member other : Member) → IsWellFormed (game_of member.heading.variant) member.contents.board
-    → IsWellFormed (game_of other.heading.variant) other.contents.board
-    → (belong_together member other ≡ true)
-    ↔ ((member.heading.variant ≡ other.heading.variant) × Equivalent (game_of member.heading.variant) member.contents.board other.contents.board)
-together-Equivalent member other well other_well = (ahead, back)
+or_regroup : (a b c : Bool) → ((a || (b || false)) || c) ≡ (a || (b || c))
+or_regroup true b c = refl
+or_regroup false b c = ap (λ d. d || c) (or-false b)
+
+pub together : IsEquivalence belong_together
+together = and_equiv (on_texts_equal (λ member. variant_word member.heading.variant)) (on_texts_equal canonical_text)
+
+-- one of them belongs together with this member
+abbrev pub has_one : Member → List Member → Bool
+has_one member members = list_any (λ other. belong_together other member) members
+
+-- a member finds what another finds that it belongs to
+pub has_one-same : (first next : Member) (members : List Member) → belong_together first next ≡ true → has_one next members ≡ has_one first members
+has_one-same first next [] e = refl
+has_one-same first next (member ∷ members) e =
+    ap₂ (λ b c. b || c) (together.symm member next ∙ sym (together.congr first next member e) ∙ together.symm first member) (has_one-same first next members e)
+
+pub has_one-append : (member : Member) (xs ys : List Member) → has_one member (xs ++ ys) ≡ (has_one member xs || has_one member ys)
+has_one-append member xs ys = list_any-append (λ other. belong_together other member) xs ys
+
+-- the groups that a member does not belong to get nothing
+pub has_none : (member : Member) (members : List Member) → has_one member members ≡ false → filter (belong_together member) members ≡ []
+has_none member [] none = refl
+has_none member (other ∷ others) none = by (belong_together other member) refl none (has_none member others)
   where
-    texts : member.heading.variant ≡ other.heading.variant
-        → Equivalent (game_of member.heading.variant) member.contents.board other.contents.board
-        ↔ (least_text (renamings_of member.heading.variant) member.contents.board ≡ least_text (renamings_of member.heading.variant) other.contents.board)
-    texts same = one_least member.heading.variant member.contents.board other.contents.board well
-        (subst (λ variant. IsWellFormed (game_of variant) other.contents.board) (sym same) other_well)
+    by : (b : Bool) → belong_together other member ≡ b → (b || has_one member others) ≡ false → (has_one member others ≡ false → filter (belong_together member) others ≡ [])
+        → filter (belong_together member) (other ∷ others) ≡ []
+    by true e none on = absurd (true≢false none)
+    by false e none on = ap (λ b. cond b (other ∷ filter (belong_together member) others) (filter (belong_together member) others)) (together.symm member other ∙ e) ∙ on none
 
-    ahead : belong_together member other ≡ true
-        → (member.heading.variant ≡ other.heading.variant) × Equivalent (game_of member.heading.variant) member.contents.board other.contents.board
-    ahead e =
-        let same = sym (one_variant member other e) in
-        (same, (texts same).1 (one_text member other e ∙ sym (text-in member other same)))
+-- ---- leaders
 
-    back : (member.heading.variant ≡ other.heading.variant) × Equivalent (game_of member.heading.variant) member.contents.board other.contents.board
-        → belong_together member other ≡ true
-    back pair = ap₂ (λ a b. a && b) ((bytes_eq-Decides _ _).1 (ap variant_word pair.0))
-        ((bytes_eq-Decides _ _).1 ((texts pair.0).0 pair.1 ∙ text-in member other pair.0))
-
--- ---- one leader
-
-pub has_one-Contains : (members : List Member) (member : Member) → Contains members member → has_one member members ≡ true
-has_one-Contains members member there =
-    list_any_at (λ other. belong_together other member) members there.0 member there.1 (ap (λ other. belong_together other member) there.2 ∙ together.refl member)
-
-no_leader : (member : Member) (leaders : List Member) → has_one member leaders ≡ false → filter (λ leader. belong_together leader member) leaders ≡ []
-no_leader member [] none = refl
-no_leader member (leader ∷ leaders) none = by (belong_together leader member) none (no_leader member leaders)
-  where
-    by : (b : Bool) → (b || has_one member leaders) ≡ false → (has_one member leaders ≡ false → filter (λ leader. belong_together leader member) leaders ≡ [])
-        → cond b (leader ∷ filter (λ leader. belong_together leader member) leaders) (filter (λ leader. belong_together leader member) leaders) ≡ []
-    by true none on = absurd (true≢false none)
-    by false none on = on none
-
--- who belongs to a leader finds whom the leader finds
-found_alike : (leader member : Member) (others : List Member) → belong_together leader member ≡ true → has_one member others ≡ list_any (belong_together leader) others
-found_alike leader member [] e = refl
-found_alike leader member (other ∷ others) e =
-    ap₂ (λ a b. a || b) (together.symm other member ∙ sym (together.congr leader member other e)) (found_alike leader member others e)
-
-pub one_apart : (member : Member) (leaders : List Member) → Apart leaders → has_one member leaders ≡ true → length (filter (λ leader. belong_together leader member) leaders) ≡ 1
-one_apart member [] apart there = absurd (true≢false (sym there))
-one_apart member (leader ∷ leaders) apart there = by (belong_together leader member) refl there (one_apart member leaders apart.1)
+-- a last member leads if none before it belongs to it
+pub leaders-more : (member : Member) (earlier members : List Member)
+    → leaders_after earlier (members ++ member ∷ []) ≡ leaders_after earlier members ++ (if has_one member (earlier ++ members) then [] else member ∷ [])
+leaders-more member earlier [] = ap (λ others. if has_one member others then [] else member ∷ []) (sym (append-nil earlier))
+leaders-more member earlier (first ∷ members) = by (has_one first earlier) (leaders-more member (earlier ++ first ∷ []) members)
   where
     rest : List Member
-    rest = filter (λ leader. belong_together leader member) leaders
+    rest = leaders_after (earlier ++ first ∷ []) members
 
-    by : (b : Bool) → belong_together leader member ≡ b → (b || has_one member leaders) ≡ true → (has_one member leaders ≡ true → length rest ≡ 1) → length (cond b (leader ∷ rest) rest) ≡ 1
-    by true e there on = ap (λ others. length (leader ∷ others)) (no_leader member leaders (found_alike leader member leaders e ∙ apart.0))
-    by false e there on = on there
+    last : List Member → List Member
+    last others = if has_one member others then [] else member ∷ []
 
-pub one_leader : (members : List Member) (member : Member) → Contains members member
-    → length (filter (λ leader. belong_together leader member) (leaders_after [] members)) ≡ 1
-one_leader members member there =
-    one_apart member (leaders_after [] members) (leaders-Apart [] members) (sym (leaders-cover member [] members) ∙ has_one-Contains members member there)
+    more : List Member
+    more = leaders_after (earlier ++ first ∷ []) (members ++ member ∷ [])
+
+    by : (b : Bool) → more ≡ rest ++ last ((earlier ++ first ∷ []) ++ members)
+        → (if b then more else first ∷ more) ≡ (if b then rest else first ∷ rest) ++ last (earlier ++ first ∷ members)
+    by true on = on ∙ ap (λ others. rest ++ last others) (append_assoc earlier (first ∷ []) members)
+    by false on = ap (λ others. first ∷ others) (on ∙ ap (λ others. rest ++ last others) (append_assoc earlier (first ∷ []) members))
+
+-- whom a member belongs to, their leader it belongs to
+pub leaders-cover : (member : Member) (earlier members : List Member)
+    → has_one member (earlier ++ members) ≡ (has_one member earlier || has_one member (leaders_after earlier members))
+leaders-cover member earlier [] = has_one-append member earlier []
+leaders-cover member earlier (first ∷ members) =
+    ap (has_one member) (sym (append_assoc earlier (first ∷ []) members)) ∙ leaders-cover member (earlier ++ first ∷ []) members
+    ∙ ap (λ b. b || has_one member rest) (has_one-append member earlier (first ∷ [])) ∙ by (has_one first earlier) refl
+  where
+    rest : List Member
+    rest = leaders_after (earlier ++ first ∷ []) members
+
+    led : (b : Bool) → belong_together first member ≡ b → has_one first earlier ≡ true → (has_one member earlier || (b || false)) ≡ has_one member earlier
+    led true e there = or-true (has_one member earlier) ∙ sym (has_one-same first member earlier e ∙ there)
+    led false e there = or-false (has_one member earlier)
+
+    by : (b : Bool) → has_one first earlier ≡ b → ((has_one member earlier || (belong_together first member || false)) || has_one member rest)
+        ≡ (has_one member earlier || has_one member (if b then rest else first ∷ rest))
+    by true there = ap (λ b. b || has_one member rest) (led (belong_together first member) refl there)
+    by false none = or_regroup (has_one member earlier) (belong_together first member) (has_one member rest)
+
+-- a leader after these belongs together with none of them
+pub leaders-new : (old : Member) (earlier members : List Member) → ((member : Member) → belong_together old member ≡ true → has_one member earlier ≡ true)
+    → list_any (belong_together old) (leaders_after earlier members) ≡ false
+leaders-new old earlier [] found = refl
+leaders-new old earlier (first ∷ members) found = by (has_one first earlier) refl
+    (leaders-new old (earlier ++ first ∷ []) members (λ member e. has_one-append member earlier (first ∷ []) ∙ ap (λ b. b || has_one member (first ∷ [])) (found member e)))
+  where
+    rest : List Member
+    rest = leaders_after (earlier ++ first ∷ []) members
+
+    apart : (b : Bool) → belong_together old first ≡ b → has_one first earlier ≡ false → b ≡ false
+    apart true e none = absurd (true≢false (sym (found first e) ∙ none))
+    apart false e none = refl
+
+    by : (b : Bool) → has_one first earlier ≡ b → list_any (belong_together old) rest ≡ false → list_any (belong_together old) (if b then rest else first ∷ rest) ≡ false
+    by true there on = on
+    by false none on = ap (λ b. b || list_any (belong_together old) rest) (apart (belong_together old first) refl none) ∙ on
+
+-- no two of them belong together
+abbrev pub Apart : List Member → Type 0
+Apart [] = Unit {0}
+Apart (member ∷ members) = (list_any (belong_together member) members ≡ false) × Apart members
+
+pub leaders-Apart : (earlier members : List Member) → Apart (leaders_after earlier members)
+leaders-Apart earlier [] = tt
+leaders-Apart earlier (first ∷ members) = by (has_one first earlier) (leaders-Apart (earlier ++ first ∷ []) members)
+  where
+    rest : List Member
+    rest = leaders_after (earlier ++ first ∷ []) members
+
+    last : (member : Member) → belong_together first member ≡ true → has_one member (earlier ++ first ∷ []) ≡ true
+    last member e = has_one-append member earlier (first ∷ []) ∙ ap (λ b. has_one member earlier || (b || false)) e ∙ or-true (has_one member earlier)
+
+    by : (b : Bool) → Apart rest → Apart (if b then rest else first ∷ rest)
+    by true on = on
+    by false on = (leaders-new first (earlier ++ first ∷ []) members last, on)
+
+-- ---- groups
+
+-- what a leader's group gets by one more member
+abbrev gained : Member → Member → List Member
+gained member leader = cond (belong_together leader member) (member ∷ []) []
+
+-- those that are apart from the leader that the member belongs to get nothing
+others-same : (f : Member → List Member) (first member : Member) (leaders : List Member) → belong_together first member ≡ true
+    → list_any (belong_together first) leaders ≡ false → map (λ leader. f leader ++ gained member leader) leaders ≡ map f leaders
+others-same f first member [] e none = refl
+others-same f first member (leader ∷ leaders) e none = by (belong_together first leader) refl none (others-same f first member leaders e)
+  where
+    by : (b : Bool) → belong_together first leader ≡ b → (b || list_any (belong_together first) leaders) ≡ false
+        → (list_any (belong_together first) leaders ≡ false → map (λ leader. f leader ++ gained member leader) leaders ≡ map f leaders)
+        → map (λ leader. f leader ++ gained member leader) (leader ∷ leaders) ≡ map f (leader ∷ leaders)
+    by true apart none on = absurd (true≢false none)
+    by false apart none on =
+        let away = together.symm leader member ∙ sym (together.congr first member leader e) ∙ apart in
+        ap₂ (λ group groups. group ∷ groups) (ap (λ b. f leader ++ cond b (member ∷ []) []) away ∙ append-nil (f leader)) (on none)
+
+-- it joins the one group that it belongs to, or begins a last one
+joins : (f : Member → List Member) (member : Member) (leaders : List Member) → Apart leaders
+    → map (λ leader. f leader ++ gained member leader) leaders ++ (if has_one member leaders then [] else (member ∷ []) ∷ [])
+    ≡ joined (map f leaders) (position_or_len (λ leader. belong_together leader member) leaders) member
+joins f member [] apart = refl
+joins f member (leader ∷ leaders) apart = by (belong_together leader member) refl (joins f member leaders apart.1)
+  where
+    last : Bool → List (List Member)
+    last b = if b then [] else (member ∷ []) ∷ []
+
+    rest : ℕ
+    rest = position_or_len (λ leader. belong_together leader member) leaders
+
+    grown : List (List Member)
+    grown = map (λ leader. f leader ++ gained member leader) leaders
+
+    Says : Bool → Type 0
+    Says b = ((f leader ++ cond b (member ∷ []) []) ∷ grown) ++ last (b || has_one member leaders) ≡ joined (map f (leader ∷ leaders)) (cond (not b) (1 + rest) 0) member
+
+    by : (b : Bool) → belong_together leader member ≡ b → grown ++ last (has_one member leaders) ≡ joined (map f leaders) rest member → Says (belong_together leader member)
+    by true e on = subst Says (sym e) (append-nil _ ∙ ap (λ groups. (f leader ++ member ∷ []) ∷ groups) (others-same f leader member leaders e apart.0))
+    by false e on = subst Says (sym e) (ap₂ (λ group groups. group ∷ groups) (append-nil (f leader)) on
+        ∙ sym (ap (λ place. joined (map f (leader ∷ leaders)) place member) (one-add rest)))
+
+-- the groups with one more member
+pub groups-more : (member : Member) (members : List Member)
+    → groups_of (members ++ member ∷ []) ≡ joined (groups_of members) (position_or_len (λ leader. belong_together leader member) (leaders_after [] members)) member
+groups-more member members =
+    ap (map with_last) (leaders-more member [] members)
+    ∙ map-append with_last leaders _
+    ∙ ap₂ (λ groups more. groups ++ more) (λ i. map (λ leader. filter-append (belong_together leader) members (member ∷ []) i) leaders) (new (has_one member members) refl)
+    ∙ ap (λ b. map grown leaders ++ (if b then [] else (member ∷ []) ∷ [])) (leaders-cover member [] members)
+    ∙ joins (λ leader. filter (belong_together leader) members) member leaders (leaders-Apart [] members)
+  where
+    leaders : List Member
+    leaders = leaders_after [] members
+
+    with_last : Member → List Member
+    with_last leader = filter (belong_together leader) (members ++ member ∷ [])
+
+    grown : Member → List Member
+    grown leader = filter (belong_together leader) members ++ gained member leader
+
+    new : (b : Bool) → has_one member members ≡ b → map with_last (if b then [] else member ∷ []) ≡ (if b then [] else (member ∷ []) ∷ [])
+    new true there = refl
+    new false none = ap (λ group. group ∷ []) (filter-append (belong_together member) members (member ∷ [])
+        ∙ ap₂ (λ group b. group ++ cond b (member ∷ []) []) (has_none member members none) (together.refl member))
+
+-- ---- keys
+
+-- the keys of leaders find a member that belongs to one
+pub keys-has_one : (member : Member) (leaders : List Member) → HasBoard member → All HasBoard leaders
+    → list_any (same_key (group_key member)) (map group_key leaders) ≡ has_one member leaders
+keys-has_one member [] has all = refl
+keys-has_one member (leader ∷ leaders) has all =
+    ap₂ (λ b c. b || c) (same-together member leader has (All-head HasBoard leader leaders all) ∙ together.symm member leader) (keys-has_one member leaders has (All-tail HasBoard leader leaders all))
+
+keys-place : (member : Member) (leaders : List Member) → HasBoard member → All HasBoard leaders
+    → position_or_len (same_key (group_key member)) (map group_key leaders) ≡ position_or_len (λ leader. belong_together leader member) leaders
+keys-place member [] has all = refl
+keys-place member (leader ∷ leaders) has all =
+    ap₂ (λ b n. cond (not b) (1 + n) 0) (same-together member leader has (All-head HasBoard leader leaders all) ∙ together.symm member leader) (keys-place member leaders has (All-tail HasBoard leader leaders all))
+
+pub keys-more : (member : Member) (members : List Member) → HasBoard member → All HasBoard members
+    → map group_key (leaders_after [] (members ++ member ∷ [])) ≡ insert_key same_key (map group_key (leaders_after [] members)) (group_key member)
+keys-more member members has all =
+    ap (map group_key) (leaders-more member [] members) ∙ by (has_one member members)
+    ∙ ap (λ b. if b then keys else keys ++ group_key member ∷ []) (leaders-cover member [] members ∙ sym (keys-has_one member leaders has (leaders-All HasBoard [] members all)))
+  where
+    leaders : List Member
+    leaders = leaders_after [] members
+
+    keys : List GroupKey
+    keys = map group_key leaders
+
+    by : (b : Bool) → map group_key (leaders ++ (if b then [] else member ∷ [])) ≡ (if b then keys else keys ++ group_key member ∷ [])
+    by true = ap (map group_key) (append-nil leaders)
+    by false = map-append group_key leaders (member ∷ [])
 
 -- ---- what is kept
 
--- ---- which records `unique` prints, and what is read of them again
+-- there are as many keys as groups
+pub Gathers-length : {K : Type 0} (keeps : K → List Member → Type 0) (state : Gathered K) (members : List Member) → Gathers keeps state members
+    → (length state.groups.items ≡ length state.keys.keys) × (length (groups_of members) ≡ length state.groups.items)
+Gathers-length keeps state members gathers =
+    let all = AllZip-long keeps state.groups.items (groups_of members) gathers.groups in
+    let keys = ap length gathers.keys ∙ length-map (leaders_after [] members) group_key in
+    (sym all ∙ length-map (leaders_after [] members) (λ leader. filter (belong_together leader) members) ∙ sym keys, all)
 
--- the keys are those of the groups of these members, which have boards
-abbrev pub AreKeys : List GroupKey → List Member → Type 0
-AreKeys keys members = (keys ≡ map group_key (leaders_after [] members)) × All HasBoard members
+-- it grows by what is kept of one more member of the group with this key
+module _ {K : Type 0} (keeps : K → List Member → Type 0) (old new : Gathered K) (members : List Member) (member : Member) (key : GroupKey)
+    (own : key ≡ group_key member) (has : HasBoard member) (keyed : new.keys.keys ≡ insert_key same_key old.keys.keys key) (gathers : Gathers keeps old members) where
+  abbrev leaders : List Member
+  leaders = leaders_after [] members
 
--- they find a member that belongs to an earlier one
-found-before : (keys : List GroupKey) (key : GroupKey) (members : List Member) (member : Member) → HasBoard member → AreKeys keys members → key ≡ group_key member
-    → list_any (same_key key) keys ≡ has_one member members
-found-before keys key members member has kept own =
-    ap₂ (λ key keys. list_any (same_key key) keys) own kept.0 ∙ keys-has_one member (leaders_after [] members) has (leaders-All HasBoard [] members kept.1) ∙ sym (leaders-cover member [] members)
+  -- the place of the group
+  abbrev there : ℕ
+  there = position_or_len (λ leader. belong_together leader member) leaders
 
--- and with its key they are those of one member more
-pub AreKeys-more : (old new : List GroupKey) (key : GroupKey) (members : List Member) (member : Member) → HasBoard member → key ≡ group_key member → new ≡ insert_key same_key old key
-    → AreKeys old members → AreKeys new (members ++ member ∷ [])
-AreKeys-more old new key members member has own inserted kept = (
-  inserted ∙ ap₂ (λ keys key. insert_key same_key keys key) kept.0 own ∙ sym (keys-more member members has kept.1),
-  boards-more members member kept.1 has,
+  key-there : position_or_len (same_key key) old.keys.keys ≡ there
+  key-there =
+      ap (λ key. position_or_len (same_key key) old.keys.keys) own ∙ ap (position_or_len (same_key (group_key member))) gathers.keys
+      ∙ keys-place member leaders has (leaders-All HasBoard [] members gathers.boards)
+
+  Gathers-more : AllZip keeps new.groups.items (joined (groups_of members) there member) → Gathers keeps new (members ++ member ∷ [])
+  Gathers-more all = record {
+    boards = boards-more members member gathers.boards has;
+    keys = keyed ∙ ap₂ (insert_key same_key) gathers.keys own ∙ sym (keys-more member members has gathers.boards);
+    groups = subst (AllZip keeps new.groups.items) (sym (groups-more member members)) all;
+  }
+
+  -- of a group that is there
+  pub Gathers-joined : (place : ℕ) (before after : K) → IsPlaceAmong (length old.groups.items) (position_or_len (same_key key) old.keys.keys) (Some place)
+      → before ≡ get_or old.groups.items place before → new.groups.items ≡ set old.groups.items place after → Gains keeps member before after → Gathers keeps new (members ++ member ∷ [])
+  Gathers-joined place before after found here grouped gains =
+      Gathers-more (subst₂ (AllZip keeps) (sym grouped) (ap (λ n. joined (groups_of members) n member) (found.0 ∙ key-there))
+      (joined-there keeps old.groups.items (groups_of members) place before before after member found.1 gathers.groups here gains))
+
+  -- of a new group
+  pub Gathers-begun : (first : K) → IsPlaceAmong (length old.groups.items) (position_or_len (same_key key) old.keys.keys) None
+      → new.groups.items ≡ old.groups.items ++ first ∷ [] → keeps first (member ∷ []) → Gathers keeps new (members ++ member ∷ [])
+  Gathers-begun first found grouped begun =
+      let long = Gathers-length keeps old members gathers in
+      let few = prefix_len-le-length (λ other. not (same_key key other)) old.keys.keys in
+      Gathers-more (subst (λ items. AllZip keeps items (joined (groups_of members) there member)) (sym grouped)
+      (joined-last keeps old.groups.items (groups_of members) there first member (omega (arith, found, long.0, few, key-there)) gathers.groups begun))
+
+-- ---- a group and its key
+
+pub AllZip-at : {X Y : Type 0} (R : X → Y → Type 0) (xs : List X) (ys : List Y) (place : ℕ) (d : X) (e : Y) → AllZip R xs ys → place < length xs → R (get_or xs place d) (get_or ys place e)
+AllZip-at R [] ys place d e all within = absurd (omega (arith, within))
+AllZip-at R (x ∷ xs) [] place d e all within = absurd all
+AllZip-at R (x ∷ xs) (y ∷ ys) zero d e all within = all.0
+AllZip-at R (x ∷ xs) (y ∷ ys) (suc place) d e all within = AllZip-at R xs ys place d e all.1 (omega (arith, within))
+
+-- the members of the group at a place have the key there
+keyed-at : (members leaders : List Member) (place : ℕ) (key : GroupKey) → All HasBoard members → All HasBoard leaders → slice_get (map group_key leaders) place ≡ Some key
+    → All (λ member. HasBoard member × (group_key member ≡ key)) (get_or (map (λ leader. filter (belong_together leader) members) leaders) place [])
+keyed-at members [] place key boards led at = All-nil (λ member. HasBoard member × (group_key member ≡ key))
+keyed-at members (leader ∷ leaders) zero key boards led at =
+    let group = filter (belong_together leader) members in
+    let has = All-head HasBoard leader leaders led in
+    let kept = All-filter (belong_together leader) HasBoard members boards in
+    let passes = filter_passes (belong_together leader) members in
+    All-weaker (λ member. HasBoard member × (belong_together leader member ≡ true)) (λ member. HasBoard member × (group_key member ≡ key))
+    (λ member pair. (pair.0, one_key leader member has pair.0 pair.1 ∙ ap (λ found. unwrap_or found key) at)) group (λ i d h. (kept i d h, passes i d h))
+keyed-at members (leader ∷ leaders) (suc place) key boards led at = keyed-at members leaders place key boards (All-tail HasBoard leader leaders led) at
+
+-- what is kept at a place is kept of the members there, and they have the key there
+pub Gathers-at : {K : Type 0} (keeps : K → List Member → Type 0) (state : Gathered K) (members : List Member) (place : ℕ) (key : GroupKey) (d : K) → Gathers keeps state members
+    → place < length state.groups.items → Some key ≡ slice_get state.keys.keys place
+    → keeps (get_or state.groups.items place d) (get_or (groups_of members) place []) × All (λ member. HasBoard member × (group_key member ≡ key)) (get_or (groups_of members) place [])
+Gathers-at keeps state members place key d gathers within at = (
+  AllZip-at keeps state.groups.items (groups_of members) place d [] gathers.groups within,
+  keyed-at members (leaders_after [] members) place key gathers.boards (leaders-All HasBoard [] members gathers.boards) (sym (at ∙ ap (λ keys. slice_get keys place) gathers.keys)),
 )
-
-module _ (keys : List GroupKey) (key : GroupKey) (is_new : Bool) (members : List Member) (number : ℕ) (heading : Heading) (contents : Contents)
-    (has : HasBoard (member_of number heading contents)) (own : key ≡ group_key (member_of number heading contents)) (ensured : is_new ≡ not (list_any (same_key key) keys)) where
-  by_key : AreKeys keys members → is_new ≡ not (has_one (member_of number heading contents) members)
-  by_key kept = ensured ∙ ap not (found-before keys key members (member_of number heading contents) has kept own)
-
-  -- a member that belongs to an earlier one gets no lines
-  pub unique-none : AreKeys keys members → is_new ≡ false → unique_lines members number heading contents ≡ []
-  unique-none kept later = by_test (has_one (member_of number heading contents) members) (sym (by_key kept) ∙ later)
-    where
-      by_test : (b : Bool) → not b ≡ false → cond b [] (show_lines number heading contents) ≡ []
-      by_test true e = refl
-      by_test false e = absurd (true≢false e)
-
-  -- and any other those of `show`
-  pub unique-one : AreKeys keys members → is_new ≡ true → unique_lines members number heading contents ≡ show_lines number heading contents
-  unique-one kept first = by_test (has_one (member_of number heading contents) members) (sym (by_key kept) ∙ first)
-    where
-      by_test : (b : Bool) → not b ≡ true → cond b [] (show_lines number heading contents) ≡ show_lines number heading contents
-      by_test true e = absurd (true≢false (sym e))
-      by_test false e = refl

@@ -4,20 +4,19 @@ use Rattle.std.proofs.Common.{Option, refl, Result, subst, sym, ℕ}
 use Rattle.std.proofs.KnownBytes.{Appends-trans, Consumes-nil}
 use Rattle.std.specs.Io.KnownBytes.{Appends}
 use Rattle.std.specs.List.{flat_map}
-use Rattle.fc_record.specs.{RecordText}
-use Rattle.fc_run.specs.{AreCountable, GrowsBy, inner_of}
-use Rattle.fc_run.specs.declared.config.Limits.{Limits}
-use Rattle.fc_run.specs.declared.counted.Counted.{Counted}
-use Rattle.fc_run.specs.declared.outcome.RunFault.{RunFault}
-use Rattle.fc_run.specs.declared.outcome.RunFault.TheVariants.{Memory, Read, ReaderNeverEnds}
-use Rattle.fc_run.specs.declared.outcome.RunFault.TheVariants.{TooLarge, Write}
-use Rattle.fc_run.specs.declared.outcome.Summary.{Summary}
-use Rattle.fc_engine.proofs.PrintingLemmas.{outputs_alone}
-use Rattle.fc_engine.proofs.RunLemmas.{limits_none}
-use Rattle.fc_engine.specs.{Begins, outputs_after, ReadsAsCounted, records_from, ResultFits}
-use Rattle.fc_engine.specs.{Transfers, WritesAsCounted, WritesText}
-use Rattle.fc_engine.specs.inside.{output_counts}
-use Rattle.fc_collect.specs.{RunsWithin}
+use Rattle.fc_record.specs.RecordTexts.{RecordText}
+use Rattle.fc_collect.specs.{Limits.{AreCountable}, Promises.{Begins, ReadsAsCounted, ResultFits}}
+use Rattle.fc_collect.specs.Promises.{Transfers, WritesAsCounted, WritesText}
+use Rattle.fc_collect.specs.{Records.{outputs_after, records_from}, Runs.{RunsWithin}}
+use Rattle.fc_collect.specs.Streams.{GrowsBy, inner_of}
+use Rattle.fc_collect.specs.declared.streams.{counted.Counted.{Counted}, faults.RunFault.{RunFault}}
+use Rattle.fc_collect.specs.declared.streams.faults.RunFault.TheVariants.{Memory, Read}
+use Rattle.fc_collect.specs.declared.streams.faults.RunFault.TheVariants.{ReaderNeverEnds, TooLarge}
+use Rattle.fc_collect.specs.declared.streams.faults.RunFault.TheVariants.{Write}
+use Rattle.fc_collect.specs.declared.streams.{faults.Summary.{Summary}, limits.Limits.{Limits}}
+use Rattle.fc_collect.proofs.PrintingLemmas.{outputs_alone}
+use Rattle.fc_collect.proofs.RunLemmas.{limits_none}
+use Rattle.fc_collect.specs.inside.{output_counts}
 
 -- the header went out, and then the run
 pub Transfers-headed : (limits : Limits) (header : List ℕ) (output : List RecordText → List ℕ) (refuses : RecordText → Bool) (ending : List RecordText → List ℕ) (input left before middle after : Option (List ℕ)) (result : Result Summary RunFault)

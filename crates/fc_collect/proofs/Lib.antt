@@ -1,4 +1,14 @@
 pub mod GroupLemmas
+pub mod GroupNameLemmas
 pub mod HeadedLemmas
+pub mod KeyedLemmas
+pub mod LimitLemmas
+pub mod PrintingLemmas
+pub mod RecordLemmas
+pub mod RunLemmas
 pub mod SameLemmas
+pub mod ShareLemmas
 pub mod TallyLemmas
+pub mod WalkLemmas
+pub mod WindowLemmas
+pub mod WritingLemmas

@@ -2,18 +2,18 @@
 use Rattle.std.proofs.Common.{◌++◌, ◌↔◌, ◌∙◌, ◌∷◌, ◌≡◌, ◌≢◌, [], ap, append_assoc, ap₂, Bool, cond}
 use Rattle.std.proofs.Common.{false, IfSome, IsSome, List, None, Option, refl, Some, subst, sym}
 use Rattle.std.proofs.Common.{true, true≢false, ℕ}
-use Rattle.fc_parts.specs.{Board, Carries, Game, game_of, inverse_passage, IsWellFormed, Passage}
-use Rattle.fc_parts.specs.{passage_product, renamings_of}
-use Rattle.fc_parts.specs.declared.rule.Variant.{Variant}
+use Rattle.fc_board.specs.{Boards.{Board, IsWellFormed}, Games.{Game, game_of, renamings_of}}
+use Rattle.fc_board.specs.Passages.{Carries, inverse_passage, Passage, passage_product}
+use Rattle.fc_record.specs.{Grammar.{Contents, Heading}, Printing.{name_of}}
+use Rattle.fc_collect.specs.Groups.{belong_together, Member, passage_between, passage_of}
+use Rattle.fc_collect.specs.Runs.{passage_found, passage_to, same_lines}
+use Rattle.fc_board.specs.declared.rule.Variant.{Variant}
 use Rattle.fc_canon.proofs.LeastTextLemmas.{chosen-between}
 use Rattle.fc_canon.specs.{Chosen, chosen_passage, Equivalent}
-use Rattle.fc_record.specs.{Contents, Heading, name_of}
-use Rattle.fc_run.specs.declared.any_board.AnyBoard.{AnyBoard}
-use Rattle.fc_engine.specs.{belong_together, Member, passage_between, passage_of}
-use Rattle.fc_engine.specs.inside.{member_of}
-use Rattle.fc_groups.proofs.KeyedLemmas.{chosen, one_variant}
-use Rattle.fc_collect.proofs.GroupLemmas.{together-Equivalent}
-use Rattle.fc_collect.specs.{passage_found, passage_to, same_lines}
+use Rattle.fc_collect.specs.declared.groups.any_board.AnyBoard.{AnyBoard}
+use Rattle.fc_collect.specs.inside.{member_of}
+use Rattle.fc_collect.proofs.KeyedLemmas.{chosen, one_variant}
+use Rattle.fc_collect.proofs.GroupNameLemmas.{together-Equivalent}
 use Rattle.fc_collect.specs.inside.{IsBoardOf, KeepsFirst}
 
 -- members of two variants

@@ -9,18 +9,18 @@ use Rattle.std.proofs.lemmas.Grind.{flat_map-append}
 use Rattle.std.proofs.lemmas.List.{length-map}
 use Rattle.std.proofs.lemmas.List.Sums.{sum_by-cons}
 use Rattle.std.specs.List.{AllZip, count_by, find, flat_map, position_or_len}
-use Rattle.fc_groups.proofs.GroupLemmas.{Gains, Gathers-begun, Gathers-joined, Gathers-length}
-use Rattle.fc_groups.proofs.GroupLemmas.{has_one, leaders-more}
-use Rattle.fc_groups.proofs.ShareLemmas.{owner_among-more, owner_with}
-use Rattle.fc_parts.specs.declared.rule.Variant.{Variant}
-use Rattle.fc_record.specs.{Refused}
-use Rattle.fc_record.specs.{Accepted, is_refused, Reading, reading_of, RecordText, refuses}
-use Rattle.fc_run.specs.declared.outcome.Summary.{Summary}
-use Rattle.fc_engine.specs.{belong_together, figures, groups_of, if_accepted, leaders_after, Member}
-use Rattle.fc_engine.specs.{members_among, owner_among, solution_of, wins_of}
-use Rattle.fc_groups.specs.inside.{Gathers, group_key, HasBoard, IsPlaceAmong, same_key}
-use Rattle.fc_groups.specs.declared.groups.Gathered.{Gathered}
-use Rattle.fc_groups.specs.declared.groups.GroupKey.{GroupKey}
+use Rattle.fc_collect.proofs.GroupLemmas.{Gains, Gathers-begun, Gathers-joined, Gathers-length}
+use Rattle.fc_collect.proofs.GroupLemmas.{has_one, leaders-more}
+use Rattle.fc_collect.proofs.ShareLemmas.{owner_among-more, owner_with}
+use Rattle.fc_board.specs.declared.rule.Variant.{Variant}
+use Rattle.fc_record.specs.Grammar.{Accepted, Reading, reading_of, Refused}
+use Rattle.fc_record.specs.{Printing.{is_refused, refuses}, RecordTexts.{RecordText}}
+use Rattle.fc_collect.specs.Groups.{belong_together, figures, groups_of, if_accepted, leaders_after}
+use Rattle.fc_collect.specs.Groups.{Member, members_among, owner_among, solution_of, wins_of}
+use Rattle.fc_collect.specs.declared.streams.faults.Summary.{Summary}
+use Rattle.fc_collect.specs.inside.{Gathers, group_key, HasBoard, IsPlaceAmong, same_key}
+use Rattle.fc_collect.specs.declared.groups.Gathered.{Gathered}
+use Rattle.fc_collect.specs.declared.groups.GroupKey.{GroupKey}
 use Rattle.fc_collect.specs.inside.{figures_seen, KeepsSolved, KeepsTally}
 use Rattle.fc_collect.specs.declared.commands.count.Figures.{Figures}
 use Rattle.fc_collect.specs.declared.commands.count.Tally.{Tally}

@@ -1,14 +1,18 @@
 //! The runs of the commands over collections.
-ghost use Rattle.fc_run.specs.{AreCountable, HasRoom, standard};
-ghost use Rattle.fc_collect.specs.{RunsWithin, TransfersWithin};
+ghost use Rattle.std.specs.Prelude.{◌≡◌};
+ghost use Rattle.fc_collect.specs.Limits.{AreCountable, standard};
+ghost use Rattle.fc_collect.specs.Runs.{count_format, RunsWithin, TransfersWithin};
+ghost use Rattle.fc_collect.specs.Streams.{HasRoom};
 ghost use Rattle.fc_collect.specs.declared.commands.Format.TheVariants.{Lines};
 ghost use Rattle.fc_collect.specs.declared.commands.RunKind.TheVariants.{Canon, Check, Expand};
 ghost use Rattle.fc_collect.specs.declared.commands.RunKind.TheVariants.{Group, Share, Show, Table};
 ghost use Rattle.fc_collect.specs.declared.commands.RunKind.TheVariants.{Unique};
 
+use crate::{
+    Counted, EachGroup, Limits, RunConfig, RunFault, Seed, ShareLines, Summary, run_records,
+    write_bytes,
+};
 use fc_board::Variant;
-use fc_engine::{Counted, Limits, RunConfig, RunFault, Seed, Summary, run_records, write_bytes};
-use fc_groups::{EachGroup, ShareLines};
 use fc_record::{
     CanonLines, CheckLines, ExpandLines, ShowLines, SymmetryLines, TABLE_HEADER, TableLines,
     TableObjects,
@@ -46,26 +50,46 @@ pub enum RunKind {
     Expand,
     /// As `run_unique`.
     Unique,
-    /// As `run_table`.
-    Table,
+    /// As `run_table`, in this format.
+    Table(Format),
     /// Of each record after the first the passage from the board of the first one.
     Same,
     /// A line for each symmetry of each record's board.
     Symmetries,
-    /// Figures of the whole collection, in one line.
-    Count,
+    /// Figures of the whole collection, in one line of this format.
+    Count(CountFormat),
 }
 
-/// In which format a run of `RunKind::Table` or `RunKind::Count` writes. Other kinds have one
-/// format alone.
+/// How a table is written.
 #[derive(Clone, Copy, Debug, PartialEq, Eq, Hash)]
 pub enum Format {
-    /// Lines of words or columns.
+    /// A line of columns for each record.
     Lines,
-    /// Of a table first a line with the names of its columns, and then as `Lines`.
+    /// First a line with the names of the columns, and then as `Lines`.
     Header,
-    /// Lines that are objects of JSON.
+    /// An object of JSON in a line for each record.
     Json,
+}
+
+/// How the figures of a collection are written.
+#[derive(Clone, Copy, Debug, PartialEq, Eq, Hash)]
+pub enum CountFormat {
+    /// Words and numbers.
+    Words,
+    /// An object of JSON.
+    Json,
+}
+
+impl CountFormat {
+    /// That of figures where a table has this format.
+    pub fn of(format: Format) -> CountFormat
+        ensures { result ≡ count_format format }
+    {
+        match format {
+            Format::Lines | Format::Header => CountFormat::Words,
+            Format::Json => CountFormat::Json,
+        }
+    }
 }
 
 /// Reads a collection, and writes each record again: its header, its board and its lists, all as
@@ -79,7 +103,7 @@ pub fn run_show<Rd: Read, Wr: Write>(
     requires input_low { HasRoom input.old }
     requires output_low { HasRoom output.old }
     ensures { RunsWithin standard Rd.remaining Wr.contents
-        (TransfersWithin standard Show Lines variant)
+        (TransfersWithin standard Show variant)
         input.old input.new output.old output.new result }
 {
     run_whole(alloc, RunKind::Show, variant, input, output)
@@ -96,7 +120,7 @@ pub fn run_canon<Rd: Read, Wr: Write>(
     requires input_low { HasRoom input.old }
     requires output_low { HasRoom output.old }
     ensures { RunsWithin standard Rd.remaining Wr.contents
-        (TransfersWithin standard Canon Lines variant)
+        (TransfersWithin standard Canon variant)
         input.old input.new output.old output.new result }
 {
     run_whole(alloc, RunKind::Canon, variant, input, output)
@@ -112,7 +136,7 @@ pub fn run_check<Rd: Read, Wr: Write>(
     requires input_low { HasRoom input.old }
     requires output_low { HasRoom output.old }
     ensures { RunsWithin standard Rd.remaining Wr.contents
-        (TransfersWithin standard Check Lines variant)
+        (TransfersWithin standard Check variant)
         input.old input.new output.old output.new result }
 {
     run_whole(alloc, RunKind::Check, variant, input, output)
@@ -128,7 +152,7 @@ pub fn run_expand<Rd: Read, Wr: Write>(
     requires input_low { HasRoom input.old }
     requires output_low { HasRoom output.old }
     ensures { RunsWithin standard Rd.remaining Wr.contents
-        (TransfersWithin standard Expand Lines variant)
+        (TransfersWithin standard Expand variant)
         input.old input.new output.old output.new result }
 {
     run_whole(alloc, RunKind::Expand, variant, input, output)
@@ -145,7 +169,7 @@ pub fn run_group<Rd: Read, Wr: Write>(
     requires input_low { HasRoom input.old }
     requires output_low { HasRoom output.old }
     ensures { RunsWithin standard Rd.remaining Wr.contents
-        (TransfersWithin standard Group Lines variant)
+        (TransfersWithin standard Group variant)
         input.old input.new output.old output.new result }
 {
     run_whole(alloc, RunKind::Group, variant, input, output)
@@ -162,7 +186,7 @@ pub fn run_share<Rd: Read, Wr: Write>(
     requires input_low { HasRoom input.old }
     requires output_low { HasRoom output.old }
     ensures { RunsWithin standard Rd.remaining Wr.contents
-        (TransfersWithin standard Share Lines variant)
+        (TransfersWithin standard Share variant)
         input.old input.new output.old output.new result }
 {
     run_whole(alloc, RunKind::Share, variant, input, output)
@@ -179,7 +203,7 @@ pub fn run_unique<Rd: Read, Wr: Write>(
     requires input_low { HasRoom input.old }
     requires output_low { HasRoom output.old }
     ensures { RunsWithin standard Rd.remaining Wr.contents
-        (TransfersWithin standard Unique Lines variant)
+        (TransfersWithin standard Unique variant)
         input.old input.new output.old output.new result }
 {
     run_whole(alloc, RunKind::Unique, variant, input, output)
@@ -196,10 +220,10 @@ pub fn run_table<Rd: Read, Wr: Write>(
     requires input_low { HasRoom input.old }
     requires output_low { HasRoom output.old }
     ensures { RunsWithin standard Rd.remaining Wr.contents
-        (TransfersWithin standard Table Lines variant)
+        (TransfersWithin standard (Table Lines) variant)
         input.old input.new output.old output.new result }
 {
-    run_whole(alloc, RunKind::Table, variant, input, output)
+    run_whole(alloc, RunKind::Table(Format::Lines), variant, input, output)
 }
 
 // Reads a collection within the limits of a run that is given no others.
@@ -213,20 +237,11 @@ fn run_whole<Rd: Read, Wr: Write>(
     requires input_low { HasRoom input.old }
     requires output_low { HasRoom output.old }
     ensures { RunsWithin standard Rd.remaining Wr.contents
-        (TransfersWithin standard kind Lines variant)
+        (TransfersWithin standard kind variant)
         input.old input.new output.old output.new result }
 {
     let limits = Limits::STANDARD;
-    run_within(
-        alloc,
-        kind,
-        Format::Lines,
-        variant,
-        limits,
-        Seed::KNOWN,
-        input,
-        output,
-    )
+    run_within(alloc, kind, variant, limits, Seed::KNOWN, input, output)
 }
 
 /// Reads a collection within these limits, and writes what a run of this kind does. The output is
@@ -234,7 +249,6 @@ fn run_whole<Rd: Read, Wr: Write>(
 pub fn run_within<Rd: Read, Wr: Write>(
     alloc: Global,
     kind: RunKind,
-    format: Format,
     variant: Variant,
     limits: Limits,
     seed: Seed,
@@ -245,7 +259,7 @@ pub fn run_within<Rd: Read, Wr: Write>(
     requires input_low { HasRoom input.old }
     requires output_low { HasRoom output.old }
     ensures { RunsWithin limits Rd.remaining Wr.contents
-        (TransfersWithin limits kind format variant)
+        (TransfersWithin limits kind variant)
         input.old input.new output.old output.new result }
 {
     let config = RunConfig {
@@ -263,14 +277,14 @@ pub fn run_within<Rd: Read, Wr: Write>(
             alloc, config, input, output,
         ),
         RunKind::Unique => run_records::<UniqueLines, _, _>(alloc, config, input, output),
-        RunKind::Table => run_table_within(alloc, config, format, input, output),
+        RunKind::Table(format) => run_table_within(alloc, config, format, input, output),
         RunKind::Same => run_records::<SameLines, _, _>(alloc, config, input, output),
-        RunKind::Count => match format {
-            Format::Json => run_records::<Count<FiguresObject>, _, _>(alloc, config, input, output),
-            Format::Lines | Format::Header => run_records::<Count<FiguresLine>, _, _>(
-                alloc, config, input, output,
-            ),
-        },
+        RunKind::Count(CountFormat::Words) => run_records::<Count<FiguresLine>, _, _>(
+            alloc, config, input, output,
+        ),
+        RunKind::Count(CountFormat::Json) => run_records::<Count<FiguresObject>, _, _>(
+            alloc, config, input, output,
+        ),
         RunKind::Symmetries => run_records::<EachRecord<SymmetryLines>, _, _>(
             alloc, config, input, output,
         ),
@@ -289,7 +303,7 @@ fn run_table_within<Rd: Read, Wr: Write>(
     requires input_low { HasRoom input.old }
     requires output_low { HasRoom output.old }
     ensures { RunsWithin config.limits Rd.remaining Wr.contents
-        (TransfersWithin config.limits Table format config.variant)
+        (TransfersWithin config.limits (Table format) config.variant)
         input.old input.new output.old output.new result }
 {
     match format {

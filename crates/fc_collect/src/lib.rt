@@ -1,15 +1,24 @@
-//! Collections of boards: runs over readers and writers that they are lent.
+//! Collections of boards: runs of commands over readers and writers that they are lent.
 #![tactic(auto)]
 
 mod commands;
+mod engine;
+mod groups;
+mod streams;
 
 pub use commands::{
-    Format, RunKind, run_canon, run_check, run_expand, run_group, run_share, run_show, run_table,
-    run_unique, run_within,
+    CountFormat, Format, RunKind, run_canon, run_check, run_expand, run_group, run_share, run_show,
+    run_table, run_unique, run_within,
 };
+pub(crate) use engine::{Command, run_records, write_full};
+pub use engine::{write_bytes, write_text};
 pub use fc_board::Variant;
-pub use fc_engine::{
-    Counted, Limits, MOST_BYTES, MOST_COUNTABLE, MOST_READS, MOST_RECORD_BYTES, MOST_RECORDS,
-    RunFault, Seed, Summary, write_text,
-};
 pub use fc_record::variant_word;
+pub(crate) use groups::{
+    AnyBoard, AnyGame, EachGroup, Gathered, Gathering, GroupKey, ShareLines, key_and_passage,
+};
+pub use streams::{
+    Counted, Limits, MOST_BYTES, MOST_COUNTABLE, MOST_READS, MOST_RECORD_BYTES, MOST_RECORDS,
+    RunFault, Seed, Summary, limits_are_defined,
+};
+pub(crate) use streams::{KeyHasher, RunConfig};

@@ -14,8 +14,9 @@ use Rattle.std.specs.List.Sorted.{IsPermutation}
 use Rattle.std.specs.Option.{option_to_list}
 use Rattle.std.specs.Prelude.{◌==◌, map, nat_le, None, Option, replicate, slice_index}
 use Rattle.fc_card.specs.{IsCard, places}
-use Rattle.fc_parts.proofs.BoardLemmas.{count_of-append}
-use Rattle.fc_parts.specs.{Board, board_of_parts, cards_in_play, count_of, HasEachCardOnce, is_home}
+use Rattle.fc_board.proofs.BoardLemmas.{count_of-append}
+use Rattle.fc_card.specs.{count_of}
+use Rattle.fc_board.specs.Boards.{Board, board_of_parts, cards_in_play, HasEachCardOnce, is_home}
 use Rattle.fc_deal.specs.{deal, dealt, dealt_board, dealt_column, deck, next_state, place_drawn}
 
 length-swap_remove : (cards : List ℕ) (place card left : ℕ) → length cards ≡ suc left → length (swap_remove cards place card) ≡ left

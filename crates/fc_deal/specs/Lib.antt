@@ -2,7 +2,7 @@
 use Rattle.std.specs.{List.{filter, range_with_len, swap_remove}, Prelude.{◌%◌, ◌*◌, ◌+◌, ◌/◌}}
 use Rattle.std.specs.Prelude.{◌==◌, ◌^◌, ◌∷◌, ◌≤◌, [], length, List, map, None, replicate}
 use Rattle.std.specs.Prelude.{slice_index, suc, zero, ℕ}
-use Rattle.{fc_card.specs.{places}, fc_parts.specs.{Board}}
+use Rattle.{fc_board.specs.Boards.{Board}, fc_card.specs.{places}}
 
 -- -------- Microsoft's numbered deals. From: the numbering of Microsoft FreeCell, whose numbers come from the generator of its C library.
 

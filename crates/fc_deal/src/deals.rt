@@ -1,6 +1,6 @@
 //! The deals by number.
 ghost use Rattle.std.specs.Prelude.{◌↔◌, ◌≡◌, IfOk, IsOk, map, ℕ};
-ghost use Rattle.{fc_card.specs.{IsCard, places}, fc_parts.specs.{count_of, IsWellFormed}};
+ghost use Rattle.{fc_board.specs.Boards.{IsWellFormed}, fc_card.specs.{count_of, IsCard, places}};
 ghost use Rattle.fc_deal.specs.{deal, dealt_board, dealt_column, IsDealNumber};
 
 use crate::shuffle::shuffle_deck;

@@ -1,3 +1,4 @@
+pub mod NameLemmas
 pub mod PieceLemmas
 pub mod QuietLemmas
 pub mod RunLemmas

@@ -1,17 +1,16 @@
 -- Lemmas on whole lines at the front of a text, and on those that are no header.
 use Rattle.std.proofs.Common.{◌++◌, ◌+◌, ◌<◌, ◌==◌, ◌∙◌, ◌∷◌, ◌≡◌, ◌≤◌, [], All, ap, arith, Bool}
-use Rattle.std.proofs.Common.{drop, false, get_or, if◌then◌else◌, length, List, map, refl, subst, suc, sym}
+use Rattle.std.proofs.Common.{drop, false, get_or, if◌then◌else◌, length, List, refl, subst, suc, sym}
 use Rattle.std.proofs.Common.{take, true, zero, ℕ}
 use Rattle.std.proofs.Math.Seq.{take-add}
-use Rattle.std.proofs.lemmas.Bool.{eqb-true}
 use Rattle.std.proofs.lemmas.List.{length-drop}
 use Rattle.std.proofs.lemmas.List.Elements.{All-append, All-cons, All-map, All-nil}
 use Rattle.memchr.specs.Find.{is_byte, Nowhere, Passes}
-use Rattle.fc_print.proofs.LineLemmas.{in_line-first, lines_from-moved}
-use Rattle.fc_print.specs.{in_line, line_feed, lines_from, moved, Piece}
+use Rattle.fc_text.proofs.LineLemmas.{in_line-first, lines_from-moved}
+use Rattle.fc_text.specs.{Bytes.{line_feed}, Lines.{in_line, lines_from, moved, Piece}}
+use Rattle.fc_record.specs.{Grammar.{begins_with}, RecordTexts.{ends_line, header_mark}}
+use Rattle.fc_import.specs.Import.{HasNoHeader}
 use Rattle.fc_record.proofs.TextLineLemmas.{ends-after, lines_after}
-use Rattle.fc_record.specs.{begins_with, ends_line, header_mark}
-use Rattle.fc_import.specs.{HasNoHeader}
 use Rattle.fc_import.specs.inside.{AreWhole}
 
 -- whole lines after others that end

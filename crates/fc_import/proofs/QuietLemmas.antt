@@ -3,9 +3,8 @@ use Rattle.std.proofs.Common.{◌&&◌, ◌∷◌, ◌≡◌, [], ap, ap₂, Boo
 use Rattle.std.specs.Char.{is_ascii_digit}
 use Rattle.std.specs.List.{list_all}
 use Rattle.std.specs.Option.{is_some}
-use Rattle.fc_parts.specs.{Game}
-use Rattle.fc_print.specs.reader.{run_named}
-use Rattle.fc_import.specs.{are_moves}
+use Rattle.{fc_board.specs.Games.{Game}, fc_import.specs.Words.{are_moves}}
+use Rattle.fc_text.specs.reader.{run_named}
 
 module _ (game : Game) where
   abbrev IsMove : List ℕ → Bool

@@ -6,24 +6,25 @@ use Rattle.std.proofs.KnownBytes.{Consumes-trans}
 use Rattle.std.proofs.lemmas.List.Elements.{All-append, All-cons, All-head, All-nil}
 use Rattle.std.specs.Io.KnownBytes.{Consumes}
 use Rattle.std.specs.Prelude.{⊤}
-use Rattle.fc_parts.proofs.BoardLemmas.{All-left, All-right}
-use Rattle.fc_parts.specs.{game_of}
-use Rattle.fc_parts.specs.declared.rule.Variant.{Variant}
-use Rattle.fc_run.specs.{CallCounts, GrowsBy, most_bytes, most_reads, standard}
-use Rattle.fc_run.specs.declared.counted.Counted.{Counted}
-use Rattle.fc_run.specs.declared.outcome.RunFault.{RunFault}
-use Rattle.fc_run.specs.declared.outcome.RunFault.TheVariants.{Memory, Read, ReaderNeverEnds}
-use Rattle.fc_run.specs.declared.outcome.RunFault.TheVariants.{TooLarge, Write}
-use Rattle.fc_run.specs.declared.outcome.Summary.{Summary}
-use Rattle.fc_record.specs.{is_refused, RecordText}
-use Rattle.fc_engine.proofs.RecordLemmas.{cut-append, cut-induction}
-use Rattle.fc_engine.specs.{begun, cut, finished, first_of, IsSmall, IsWithinLimits, ReadsAsCounted}
-use Rattle.fc_engine.specs.{ResultFits}
-use Rattle.fc_collect.specs.{ending_of_kind, output_of_kind, TransfersWithin}
-use Rattle.fc_collect.specs.declared.commands.Format.TheVariants.{Lines}
+use Rattle.fc_board.proofs.BoardLemmas.{All-left, All-right}
+use Rattle.fc_board.specs.Games.{game_of}
+use Rattle.fc_record.specs.{Printing.{is_refused}, RecordTexts.{RecordText}}
+use Rattle.fc_collect.specs.Limits.{most_bytes, most_reads, standard}
+use Rattle.fc_collect.specs.Promises.{IsSmall, IsWithinLimits, ReadsAsCounted, ResultFits}
+use Rattle.fc_collect.specs.Records.{begun, cut, finished, first_of}
+use Rattle.fc_collect.specs.Runs.{ending_of_kind, output_of_kind, TransfersWithin}
+use Rattle.fc_collect.specs.Streams.{CallCounts, GrowsBy}
+use Rattle.fc_import.specs.Import.{collection, Imported, IsShown, Makes, no_board, no_board_line}
+use Rattle.fc_import.specs.Import.{refusals, too_much, too_much_line, with_tally}
+use Rattle.fc_import.specs.{Notes.{counted, State}, Words.{text_read}}
+use Rattle.fc_board.specs.declared.rule.Variant.{Variant}
+use Rattle.fc_collect.specs.declared.streams.{counted.Counted.{Counted}, faults.RunFault.{RunFault}}
+use Rattle.fc_collect.specs.declared.streams.faults.RunFault.TheVariants.{Memory, Read}
+use Rattle.fc_collect.specs.declared.streams.faults.RunFault.TheVariants.{ReaderNeverEnds, TooLarge}
+use Rattle.fc_collect.specs.declared.streams.faults.RunFault.TheVariants.{Write}
+use Rattle.fc_collect.specs.declared.streams.faults.Summary.{Summary}
+use Rattle.fc_collect.proofs.RecordLemmas.{cut-append, cut-induction}
 use Rattle.fc_collect.specs.declared.commands.RunKind.TheVariants.{Show}
-use Rattle.fc_import.specs.{collection, counted, Imported, IsShown, Makes, no_board, no_board_line}
-use Rattle.fc_import.specs.{refusals, State, text_read, too_much, too_much_line, with_tally}
 use Rattle.fc_import.specs.inside.{more_counts, MoreFits, ReadsMore, ReadsToEnd}
 
 -- ---- reading the input
@@ -137,10 +138,10 @@ front_within x y within =
 
 module _ (variant : Variant) (text : List ℕ) (records : ℕ) (shown : IsShown variant text records) where
   -- a run of `show` that reads a beginning of what is shown finds it within limits
-  pub within_limits : (left before after : Option (List ℕ)) (result : Result Summary RunFault) → TransfersWithin standard Show Lines variant (Some text) left before after result → result ≢ Err TooLarge
+  pub within_limits : (left before after : Option (List ℕ)) (result : Result Summary RunFault) → TransfersWithin standard Show variant (Some text) left before after result → result ≢ Err TooLarge
   within_limits None before after result transfers is = transfers.consumed
   within_limits (Some rest) before after result transfers is =
-      let fits = subst (ResultFits standard (output_of_kind Show Lines variant) (is_refused variant) (ending_of_kind Show Lines variant) transfers.read (Some rest) transfers.written) is transfers.fits in
+      let fits = subst (ResultFits standard (output_of_kind Show variant) (is_refused variant) (ending_of_kind Show variant) transfers.read (Some rest) transfers.written) is transfers.fits in
       let whole : shown.read ≡ transfers.read ++ rest = sym (append-nil shown.read) ∙ sym shown.consumed ∙ transfers.consumed in
       fits.0 (front_within transfers.read rest (subst (IsWithinLimits standard) whole shown.fits.0))
 

@@ -1,5 +1,5 @@
 -- Lemmas on signs, and on what stands for them in a text.
-use Rattle.std.proofs.Common.{◌&&◌, ◌++◌, ◌+◌, ◌-◌, ◌<◌, ◌==◌, ◌||◌, ◌∙◌, ◌∷◌, ◌≡◌, ◌≤◌, [], ap, ap₂, arith, Bool}
+use Rattle.std.proofs.Common.{◌&&◌, ◌++◌, ◌+◌, ◌-◌, ◌<◌, ◌==◌, ◌||◌, ◌∙◌, ◌∷◌, ◌≡◌, [], ap, ap₂, arith, Bool}
 use Rattle.std.proofs.Common.{cond, drop, false, get_or, if◌then◌else◌, inl, inr, length, List, map, nat_le, refl}
 use Rattle.std.proofs.Common.{is_some, None, Option, Some, suc, sym, take, true, zero, ℕ}
 use Rattle.std.proofs.lemmas.Bool.{lt-leb}
@@ -7,8 +7,8 @@ use Rattle.std.proofs.lemmas.Bool.Decides.{leb_tells}
 use Rattle.std.proofs.lemmas.List.{get_or-map}
 use Rattle.std.proofs.lemmas.List.FromFn.{get_or-range_with_len, length-range_with_len}
 use Rattle.std.specs.{List.{prefix_len}, Option.{unwrap_or}, Prelude.{slice_index}}
-use Rattle.{fc_card.specs.{places}, fc_import.specs.{number_of, sign_by, sign_of, stands_for, text_after}}
-use Rattle.fc_print.specs.{line_feed}
+use Rattle.{fc_card.specs.{places}, fc_text.specs.Bytes.{line_feed}}
+use Rattle.fc_import.specs.Words.{number_of, sign_by, sign_of, stands_for, text_after}
 use Rattle.fc_import.specs.inside.{is_alone}
 
 -- ---- signs of one byte

@@ -6,16 +6,18 @@ use Rattle.std.proofs.lemmas.Bool.{eqb-true}
 use Rattle.std.proofs.lemmas.Grind.{flat_map-append}
 use Rattle.std.proofs.lemmas.List.Elements.{All-head, All-tail}
 use Rattle.std.specs.List.{flat_map}
-use Rattle.fc_parts.specs.{Game}
-use Rattle.fc_parts.specs.declared.rule.Variant.{Variant}
-use Rattle.fc_parts.specs.declared.rule.Variant.TheVariants.{BakersGame, EightOff, FreeCell}
-use Rattle.fc_print.proofs.LineLemmas.{lines_from-moved}
-use Rattle.fc_print.specs.{in_line, lines_from, moved, Piece, text_of}
+use Rattle.fc_board.specs.Games.{Game}
+use Rattle.fc_text.specs.{Lines.{in_line, lines_from, moved, Piece}, Printed.{text_of}}
+use Rattle.fc_record.specs.{Grammar.{begins_with}, Printing.{header_text}}
+use Rattle.fc_record.specs.RecordTexts.{ends_line, header_mark}
+use Rattle.fc_import.specs.Import.{a_board, a_list, headed, Imported, IsQuiet, left_out, none_yet}
+use Rattle.fc_import.specs.Import.{once_more, one_more, passed, Reading, refused_board}
+use Rattle.fc_import.specs.{Import.{refused_list}, Notes.{counted, IsNote, Place, State}}
+use Rattle.fc_import.specs.Words.{named_cards, named_in}
+use Rattle.fc_board.specs.declared.rule.Variant.{Variant}
+use Rattle.fc_board.specs.declared.rule.Variant.TheVariants.{BakersGame, EightOff, FreeCell}
+use Rattle.fc_text.proofs.LineLemmas.{lines_from-moved}
 use Rattle.fc_record.proofs.TextLineLemmas.{lines_after}
-use Rattle.fc_record.specs.{begins_with, ends_line, header_mark, header_text}
-use Rattle.fc_import.specs.{a_board, a_list, counted, headed, Imported, IsNote, IsQuiet, left_out}
-use Rattle.fc_import.specs.{named_cards, named_in, none_yet, once_more, one_more, passed, Place, Reading}
-use Rattle.fc_import.specs.{refused_board, refused_list, State}
 
 both_empty : {A : Type 0} (xs ys : List A) → xs ++ ys ≡ [] → (xs ≡ []) × (ys ≡ [])
 both_empty [] ys none = (refl, none)
@@ -36,7 +38,7 @@ AllTaken state = (state.tally.refused_boards ≡ 0) × (state.tally.refused_list
 
 still_taken : {variant : Variant} {game : Game} {state : State} {piece : List ℕ} {next : State} {written said : List ℕ} → Reading variant game state piece next written said → said ≡ [] → AllTaken state → AllTaken next
 still_taken (passed quiet) silent (boards, lists, lines) = (none_more _ boards, none_more _ lists, none_more _ lines)
-still_taken (left_out said prose note) silent before = absurd (note_said _ _ said note silent)
+still_taken (left_out said names prose note) silent before = absurd (note_said _ _ said note silent)
 still_taken (a_board name board said named well can how) silent (boards, lists, lines) = (none_more _ boards, none_more _ lists, none_more _ lines)
 still_taken (once_more board said last how) silent (boards, lists, lines) = (none_more _ boards, none_more _ lists, none_more _ lines)
 still_taken (a_list board list said last legal how) silent (boards, lists, lines) = (none_more _ boards, none_more _ lists, none_more _ lines)
@@ -97,7 +99,7 @@ NoneLost state text = (state.last ≡ None) × (named_in text ≡ [])
 none_lost : {variant : Variant} {game : Game} {state : State} {piece : List ℕ} {next : State} {written said : List ℕ} → Reading variant game state piece next written said → written ≡ [] → said ≡ []
     → state.last ≡ None → NoneLost next piece
 none_lost {game = game} {piece = piece} (passed quiet) nothing silent alone = (alone, quiet_cards game (lines_from 0 piece) quiet)
-none_lost (left_out said prose note) nothing silent alone = absurd (note_said _ _ said note silent)
+none_lost (left_out said names prose note) nothing silent alone = absurd (note_said _ _ said note silent)
 none_lost {variant = variant} (a_board name board said named well can how) nothing silent alone = absurd (header_written variant name (text_of board) nothing)
 none_lost (once_more board said last how) nothing silent alone = absurd (let e = sym alone ∙ last in cc)
 none_lost (a_list board list said last legal how) nothing silent alone = absurd (let e = sym alone ∙ last in cc)

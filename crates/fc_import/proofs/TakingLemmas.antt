@@ -7,12 +7,12 @@ use Rattle.std.proofs.lemmas.List.Elements.{All-cons, All-nil}
 use Rattle.std.proofs.lemmas.List.FromFn.{get_or-range_with_len, length-range_with_len}
 use Rattle.std.specs.List.{flat_map}
 use Rattle.fc_card.specs.{places}
-use Rattle.fc_parts.specs.{Game}
-use Rattle.fc_parts.specs.declared.rule.Variant.{Variant}
-use Rattle.fc_print.specs.{Piece, with_end}
-use Rattle.fc_record.specs.{ends_line}
-use Rattle.fc_import.specs.{first_state, HasNoHeader, headed, Imported, is_between, IsHeading, none_yet}
-use Rattle.fc_import.specs.{one_more, Reading, State, tally_of}
+use Rattle.{fc_board.specs.Games.{Game}, fc_text.specs.Lines.{Piece, with_end}}
+use Rattle.fc_record.specs.RecordTexts.{ends_line}
+use Rattle.fc_import.specs.Import.{HasNoHeader, headed, Imported, IsHeading, none_yet, one_more}
+use Rattle.fc_import.specs.{Import.{Reading}, Notes.{first_state, State, tally_of}}
+use Rattle.fc_import.specs.Words.{is_between}
+use Rattle.fc_board.specs.declared.rule.Variant.{Variant}
 use Rattle.fc_import.specs.inside.{IsMade, printing, state_of, Takes, TakesName}
 use Rattle.fc_import.specs.declared.made.Made.{Made}
 use Rattle.fc_import.specs.declared.tally.{Fate.TheVariants.{Passed}, Tally.{Tally}}

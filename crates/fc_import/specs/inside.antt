@@ -2,13 +2,15 @@
 use Rattle.std.specs.{Io.KnownBytes.{Appends, Consumes, IsAtEnd}, Prelude.{◌++◌, ◌+◌, ◌<◌, ◌||◌}}
 use Rattle.std.specs.Prelude.{◌↔◌, ◌≡◌, ◌≢◌, ◌≤◌, ◌⊎◌, [], ⊤, Bool, Err, false, if◌then◌else◌}
 use Rattle.std.specs.Prelude.{length, List, map, None, Ok, Option, Result, Some, take, true, ℕ}
-use Rattle.{fc_parts.specs.{declared.rule.Variant.{Variant}, Game}, fc_record.specs.{ends_line}}
-use Rattle.{fc_engine.specs.{Begins}, fc_run.specs.{CallCounts, most_bytes}}
-use Rattle.fc_run.specs.declared.outcome.RunFault.{RunFault, TheVariants.{Memory, Read}}
-use Rattle.fc_run.specs.declared.outcome.RunFault.TheVariants.{ReaderNeverEnds, TooLarge, Write}
-use Rattle.fc_run.specs.declared.outcome.Summary.{Summary}
-use Rattle.fc_import.specs.{after_heading, HasNoHeader, Imported, is_between, IsHeading, IsNote}
-use Rattle.fc_import.specs.{IsShown, Makes, Place, Reading, State}
+use Rattle.fc_board.specs.{declared.rule.Variant.{Variant}, Games.{Game}}
+use Rattle.fc_record.specs.RecordTexts.{ends_line}
+use Rattle.fc_collect.specs.{Limits.{most_bytes}, Promises.{Begins}, Streams.{CallCounts}}
+use Rattle.fc_collect.specs.declared.streams.faults.RunFault.{RunFault, TheVariants.{Memory, Read}}
+use Rattle.fc_collect.specs.declared.streams.faults.RunFault.TheVariants.{ReaderNeverEnds, TooLarge}
+use Rattle.fc_collect.specs.declared.streams.faults.RunFault.TheVariants.{Write}
+use Rattle.fc_collect.specs.declared.streams.faults.Summary.{Summary}
+use Rattle.fc_import.specs.Import.{HasNoHeader, Imported, IsHeading, IsShown, Makes, Reading}
+use Rattle.fc_import.specs.{Notes.{after_heading, IsNote, Place, State}, Words.{is_between}}
 use Rattle.fc_import.specs.declared.{made.Made.{Made}, walk.Walk.{Walk}}
 
 -- -------- Signs that are read as they are.

@@ -3,17 +3,17 @@
 ghost use Rattle.std.specs.{List.{before_first, flat_map}, Option.{option_to_list}, Prelude.{◌++◌}};
 ghost use Rattle.std.specs.Prelude.{◌==◌, ◌≡◌, ◌≢◌, ◌⊎◌, [], All, drop, IfOk, IsTrue, OnOk};
 ghost use Rattle.std.specs.{Prelude.{slice_get, take}, Str.{str_to_ascii_lowercase}};
-ghost use Rattle.{fc_parts.specs.{IsWellFormed}, fc_print.specs.{number_sign}};
-ghost use Rattle.fc_text.specs.{card_spelled};
-ghost use Rattle.fc_import.specs.{ArePacked, by_columns, ended, HasCards, in_cells, in_columns};
-ghost use Rattle.fc_import.specs.{in_rows, IsPacked, letters_of_move, named_card, named_cards};
-ghost use Rattle.fc_import.specs.{named_in, named_lines, named_moves, plain_words};
+ghost use Rattle.fc_board.specs.Boards.{IsWellFormed};
+ghost use Rattle.fc_text.specs.{Bytes.{number_sign}, Spelling.{card_spelled}};
+ghost use Rattle.fc_import.specs.Import.{ArePacked, by_columns, HasCards, in_cells, in_columns};
+ghost use Rattle.fc_import.specs.{Import.{in_rows, IsPacked}, Words.{ended, letters_of_move}};
+ghost use Rattle.fc_import.specs.Words.{named_card, named_cards, named_in, named_lines};
+ghost use Rattle.fc_import.specs.Words.{named_moves, plain_words};
 
 use crate::plain::plain;
 use fc_board::{Board, Rule};
 use fc_card::Card;
-use fc_print::run_named;
-use fc_text::{Lines, Tokens, card_spelled};
+use fc_text::{Lines, Tokens, card_spelled, run_named};
 use memchr::memchr;
 use std::alloc::{AllocError, Global};
 

@@ -1,9 +1,9 @@
 //! Importing a text, piece by piece. What the lines look like is a guess, of which nothing is
 //! promised; what is made of them is tested before it is written.
 ghost use Rattle.std.specs.Prelude.{◌<◌, ◌≡◌, ◌≤◌, false, IfOk, IsTrue, length, OnOk, take, true};
-ghost use Rattle.{fc_print.specs.{lines_from}, fc_text.specs.{Spells}};
-ghost use Rattle.fc_record.specs.{begins_with, header_mark};
-ghost use Rattle.fc_import.specs.{HasNoHeader};
+ghost use Rattle.fc_text.specs.{Lines.{lines_from}, Spelling.{Spells}};
+ghost use Rattle.fc_record.specs.{Grammar.{begins_with}, RecordTexts.{header_mark}};
+ghost use Rattle.fc_import.specs.Import.{HasNoHeader};
 ghost use Rattle.fc_import.specs.inside.{AreWhole, IsMade, Takes, TakesFirst, TakesName};
 
 use crate::block::Block;
@@ -15,8 +15,7 @@ use crate::reasons::{board_reason, move_reason};
 use crate::states::{moves_between, states_len};
 use crate::titles::{is_of_variant, title_of, variant_titled};
 use fc_board::{Board, Rule};
-use fc_print::read_printed;
-use fc_text::{BoardFault, read_board};
+use fc_text::{BoardFault, read_board, read_printed};
 use memchr::memchr;
 use std::alloc::{AllocError, Global};
 

@@ -1,11 +1,15 @@
 //! Laws of texts, and of the words that name cards.
-ghost use Rattle.std.specs.Fmt.{decimal};
-ghost use Rattle.std.specs.Prelude.{◌++◌, ◌∷◌, ◌≡◌, [], codes, false, List, None, Some, true, ℕ};
-ghost use Rattle.fc_parts.specs.{bakers_game, eight_off, freecell, Game};
-ghost use Rattle.{fc_parts.specs.declared.rule.Variant.{Variant}, fc_print.specs.{line_feed}};
-ghost use Rattle.fc_import.specs.{count_text, decoded, Imported, is_list, IsBuilt, most_dealt};
-ghost use Rattle.fc_import.specs.{named_card, named_cards, named_in, named_lines, named_moves};
-ghost use Rattle.fc_import.specs.{numbered, place_text, plain, refusals, State, text_read};
+ghost use Rattle.std.specs.{Fmt.{decimal}, List.{Contains, fold}, Prelude.{◌++◌, ◌∷◌, ◌≡◌, []}};
+ghost use Rattle.std.specs.Prelude.{codes, false, if◌then◌else◌, List, None, Option, Some, true, ℕ};
+ghost use Rattle.fc_board.specs.{Boards.{Board}, Games.{bakers_game, eight_off, freecell, Game}};
+ghost use Rattle.fc_board.specs.declared.rule.Variant.{Variant};
+ghost use Rattle.fc_text.specs.{Bytes.{line_feed}, Lines.{lines_from, Piece}};
+ghost use Rattle.fc_record.specs.{Grammar.{begins_with, heading_of}, RecordTexts.{header_mark}};
+ghost use Rattle.fc_import.specs.Import.{count_text, HasFewCards, Imported, IsBuilt, IsNoBoard};
+ghost use Rattle.fc_import.specs.Import.{most_dealt, numbered, refusals, StaysLast};
+ghost use Rattle.fc_import.specs.{Notes.{name_by, place_text, State}, Words.{decoded, is_list}};
+ghost use Rattle.fc_import.specs.Words.{named_card, named_cards, named_in, named_lines};
+ghost use Rattle.fc_import.specs.Words.{named_moves, plain, text_read};
 
 /// The two letters of each card name it, also in the other order. `10` is the ten, a word of
 /// another length or with another letter names nothing, and `1` is the ace. A board's name is no
@@ -137,4 +141,30 @@ pub fn notes_are_for_people()
     ensures one { count_text 1 (codes "board") ≡ decimal 1 ++ codes " board" }
     ensures two { count_text 2 (codes "board") ≡ decimal 2 ++ codes " boards" }
     ensures second { numbered (codes "a") 2 ≡ codes "a_2" }
+{}
+
+/// The boards after a header have its name: the name that a place has is that of the last line of
+/// the text that is a header.
+pub fn names_are_those_of_the_last_header()
+    ensures { (variant : Variant) (game : Game) (text : List ℕ) (state : State)
+        (written said : List ℕ) → Imported variant game text state written said
+        → state.place.name ≡ fold (λ name line. if begins_with header_mark line.bytes
+        then name_by (heading_of variant line.bytes) else name) [] (lines_from 0 text) }
+{}
+
+/// Where two words of four name cards, a line has few of them, and where two of three do, it may be
+/// a board's, unless it is a list.
+pub fn few_words_of_prose_name_cards()
+    ensures half { HasFewCards (codes "the 7D and TD") }
+    ensures more { ¬ HasFewCards (codes "7D TD x") }
+    ensures list { IsNoBoard freecell (codes "> 1a") }
+    ensures cards { ¬ IsNoBoard freecell (codes "7D TD 3C") }
+{}
+
+/// Where a line of a list that is not taken may be a board's, there is no last board after it: so a
+/// list that follows is not taken for an earlier board.
+pub fn a_board_between_lists_is_not_passed_over()
+    ensures { (game : Game) (piece : List ℕ) (line : Piece) (before after : Option Board)
+        → Contains (lines_from 0 piece) line → ¬ IsNoBoard game line.bytes
+        → StaysLast game piece before after → after ≡ None }
 {}

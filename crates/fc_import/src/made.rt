@@ -2,17 +2,17 @@
 //! what it is taken for.
 ghost use Rattle.std.specs.Prelude.{◌++◌, ◌≡◌, ◌≤◌, ◌⊎◌, [], All, false, IfOk, IfSome, IsTrue};
 ghost use Rattle.std.specs.Prelude.{List, OnOk, Some, ℕ};
-ghost use Rattle.fc_parts.specs.{Board as Layout, eight_off, Fits, IsWellFormed, Legal, ListFits};
-ghost use Rattle.fc_parts.specs.{OneCard, RunFits, Runs};
-ghost use Rattle.{fc_print.specs.{text_of}, fc_text.specs.{Spells}};
-ghost use Rattle.fc_record.specs.{header_text, heading_of, list_line};
-ghost use Rattle.fc_import.specs.{after, by_columns, HasCards};
-ghost use Rattle.fc_import.specs.{inside.{IsMade, place_of, state_of, Takes, TakesName}, IsNamed};
-ghost use Rattle.fc_import.specs.{IsNote, IsPacked, name_by, named_lines, named_moves, numbered};
-ghost use Rattle.fc_import.specs.{SpellsOut};
+ghost use Rattle.fc_board.specs.{Boards.{Board as Layout, IsWellFormed}, Games.{eight_off}};
+ghost use Rattle.fc_board.specs.{Moves.{Fits, ListFits, OneCard, RunFits, Runs}, Play.{Legal}};
+ghost use Rattle.fc_text.specs.{Printed.{text_of}, Spelling.{Spells}};
+ghost use Rattle.fc_record.specs.{Grammar.{heading_of}, Printing.{header_text, list_line}};
+ghost use Rattle.fc_import.specs.Import.{by_columns, HasCards, IsNamed, IsPacked, numbered};
+ghost use Rattle.fc_import.specs.Import.{SpellsOut};
+ghost use Rattle.fc_import.specs.inside.{IsMade, place_of, state_of, Takes, TakesName};
+ghost use Rattle.fc_import.specs.{Notes.{after, IsNote, name_by}, Words.{named_lines, named_moves}};
 ghost use Rattle.fc_import.specs.declared.tally.Fate.TheVariants.{ABoard};
 
-use crate::cards::{by_columns, has_cards, is_packed, named_lines, named_moves};
+use crate::cards::{by_columns, has_cards, is_packed, named_in, named_lines, named_moves};
 use crate::playable::can_be;
 use crate::quiet::{are_no_board, are_prose, are_quiet};
 use crate::tally::{Fate, Tally, counted};
@@ -86,8 +86,8 @@ impl<R: Rule> Made<R> {
         Ok(true)
     }
 
-    /// Leaves out lines that are no list, and of which at most half of the words name cards, with a
-    /// note. Returns whether they are so.
+    /// Leaves out lines that name cards, and of which none is a list or names cards by more than half
+    /// of its words, with a note. Returns whether they are so.
     pub(crate) fn leave_out(
         &mut self,
         alloc: Global,
@@ -98,6 +98,9 @@ impl<R: Rule> Made<R> {
             → Takes R.VARIANT R.game piece.now self.old self.new) }
         ensures kept { IfOk result (λ taken. taken ≡ false → self.new ≡ self.old) }
     {
+        if named_in(alloc, piece)?.is_empty() {
+            return Ok(false);
+        }
         if !are_prose::<R>(alloc, piece)? {
             return Ok(false);
         }

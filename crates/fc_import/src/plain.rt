@@ -1,7 +1,7 @@
 //! Text as letters and digits.
 ghost use Rattle.std.specs.Char.{is_ascii_alphanumeric};
 ghost use Rattle.std.specs.Prelude.{◌||◌, ◌≡◌, IfOk, if◌then◌else◌, nat_le};
-ghost use Rattle.{fc_import.specs.{plain}, fc_print.specs.{blank}};
+ghost use Rattle.{fc_import.specs.Words.{plain}, fc_text.specs.Bytes.{blank}};
 
 use std::alloc::{AllocError, Global};
 

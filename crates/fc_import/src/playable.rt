@@ -1,6 +1,6 @@
 //! Which boards play can make of a deal.
 ghost use Rattle.std.specs.Prelude.{◌↔◌, ◌≡◌, All, IsTrue};
-ghost use Rattle.fc_import.specs.{CanBe, IsBuilt};
+ghost use Rattle.fc_import.specs.Import.{CanBe, IsBuilt};
 
 use fc_board::{Board, Rule};
 use fc_card::Card;

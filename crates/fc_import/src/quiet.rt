@@ -1,15 +1,15 @@
 //! Which lines pass in silence, and which are left out with a note.
 ghost use Rattle.std.specs.{Char.{is_ascii_digit}, List.{list_all}, Option.{is_some}};
 ghost use Rattle.std.specs.Prelude.{◌≡◌, ◌≤◌, All, IfOk, IsTrue, length, map};
-ghost use Rattle.fc_print.specs.{Left.{tokens_left}, lines_from, reader.{run_named}};
-ghost use Rattle.fc_print.specs.{separates_tokens, words};
-ghost use Rattle.fc_import.specs.{are_moves, HasFewCards, is_list, IsNoBoard, IsProse, IsQuiet};
+ghost use Rattle.fc_text.specs.{Left.{tokens_left}, Lines.{lines_from, words}};
+ghost use Rattle.fc_text.specs.{Notation.{separates_tokens}, reader.{run_named}};
+ghost use Rattle.fc_import.specs.Import.{HasFewCards, IsNoBoard, IsProse, IsQuiet};
+ghost use Rattle.fc_import.specs.Words.{are_moves, is_list};
 
 use crate::cards::{before_comment, named_cards};
 use crate::plain::plain;
 use fc_board::Rule;
-use fc_print::run_named;
-use fc_text::{Lines, Tokens};
+use fc_text::{Lines, Tokens, run_named};
 use std::alloc::{AllocError, Global};
 
 /// Whether each line names no card, and is no list.

@@ -1,13 +1,14 @@
 //! The run that imports an input.
 ghost use Rattle.std.specs.Prelude.{◌++◌, ◌+◌, ◌-◌, ◌<◌, ◌^◌, ◌≡◌, ◌≤◌, [], Err, IfOk, length};
 ghost use Rattle.std.specs.Prelude.{List, ℕ};
-ghost use Rattle.fc_run.specs.{counts_of, GrowsBy, HasRoom, inner_of, most_bytes, standard};
-ghost use Rattle.fc_run.specs.declared.outcome.RunFault.TheVariants.{Write as WriteFault};
-ghost use Rattle.fc_engine.specs.{ReadsAsCounted, Transfers, WritesAsCounted};
-ghost use Rattle.fc_collect.specs.{RunsWithin};
-ghost use Rattle.fc_import.specs.{counted, ImportFits};
+ghost use Rattle.fc_collect.specs.Limits.{most_bytes, standard};
+ghost use Rattle.fc_collect.specs.Promises.{ReadsAsCounted, Transfers, WritesAsCounted};
+ghost use Rattle.fc_collect.specs.Runs.{RunsWithin};
+ghost use Rattle.fc_collect.specs.Streams.{counts_of, GrowsBy, HasRoom, inner_of};
+ghost use Rattle.fc_collect.specs.declared.streams.faults.RunFault.TheVariants.{Write as WriteFault};
+ghost use Rattle.fc_import.specs.Import.{ImportFits, Makes, with_tally};
 ghost use Rattle.fc_import.specs.inside.{more_counts, ReadsMore, ReadsToEnd, ShownAs, WritesMade};
-ghost use Rattle.fc_import.specs.{Makes, text_read, with_tally};
+ghost use Rattle.fc_import.specs.{Notes.{counted}, Words.{text_read}};
 
 use crate::import::import_text;
 use crate::layout::LinesAre;

@@ -2,10 +2,10 @@
 ghost use Rattle.std.specs.{List.{prefix_len}, Option.{is_some, unwrap_or}, Prelude.{◌%◌, ◌&&◌}};
 ghost use Rattle.std.specs.Prelude.{◌*◌, ◌++◌, ◌+◌, ◌<◌, ◌==◌, ◌≡◌, ◌≤◌, [], drop, IfOk, length};
 ghost use Rattle.std.specs.Prelude.{OnOk, slice_index, take};
-ghost use Rattle.fc_print.specs.{line_feed};
-ghost use Rattle.fc_import.specs.{ends_line, inside.{is_alone}, is_between, is_card_sign, is_space};
-ghost use Rattle.fc_import.specs.{is_suit_sign, is_unseen, is_wide, number_of, sign_of, stands_for};
-ghost use Rattle.fc_import.specs.{text_after, text_read};
+ghost use Rattle.fc_text.specs.Bytes.{line_feed};
+ghost use Rattle.fc_import.specs.{inside.{is_alone}, Words.{ends_line, is_between, is_card_sign}};
+ghost use Rattle.fc_import.specs.Words.{is_space, is_suit_sign, is_unseen, is_wide, number_of};
+ghost use Rattle.fc_import.specs.Words.{sign_of, stands_for, text_after, text_read};
 
 use crate::decoding::decode;
 use std::alloc::{AllocError, Global};

@@ -1,6 +1,7 @@
 //! What becomes of each piece of a text, and how many pieces it becomes of.
 ghost use Rattle.std.specs.Prelude.{◌++◌, ◌+◌, ◌≡◌, OnOk};
-ghost use Rattle.fc_import.specs.{count_text, counted, plus, refusals, tally_line, tally_of};
+ghost use Rattle.fc_import.specs.Import.{count_text, refusals, tally_line};
+ghost use Rattle.fc_import.specs.Notes.{counted, plus, tally_of};
 
 use fc_record::push_number;
 use std::alloc::AllocError;

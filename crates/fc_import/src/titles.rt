@@ -79,46 +79,33 @@ pub(crate) fn is_of_variant<R: Rule>(line: &[u8]) -> bool {
 pub(crate) fn variant_titled(line: &[u8]) -> Option<Variant> {
     let mut left = line;
     for _at in 0..line.len() {
-        match left {
-            [
-                b'B' | b'b',
-                b'A' | b'a',
-                b'K' | b'k',
-                b'E' | b'e',
-                b'R' | b'r',
-                ..
-            ] => {
-                return Some(Variant::BakersGame);
-            }
-            [
-                b'E' | b'e',
-                b'I' | b'i',
-                b'G' | b'g',
-                b'H' | b'h',
-                b'T' | b't',
-                b' ' | b'_' | b'-',
-                b'O' | b'o',
-                b'F' | b'f',
-                ..
-            ] => {
-                return Some(Variant::EightOff);
-            }
-            [
-                b'F' | b'f',
-                b'R' | b'r',
-                b'E' | b'e',
-                b'E' | b'e',
-                b'C' | b'c',
-                b'E' | b'e',
-                b'L' | b'l',
-                b'L' | b'l',
-                ..
-            ] => {
-                return Some(Variant::FreeCell);
-            }
-            [_, rest @ ..] => left = rest,
-            [] => return None,
+        let variant = variant_in_front(left);
+        if variant.is_some() {
+            return variant;
         }
+        left = match left {
+            [_, rest @ ..] => rest,
+            [] => return None,
+        };
     }
     None
+}
+
+// The game that the text begins with.
+fn variant_in_front(text: &[u8]) -> Option<Variant> {
+    match text {
+        [b'B' | b'b', ..] if begins_with(text, b"baker") => Some(Variant::BakersGame),
+        [b'E' | b'e', _, _, _, _, b' ' | b'_' | b'-', off @ ..]
+            if begins_with(text, b"eight") && begins_with(off, b"of") => { Some(Variant::EightOff) }
+        [b'F' | b'f', ..] if begins_with(text, b"freecell") => Some(Variant::FreeCell),
+        _ => None,
+    }
+}
+
+// Whether the text begins with the word, in any case.
+fn begins_with(text: &[u8], word: &[u8]) -> bool {
+    match text.get(..word.len()) {
+        Some(front) => front.eq_ignore_ascii_case(word),
+        None => false,
+    }
 }

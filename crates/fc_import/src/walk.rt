@@ -2,7 +2,7 @@
 ghost use Rattle.std.specs.{Fmt.{decimal}, Prelude.{◌++◌, ◌-◌, ◌<◌, ◌≡◌, ◌≤◌, ◌⊎◌, codes}};
 ghost use Rattle.std.specs.Prelude.{if◌then◌else◌, length, OnOk};
 ghost use Rattle.fc_import.specs.inside.{place_of, printing, PutsNote};
-ghost use Rattle.fc_import.specs.{is_between, line_after, place_text};
+ghost use Rattle.fc_import.specs.{Notes.{line_after, place_text}, Words.{is_between}};
 
 use crate::tally::counted;
 use fc_record::push_number;

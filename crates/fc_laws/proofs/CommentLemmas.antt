@@ -1,43 +1,36 @@
 -- A comment before a text changes nothing of what it spells.
 use Rattle.std.proofs.Common.{◌++◌, ◌+◌, ◌-◌, ◌==◌, ◌∙◌, ◌∷◌, ◌≡◌, ◌≤◌, [], All, ap, append_assoc}
-use Rattle.std.proofs.Common.{ap₂, arith, Bool, cond, drop, false, if◌then◌else◌, length}
-use Rattle.std.proofs.Common.{length-append, List, map, None, not, Ok, Option, refl, Result, Some}
-use Rattle.std.proofs.Common.{subst, suc, sym, take, true, zero, ℕ}
+use Rattle.std.proofs.Common.{arith, Bool, cond, drop, false, if◌then◌else◌, length, length-append}
+use Rattle.std.proofs.Common.{List, map, None, not, Ok, Option, refl, Result, Some, suc, take, true}
+use Rattle.std.proofs.{Common.{zero, ℕ}, lemmas.List.{drop-append-le}}
+use Rattle.std.proofs.lemmas.List.{Elements.{All-cons, All-head, All-tail}, Folds.{find-append}}
+use Rattle.std.proofs.lemmas.{List.{length-map, map-append, take-append-le}, Option.{same_Some}}
 use Rattle.std.proofs.Math.Seq.{drop-length, take-length}
-use Rattle.std.proofs.lemmas.List.{drop-append-le, length-map, map-append, take-append-le}
-use Rattle.std.proofs.lemmas.List.Elements.{All-cons, All-head, All-tail}
-use Rattle.std.proofs.lemmas.List.Folds.{find-append}
-use Rattle.std.proofs.lemmas.Option.{same_Some}
 use Rattle.std.specs.List.{after_first, find, flat_map, position_or_len, prefix_len}
 use Rattle.std.specs.Option.{option_map, option_or, unwrap_or}
-use Rattle.fc_parts.specs.{Board, Game, game_of, MoveList}
-use Rattle.fc_parts.specs.declared.rule.Variant.{Variant}
-use Rattle.fc_print.proofs.LineLemmas.{first_line, InLine, lines_are_pieces, lines_from-moved}
-use Rattle.fc_print.proofs.NextLineLemmas.{piece_within}
-use Rattle.fc_print.proofs.WordLemmas.{words_from-moved}
-use Rattle.fc_print.specs.{Blank, cells_names, colon, Column, column_row, columns_left, Comment}
-use Rattle.fc_print.specs.{Content, Foundations, Freecells, heights_names, is_colon, is_empty}
-use Rattle.fc_print.specs.{is_gap, is_named, IsPieceOf, Line, line_feed, line_of, line_of_front}
-use Rattle.fc_print.specs.{lines_from, moved, named_row, number_sign, Piece, Row, row_of, RowKind}
-use Rattle.fc_print.specs.{rows_of, rows_of_lines, rows_within, trim_carriage_return, words_from}
-use Rattle.fc_text.proofs.BlankLineLemmas.{begins_comment, spelled_with_comment}
-use Rattle.fc_text.specs.{card_spelled, cell_spelled, foundation_spelled, is_section, lines_of}
-use Rattle.fc_text.specs.{Spells, words_of}
+use Rattle.fc_board.specs.{Boards.{Board}, Games.{Game, game_of}, Moves.{MoveList}}
+use Rattle.fc_board.specs.declared.rule.Variant.{Variant}
+use Rattle.fc_text.proofs.BlankLineLemmas.{begins_comment, skipped, spelled_with_comment}
+use Rattle.fc_text.proofs.LineLemmas.{first_line, InLine, lines_are_pieces, lines_from-moved}
+use Rattle.fc_text.proofs.{NextLineLemmas.{piece_within}, WordLemmas.{words_from-moved}}
+use Rattle.fc_text.specs.{Bytes.{colon, is_gap, line_feed, number_sign}, Lines.{IsPieceOf}}
+use Rattle.fc_text.specs.Lines.{lines_from, moved, Piece, trim_carriage_return, words_from}
+use Rattle.fc_text.specs.Rows.{Blank, cells_names, column_row, columns_left, Comment, Content}
+use Rattle.fc_text.specs.Rows.{heights_names, is_colon, is_empty, is_named, Line, line_of}
+use Rattle.fc_text.specs.Rows.{line_of_front, named_row, Row, row_of, rows_of, rows_of_lines}
+use Rattle.fc_text.specs.{Rows.{rows_within}, Spelling.{card_spelled, cell_spelled}}
+use Rattle.fc_text.specs.Spelling.{foundation_spelled, is_section, lines_of, Spells, words_of}
+use Rattle.fc_text.specs.declared.board.reader.Section.{Section}
+use Rattle.fc_text.specs.declared.board.reader.Section.TheVariants.{Column, Foundations, Freecells}
 use Rattle.fc_record.proofs.ContentsLemmas.{begins_list}
 use Rattle.fc_record.proofs.TextLineLemmas.{ends-drop, last_byte, lines_after}
-use Rattle.fc_record.specs.{Accepted, after_header, AreLists, begins_with, board_part, Contents}
-use Rattle.fc_record.specs.{ends_line, header_line, header_mark, Heading, heading_of}
-use Rattle.fc_record.specs.{heading_of_words, is_line_feed, list_lines, lists_start, next_list}
-use Rattle.fc_record.specs.{no_lines, reading_of, skipped_line, without_header}
+use Rattle.fc_record.specs.Grammar.{Accepted, after_header, AreLists, begins_with, board_part}
+use Rattle.fc_record.specs.Grammar.{Contents, header_line, Heading, heading_of, heading_of_words}
+use Rattle.fc_record.specs.Grammar.{is_line_feed, list_lines, lists_start, next_list, no_lines}
+use Rattle.fc_record.specs.Grammar.{reading_of, skipped_line, without_header}
+use Rattle.fc_record.specs.RecordTexts.{ends_line, header_mark}
 use Rattle.fc_record.specs.declared.record.RecordFault.{RecordFault}
 use Rattle.fc_laws.proofs.AcceptanceLemmas.{accepted-from_Says, Says-from_accepted}
-
--- an empty line before all others is passed over
-passed : (line : Line) (lines : List Line) → is_empty line ≡ true → rows_of_lines (line ∷ lines) ≡ rows_of_lines lines
-passed line lines empty = ap (λ b. rows_within 8 (drop (cond b (1 + prefix_len is_empty lines) 0) (line ∷ lines))) empty ∙ ap (λ count. rows_within 8 (drop count (line ∷ lines))) one_more
-  where
-    one_more : 1 + prefix_len is_empty lines ≡ suc (prefix_len is_empty lines)
-    one_more = omega arith
 
 module _ (places : ℕ) where
   -- ---- rows, so many places later
@@ -50,15 +43,18 @@ module _ (places : ℕ) where
   moved_line (Blank start) = Blank (places + start)
   moved_line (Content row) = Content (moved_row row)
 
-  words_at : (there place : ℕ) (text : List ℕ) → there ≡ places + place → words_from is_gap there text ≡ map (moved places) (words_from is_gap place text)
-  words_at there place text same = ap (λ at. words_from is_gap at text) same ∙ words_from-moved is_gap places place text
+  words_at : (there place : ℕ) (text : List ℕ) → there ≡ places + place
+      → words_from is_gap there text ≡ map (moved places) (words_from is_gap place text)
+  words_at there place text same = rw (same, words_from-moved is_gap places place text)
 
-  abbrev row_with : RowKind → ℕ → List Piece → Row
+  abbrev row_with : Section → ℕ → List Piece → Row
   row_with section start words = record { section = section; start = start; words = words }
 
-  named_moved : (section : RowKind) (start : ℕ) (bytes : List ℕ) → named_row section (places + start) bytes ≡ moved_row (named_row section start bytes)
+  named_moved : (section : Section) (start : ℕ) (bytes : List ℕ)
+      → named_row section (places + start) bytes ≡ moved_row (named_row section start bytes)
   named_moved section start bytes =
-      ap (row_with section (places + start)) (words_at (places + start + position_or_len is_colon bytes + 1) (start + position_or_len is_colon bytes + 1) (after_first is_colon bytes) (omega arith))
+      ap (row_with section (places + start)) (words_at (places + start + position_or_len is_colon bytes + 1)
+      (start + position_or_len is_colon bytes + 1) (after_first is_colon bytes) (omega arith))
 
   column_moved : (start : ℕ) (bytes : List ℕ) → column_row (places + start) bytes ≡ moved_row (column_row start bytes)
   column_moved start [] = refl
@@ -84,18 +80,20 @@ module _ (places : ℕ) where
   front_moved there start [] same = ap Blank same
   front_moved there start (byte ∷ rest) same = by (byte == number_sign)
     where
-      by : (b : Bool) → (if b then Comment else Content (row_of there (byte ∷ rest))) ≡ moved_line (if b then Comment else Content (row_of start (byte ∷ rest)))
+      by : (b : Bool)
+          → (if b then Comment else Content (row_of there (byte ∷ rest))) ≡ moved_line (if b then Comment else Content (row_of start (byte ∷ rest)))
       by true = refl
       by false = ap Content (ap (λ at. row_of at (byte ∷ rest)) same ∙ row_moved start (byte ∷ rest))
 
   line_moved : (line : Piece) → line_of (moved places line) ≡ moved_line (line_of line)
   line_moved line =
       let bytes = trim_carriage_return line.bytes in
-      front_moved (places + line.start + prefix_len is_gap bytes) (line.start + prefix_len is_gap bytes) (drop (prefix_len is_gap bytes) bytes) (omega arith)
+      front_moved (places + line.start + prefix_len is_gap bytes) (line.start + prefix_len is_gap bytes)
+      (drop (prefix_len is_gap bytes) bytes) (omega arith)
 
   lines_moved : (lines : List Piece) → map line_of (map (moved places) lines) ≡ map moved_line (map line_of lines)
   lines_moved [] = refl
-  lines_moved (line ∷ lines) = ap₂ (λ first rest. first ∷ rest) (line_moved line) (lines_moved lines)
+  lines_moved (line ∷ lines) = rw (line_moved line, lines_moved lines)
 
   -- ---- rows of lines
 
@@ -103,70 +101,80 @@ module _ (places : ℕ) where
   within_moved left [] = refl
   within_moved left (Comment ∷ lines) = within_moved left lines
   within_moved zero (Blank start ∷ lines) = within_moved zero lines
-  within_moved (suc left) (Blank start ∷ lines) = ap (λ rows. column_row (places + start) [] ∷ rows) (within_moved left lines)
-  within_moved left (Content row ∷ lines) = ap (λ rows. moved_row row ∷ rows) (within_moved (columns_left row.section left) lines)
+  within_moved (suc left) (Blank start ∷ lines) = rw (within_moved left lines)
+  within_moved left (Content row ∷ lines) = rw (within_moved (columns_left row.section left) lines)
 
   of_lines_moved : (lines : List Line) → rows_of_lines (map moved_line lines) ≡ map moved_row (rows_of_lines lines)
   of_lines_moved [] = refl
-  of_lines_moved (Comment ∷ lines) = passed Comment (map moved_line lines) refl ∙ of_lines_moved lines ∙ ap (map moved_row) (sym (passed Comment lines refl))
-  of_lines_moved (Blank start ∷ lines) = passed (Blank (places + start)) (map moved_line lines) refl ∙ of_lines_moved lines ∙ ap (map moved_row) (sym (passed (Blank start) lines refl))
+  of_lines_moved (Comment ∷ lines) = rw (skipped Comment (map moved_line lines) refl, of_lines_moved lines, skipped Comment lines refl)
+  of_lines_moved (Blank start ∷ lines) =
+      rw (skipped (Blank (places + start)) (map moved_line lines) refl, of_lines_moved lines, skipped (Blank start) lines refl)
   of_lines_moved (Content row ∷ lines) = within_moved 8 (Content row ∷ lines)
 
   -- ---- what rows spell
 
-  section_moved : (section : RowKind) (rows : List Row) → lines_of section (map moved_row rows) ≡ map moved_row (lines_of section rows)
+  section_moved : (section : Section) (rows : List Row) → lines_of section (map moved_row rows) ≡ map moved_row (lines_of section rows)
   section_moved section [] = refl
   section_moved section (row ∷ rows) = by (is_section section row.section) (section_moved section rows)
     where
       by : (b : Bool) → lines_of section (map moved_row rows) ≡ map moved_row (lines_of section rows)
-          → cond b (moved_row row ∷ lines_of section (map moved_row rows)) (lines_of section (map moved_row rows)) ≡ map moved_row (cond b (row ∷ lines_of section rows) (lines_of section rows))
-      by true e = ap (λ rest. moved_row row ∷ rest) e
+          → cond b (moved_row row ∷ lines_of section (map moved_row rows)) (lines_of section (map moved_row rows))
+          ≡ map moved_row (cond b (row ∷ lines_of section rows) (lines_of section rows))
+      by true e = rw e
       by false e = e
 
   module _ {X : Type 0} (spelled : List ℕ → Option X) where
     spelled_words : (words : List Piece) → map (λ word. spelled word.bytes) (map (moved places) words) ≡ map (λ word. spelled word.bytes) words
     spelled_words [] = refl
-    spelled_words (word ∷ words) = ap (λ rest. spelled word.bytes ∷ rest) (spelled_words words)
+    spelled_words (word ∷ words) = rw (spelled_words words)
 
-    spelled_rows : (rows : List Row) → map (λ word. spelled word.bytes) (flat_map (λ row. row.words) (map moved_row rows)) ≡ map (λ word. spelled word.bytes) (flat_map (λ row. row.words) rows)
+    spelled_rows : (rows : List Row)
+        → map (λ word. spelled word.bytes) (flat_map (λ row. row.words) (map moved_row rows))
+        ≡ map (λ word. spelled word.bytes) (flat_map (λ row. row.words) rows)
     spelled_rows [] = refl
-    spelled_rows (row ∷ rows) =
-        map-append (λ word. spelled word.bytes) (map (moved places) row.words) (flat_map (λ row. row.words) (map moved_row rows))
-        ∙ ap₂ (λ first rest. first ++ rest) (spelled_words row.words) (spelled_rows rows)
-        ∙ sym (map-append (λ word. spelled word.bytes) row.words (flat_map (λ row. row.words) rows))
+    spelled_rows (row ∷ rows) = rw (
+      map-append (λ word. spelled word.bytes) (map (moved places) row.words) (flat_map (λ row. row.words) (map moved_row rows)),
+      spelled_words row.words,
+      spelled_rows rows,
+      map-append (λ word. spelled word.bytes) row.words (flat_map (λ row. row.words) rows),
+    )
 
-    each_row : (rows : List Row) → map (λ row. map (λ word. spelled word.bytes) row.words) (map moved_row rows) ≡ map (λ row. map (λ word. spelled word.bytes) row.words) rows
+    each_row : (rows : List Row)
+        → map (λ row. map (λ word. spelled word.bytes) row.words) (map moved_row rows) ≡ map (λ row. map (λ word. spelled word.bytes) row.words) rows
     each_row [] = refl
-    each_row (row ∷ rows) = ap₂ (λ first rest. first ∷ rest) (spelled_words row.words) (each_row rows)
+    each_row (row ∷ rows) = rw (spelled_words row.words, each_row rows)
 
-  spelled_moved : (game : Game) (text other : List ℕ) (board : Board) → rows_of other ≡ map moved_row (rows_of text) → Spells game text board → Spells game other board
+  spelled_moved : (game : Game) (text other : List ℕ) (board : Board) → rows_of other ≡ map moved_row (rows_of text)
+      → Spells game text board → Spells game other board
   spelled_moved game text other board same spells = record {
     foundations = spells.foundations;
     cells = spells.cells;
     columns = spells.columns;
-    one_foundations_line = subst (λ n. n ≤ 1) (sym (ap length (rows Foundations) ∙ length-map (lines_of Foundations (rows_of text)) moved_row)) spells.one_foundations_line;
+    one_foundations_line = rw (rows Foundations, length-map (lines_of Foundations (rows_of text)) moved_row) spells.one_foundations_line;
     foundations_spelled = words foundation_spelled Foundations ∙ spells.foundations_spelled;
     distinct_suits = spells.distinct_suits;
     heights_given = spells.heights_given;
-    one_cells_line = subst (λ n. n ≤ 1) (sym (ap length (rows Freecells) ∙ length-map (lines_of Freecells (rows_of text)) moved_row)) spells.one_cells_line;
+    one_cells_line = rw (rows Freecells, length-map (lines_of Freecells (rows_of text)) moved_row) spells.one_cells_line;
     cells_spelled = words cell_spelled Freecells ∙ spells.cells_spelled;
     cells_fit = spells.cells_fit;
     cells_given = spells.cells_given;
     columns_fit = spells.columns_fit;
-    columns_spelled = ap (map (λ row. map (λ word. card_spelled word.bytes) row.words)) (rows Column) ∙ each_row card_spelled (lines_of Column (rows_of text)) ∙ spells.columns_spelled;
+    columns_spelled = rw (rows Column, each_row card_spelled (lines_of Column (rows_of text)), spells.columns_spelled);
     columns_given = spells.columns_given;
     well_formed = spells.well_formed;
   }
     where
-      rows : (section : RowKind) → lines_of section (rows_of other) ≡ map moved_row (lines_of section (rows_of text))
-      rows section = ap (lines_of section) same ∙ section_moved section (rows_of text)
+      rows : (section : Section) → lines_of section (rows_of other) ≡ map moved_row (lines_of section (rows_of text))
+      rows section = rw (same, section_moved section (rows_of text))
 
-      words : {X : Type 0} (spelled : List ℕ → Option X) (section : RowKind) → map (λ word. spelled word.bytes) (words_of section (rows_of other)) ≡ map (λ word. spelled word.bytes) (words_of section (rows_of text))
-      words spelled section = ap (λ rows. map (λ word. spelled word.bytes) (flat_map (λ row. row.words) rows)) (rows section) ∙ spelled_rows spelled (lines_of section (rows_of text))
+      words : {X : Type 0} (spelled : List ℕ → Option X) (section : Section)
+          → map (λ word. spelled word.bytes) (words_of section (rows_of other)) ≡ map (λ word. spelled word.bytes) (words_of section (rows_of text))
+      words spelled section = rw (rows section, spelled_rows spelled (lines_of section (rows_of text)))
 
 pub spelled-comment_before : (game : Game) (comment text : List ℕ) (board : Board) → All InLine comment → Spells game text board
     → Spells game ((number_sign ∷ comment ++ line_feed ∷ []) ++ text) board
-spelled-comment_before game comment text board in_line spells = spelled_moved (length line + 1) game text ((line ++ line_feed ∷ []) ++ text) board rows spells
+spelled-comment_before game comment text board in_line spells =
+    spelled_moved (length line + 1) game text ((line ++ line_feed ∷ []) ++ text) board rows spells
   where
     line : List ℕ
     line = number_sign ∷ comment
@@ -175,15 +183,17 @@ spelled-comment_before game comment text board in_line spells = spelled_moved (l
     lines =
         ap (lines_from 0) (append_assoc line (line_feed ∷ []) text)
         ∙ first_line 0 line text (All-cons InLine number_sign comment (λ e. absurd (omega (arith, e))) in_line)
-        ∙ ap (λ lines. record { start = 0; bytes = line } ∷ lines) (ap (λ at. lines_from at text) (omega arith) ∙ lines_from-moved (length line + 1) 0 text)
+        ∙ ap (λ lines. record { start = 0; bytes = line } ∷ lines)
+        (ap (λ at. lines_from at text) (omega arith) ∙ lines_from-moved (length line + 1) 0 text)
 
     rows : rows_of ((line ++ line_feed ∷ []) ++ text) ≡ map (moved_row (length line + 1)) (rows_of text)
-    rows =
-        ap (λ lines. rows_of_lines (map line_of lines)) lines
-        ∙ ap (λ first. rows_of_lines (first ∷ map line_of (map (moved (length line + 1)) (lines_from 0 text)))) (begins_comment 0 comment)
-        ∙ passed Comment (map line_of (map (moved (length line + 1)) (lines_from 0 text))) refl
-        ∙ ap rows_of_lines (lines_moved (length line + 1) (lines_from 0 text))
-        ∙ of_lines_moved (length line + 1) (map line_of (lines_from 0 text))
+    rows = rw (
+      lines,
+      begins_comment 0 comment,
+      skipped Comment (map line_of (map (moved (length line + 1)) (lines_from 0 text))) refl,
+      lines_moved (length line + 1) (lines_from 0 text),
+      of_lines_moved (length line + 1) (map line_of (lines_from 0 text)),
+    )
 
 -- ---- a comment after a record that is accepted changes nothing of what it says
 
@@ -191,8 +201,10 @@ spelled-comment_before game comment text board in_line spells = spelled_moved (l
 AreLists-more : {game : Game} {lines : List Piece} {lists : List MoveList} (line : Piece) → begins_list line ≡ false → is_empty (line_of line) ≡ true
     → AreLists game lines lists → AreLists game (lines ++ line ∷ []) lists
 AreLists-more line no_list empty no_lines = skipped_line no_lines line no_list empty
-AreLists-more line no_list empty (next_list rest first list begins_list listed) = next_list (AreLists-more line no_list empty rest) first list begins_list listed
-AreLists-more line no_list empty (skipped_line rest first begins_list is_blank) = skipped_line (AreLists-more line no_list empty rest) first begins_list is_blank
+AreLists-more line no_list empty (next_list rest first list begins_list listed) =
+    next_list (AreLists-more line no_list empty rest) first list begins_list listed
+AreLists-more line no_list empty (skipped_line rest first begins_list is_blank) =
+    skipped_line (AreLists-more line no_list empty rest) first begins_list is_blank
 
 -- what is found is among the items
 found-All : {X : Type 0} (P : X → Type 0) (test : X → Bool) (xs : List X) (x : X) → find test xs ≡ Some x → All P xs → P x
@@ -200,7 +212,7 @@ found-All P test [] x e are = absurd (cc)
 found-All P test (first ∷ xs) x e are = by_test (test first) e (λ e. found-All P test xs x e (All-tail P first xs are))
   where
     by_test : (b : Bool) → cond b (Some first) (find test xs) ≡ Some x → (find test xs ≡ Some x → P x) → P x
-    by_test true e later = subst P (same_Some first x e) (All-head P first xs are)
+    by_test true e later = rw (same_Some first x e) at (All-head P first xs are)
     by_test false e later = later e
 
 -- a list begins within its text
@@ -223,11 +235,13 @@ module _ (body comment : List ℕ) (ends : ends_line body ≡ true) (are : All I
   abbrev piece_at : ℕ → Piece
   piece_at place = record { start = place; bytes = line }
 
-  lines_more : (place count : ℕ) → lines_from place (drop count body ++ more) ≡ lines_from place (drop count body) ++ piece_at (place + length (drop count body)) ∷ []
+  lines_more : (place count : ℕ)
+      → lines_from place (drop count body ++ more) ≡ lines_from place (drop count body) ++ piece_at (place + length (drop count body)) ∷ []
   lines_more place count =
-      lines_after place (drop count body) more (ends-drop count body ends)
-      ∙ ap (λ lines. lines_from place (drop count body) ++ lines)
-      (first_line (place + length (drop count body)) line [] (All-cons InLine number_sign comment (λ e. absurd (omega (arith, e))) are))
+      rw (
+        lines_after place (drop count body) more (ends-drop count body ends),
+        first_line (place + length (drop count body)) line [] (All-cons InLine number_sign comment (λ e. absurd (omega (arith, e))) are),
+      )
 
   abbrev found : Option Piece
   found = find begins_list (lines_from 0 body)
@@ -236,9 +250,7 @@ module _ (body comment : List ℕ) (ends : ends_line body ≡ true) (are : All I
   start_by found text = unwrap_or (option_map (λ line. line.start) found) (length text)
 
   starts_more : lists_start (body ++ more) ≡ start_by found (body ++ more)
-  starts_more =
-      ap (λ lines. start_by (find begins_list lines) (body ++ more)) (lines_more 0 0)
-      ∙ ap (λ found. start_by found (body ++ more)) (find-append begins_list (lines_from 0 body) (piece_at (0 + length body) ∷ []) ∙ or_none found)
+  starts_more = rw (lines_more 0 0, find-append begins_list (lines_from 0 body) (piece_at (0 + length body) ∷ []), or_none found)
     where
       or_none : (found : Option Piece) → option_or found None ≡ found
       or_none (Some first) = refl
@@ -253,26 +265,25 @@ module _ (body comment : List ℕ) (ends : ends_line body ≡ true) (are : All I
     ReadsFrom start text = Spells game (take start text) board × AreLists game (lines_from (place + start) (drop start text)) lists
 
     commented : ReadsAs body → ReadsAs (body ++ more)
-    commented reads = subst (λ start. ReadsFrom start (body ++ more)) (sym starts_more) (by_found found refl)
+    commented reads = rw starts_more (by_found found refl)
       where
         by_found : (first : Option Piece) → found ≡ first → ReadsFrom (start_by first (body ++ more)) (body ++ more)
         by_found (Some first) e =
             let start = first.start in
             let within : start ≤ length body = starts_within body first e in
-            let before : ReadsFrom start body = subst (λ found. ReadsFrom (start_by found body) body) e reads in
+            let before : ReadsFrom start body = rw e at reads in
             let later = lines_more (place + start) start in
             let last = piece_at (place + start + length (drop start body)) in (
-              subst (λ text. Spells game text board) (sym (take-append-le start body more within)) before.0,
-              subst (λ lines. AreLists game lines lists) (sym (ap (lines_from (place + start)) (drop-append-le start body more within) ∙ later))
-                  (AreLists-more last refl (ap is_empty (begins_comment last.start comment)) before.1),
+              rw (take-append-le start body more within) before.0,
+              rw (drop-append-le start body more within, later) (AreLists-more last refl (ap is_empty (begins_comment last.start comment)) before.1),
             )
         by_found None e =
-            let before : ReadsFrom (length body) body = subst (λ found. ReadsFrom (start_by found body) body) e reads in
-            let whole = subst (λ text. Spells game text board) (take-length body) before.0 in
-            let no_lists = subst (λ text. AreLists game (lines_from (place + length body) text) lists) (drop-length body) before.1 in (
-              subst (λ text. Spells game text board) (sym (take-length (body ++ more)))
-                  (spelled_with_comment game body (body ++ more) (piece_at (0 + length body)) board (lines_more 0 0) (begins_comment (0 + length body) comment) whole),
-              subst (λ text. AreLists game (lines_from (place + length (body ++ more)) text) lists) (sym (drop-length (body ++ more))) no_lists,
+            let before : ReadsFrom (length body) body = rw e at reads in
+            let whole = rw (take-length body) at before.0 in
+            let no_lists = rw (drop-length body) at before.1 in (
+              rw (take-length (body ++ more)) (spelled_with_comment game body (body ++ more) (piece_at (0 + length body)) board
+                  (lines_more 0 0) (begins_comment (0 + length body) comment) whole),
+              rw (drop-length (body ++ more)) no_lists,
             )
 
 -- ---- the header
@@ -280,45 +291,55 @@ module _ (body comment : List ℕ) (ends : ends_line body ≡ true) (are : All I
 -- where the first line feed of a text is that one ends
 first_feed : (text zs ws : List ℕ) → position_or_len is_line_feed (text ++ line_feed ∷ zs) ≡ position_or_len is_line_feed (text ++ line_feed ∷ ws)
 first_feed [] zs ws = refl
-first_feed (byte ∷ text) zs ws = ap (λ n. cond (not (is_line_feed byte)) (1 + n) 0) (first_feed text zs ws)
+first_feed (byte ∷ text) zs ws = rw (first_feed text zs ws)
 
 feed_within : (text zs : List ℕ) → position_or_len is_line_feed (text ++ line_feed ∷ zs) ≤ length text
 feed_within [] zs = omega arith
 feed_within (byte ∷ text) zs = by_test (not (is_line_feed byte)) (feed_within text zs)
   where
-    by_test : (b : Bool) → position_or_len is_line_feed (text ++ line_feed ∷ zs) ≤ length text → cond b (1 + position_or_len is_line_feed (text ++ line_feed ∷ zs)) 0 ≤ length (byte ∷ text)
+    by_test : (b : Bool) → position_or_len is_line_feed (text ++ line_feed ∷ zs) ≤ length text
+        → cond b (1 + position_or_len is_line_feed (text ++ line_feed ∷ zs)) 0 ≤ length (byte ∷ text)
     by_test true h = omega arith
     by_test false h = omega arith
 
 module _ (bytes more : List ℕ) (ends : ends_line bytes ≡ true) (unmarked : begins_with header_mark more ≡ false) where
   -- the first line is the same, and the rest is longer
   abbrev pub FrontKept : Type 0
-  FrontKept = (begins_with header_mark (bytes ++ more) ≡ begins_with header_mark bytes) × (begins_with header_mark bytes ≡ true → header_line (bytes ++ more) ≡ header_line bytes)
+  FrontKept =
+      (begins_with header_mark (bytes ++ more) ≡ begins_with header_mark bytes)
+      × (begins_with header_mark bytes ≡ true → header_line (bytes ++ more) ≡ header_line bytes)
       × (after_header (bytes ++ more) ≡ after_header bytes ++ more) × (ends_line (after_header bytes) ≡ true)
 
   pub front_kept : FrontKept
   front_kept = by_bytes bytes ends
     where
       -- where there is a header it ends within the text
-      by_header : (text : List ℕ) (feed : ℕ) → ends_line text ≡ true → position_or_len is_line_feed text ≡ feed → feed + 1 ≤ length text → position_or_len is_line_feed (text ++ more) ≡ feed
-          → (header_line (text ++ more) ≡ header_line text) × (after_first is_line_feed (text ++ more) ≡ after_first is_line_feed text ++ more) × (ends_line (after_first is_line_feed text) ≡ true)
+      by_header : (text : List ℕ) (feed : ℕ) → ends_line text ≡ true → position_or_len is_line_feed text ≡ feed → feed + 1 ≤ length text
+          → position_or_len is_line_feed (text ++ more) ≡ feed
+          → (header_line (text ++ more) ≡ header_line text)
+          × (after_first is_line_feed (text ++ more) ≡ after_first is_line_feed text ++ more)
+          × (ends_line (after_first is_line_feed text) ≡ true)
       by_header text feed ends first within longer = (
-        ap (λ n. trim_carriage_return (take n (text ++ more))) longer ∙ ap trim_carriage_return (take-append-le feed text more (omega (arith, within))) ∙ ap (λ n. trim_carriage_return (take n text)) (sym first),
-        ap (λ n. drop (n + 1) (text ++ more)) longer ∙ drop-append-le (feed + 1) text more within ∙ ap (λ n. drop (n + 1) text ++ more) (sym first),
+        rw (longer, take-append-le feed text more (omega (arith, within)), first),
+        rw (longer, drop-append-le (feed + 1) text more within, first),
         ends-drop (position_or_len is_line_feed text + 1) text ends,
       )
 
       by_bytes : (bytes : List ℕ) → ends_line bytes ≡ true
-          → (begins_with header_mark (bytes ++ more) ≡ begins_with header_mark bytes) × (begins_with header_mark bytes ≡ true → header_line (bytes ++ more) ≡ header_line bytes)
+          → (begins_with header_mark (bytes ++ more) ≡ begins_with header_mark bytes)
+          × (begins_with header_mark bytes ≡ true → header_line (bytes ++ more) ≡ header_line bytes)
           × (after_header (bytes ++ more) ≡ after_header bytes ++ more) × (ends_line (after_header bytes) ≡ true)
       by_bytes [] ends = (unmarked, (λ e. absurd (cc)), ap (λ b. cond b (after_first is_line_feed more) more) unmarked, refl)
       by_bytes (byte ∷ rest) ends =
           let (text, is) = last_byte byte rest ends in
-          let cut : (zs : List ℕ) → (byte ∷ rest) ++ zs ≡ text ++ line_feed ∷ zs = λ zs. ap (λ front. front ++ zs) is ∙ append_assoc text (line_feed ∷ []) zs in
+          let cut : (zs : List ℕ) → (byte ∷ rest) ++ zs ≡ text ++ line_feed ∷ zs =
+          λ zs. ap (λ front. front ++ zs) is ∙ append_assoc text (line_feed ∷ []) zs in
           let feed = position_or_len is_line_feed (text ++ line_feed ∷ []) in
           let long : length (byte ∷ rest) ≡ length text + 1 = ap length is ∙ length-append text (line_feed ∷ []) in
           let within = feed_within text [] in
-          let kept = by_header (byte ∷ rest) feed ends (ap (position_or_len is_line_feed) is) (omega (arith, long, within)) (ap (position_or_len is_line_feed) (cut more) ∙ first_feed text more []) in (
+          let kept =
+          by_header (byte ∷ rest) feed ends (ap (position_or_len is_line_feed) is) (omega (arith, long, within))
+          (ap (position_or_len is_line_feed) (cut more) ∙ first_feed text more []) in (
             refl,
             (λ e. kept.0),
             by_test (byte == header_mark) kept.1,
@@ -326,27 +347,32 @@ module _ (bytes more : List ℕ) (ends : ends_line bytes ≡ true) (unmarked : b
           )
         where
           by_test : (b : Bool) → after_first is_line_feed ((byte ∷ rest) ++ more) ≡ after_first is_line_feed (byte ∷ rest) ++ more
-              → cond b (after_first is_line_feed ((byte ∷ rest) ++ more)) ((byte ∷ rest) ++ more) ≡ cond b (after_first is_line_feed (byte ∷ rest)) (byte ∷ rest) ++ more
+              → cond b (after_first is_line_feed ((byte ∷ rest) ++ more)) ((byte ∷ rest) ++ more)
+              ≡ cond b (after_first is_line_feed (byte ∷ rest)) (byte ∷ rest) ++ more
           by_test true e = e
           by_test false e = refl
 
-          by_ends : (b : Bool) → ends_line (after_first is_line_feed (byte ∷ rest)) ≡ true → ends_line (cond b (after_first is_line_feed (byte ∷ rest)) (byte ∷ rest)) ≡ true
+          by_ends : (b : Bool) → ends_line (after_first is_line_feed (byte ∷ rest)) ≡ true
+              → ends_line (cond b (after_first is_line_feed (byte ∷ rest)) (byte ∷ rest)) ≡ true
           by_ends true e = e
           by_ends false e = ends
 
   -- so the header says the same
   pub heading_kept : (variant : Variant) → heading_of variant (bytes ++ more) ≡ heading_of variant bytes
-  heading_kept variant = ap (λ b. said b (bytes ++ more)) front_kept.0 ∙ by_test (begins_with header_mark bytes) front_kept.1
+  heading_kept variant = rw (front_kept.0, by_test (begins_with header_mark bytes) front_kept.1)
     where
       said : Bool → List ℕ → Result Heading RecordFault
-      said b text = cond b (heading_of_words (length (header_line text)) (words_from is_gap 1 (drop 1 (header_line text)))) (Ok (without_header variant))
+      said b text =
+          cond b (heading_of_words (length (header_line text)) (words_from is_gap 1 (drop 1 (header_line text)))) (Ok (without_header variant))
 
       by_test : (b : Bool) → (b ≡ true → header_line (bytes ++ more) ≡ header_line bytes) → said b (bytes ++ more) ≡ said b bytes
-      by_test true same = ap (λ line. heading_of_words (length line) (words_from is_gap 1 (drop 1 line))) (same refl)
+      by_test true same = rw (same refl)
       by_test false same = refl
 
-pub accepted-comment_after : (variant : Variant) (bytes comment : List ℕ) (heading : Heading) (contents : Contents) → ends_line bytes ≡ true → All InLine comment
-    → reading_of variant bytes ≡ Accepted heading contents → reading_of variant (bytes ++ (number_sign ∷ comment ++ line_feed ∷ [])) ≡ Accepted heading contents
+pub accepted-comment_after : (variant : Variant) (bytes comment : List ℕ) (heading : Heading) (contents : Contents)
+    → ends_line bytes ≡ true → All InLine comment
+    → reading_of variant bytes ≡ Accepted heading contents
+    → reading_of variant (bytes ++ (number_sign ∷ comment ++ line_feed ∷ [])) ≡ Accepted heading contents
 accepted-comment_after variant bytes comment heading contents ends are accepted =
     let more = number_sign ∷ comment ++ line_feed ∷ [] in
     let says = Says-from_accepted variant bytes heading contents accepted in
@@ -358,7 +384,6 @@ accepted-comment_after variant bytes comment heading contents ends are accepted 
     let reads = commented body comment kept.3 are (game_of heading.variant) contents.board contents.lists place (says.board, says.lists) in
     accepted-from_Says variant (bytes ++ more) heading contents (record {
       header = heading_kept bytes more ends refl variant ∙ says.header;
-      board = subst (λ text. Spells (game_of heading.variant) (board_part text) contents.board) (sym kept.2) reads.0;
-      lists = subst (λ place. AreLists (game_of heading.variant) (list_lines place (after_header (bytes ++ more))) contents.lists) same_place
-          (subst (λ text. AreLists (game_of heading.variant) (list_lines place text) contents.lists) (sym kept.2) reads.1);
+      board = rw kept.2 reads.0;
+      lists = rw (← same_place, kept.2) reads.1;
     })

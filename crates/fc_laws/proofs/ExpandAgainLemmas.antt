@@ -1,86 +1,95 @@
 -- What expand prints for a list, and that what it prints for a record is read as the record with its lists expanded.
 use Rattle.std.proofs.Common.{◌++◌, ◌+◌, ◌<◌, ◌↔◌, ◌∙◌, ◌∷◌, ◌≡◌, ◌≤◌, ◌⊎◌, [], All, ap, append-nil}
-use Rattle.std.proofs.Common.{append_assoc, ap₂, arith, Bool, codes, cond, Contains, drop, false}
-use Rattle.std.proofs.Common.{filter, if◌then◌else◌, inl, inr, length, List, map, nat_le, refl}
-use Rattle.std.proofs.Common.{slice_index, Some, subst, subst₂, sym, true, true≢false, ℕ}
-use Rattle.std.proofs.lemmas.Bool.{le-leb, leb-false, leb-true, lt-leb}
-use Rattle.std.proofs.lemmas.List.{append_cancel_left}
+use Rattle.std.proofs.Common.{append_assoc, arith, Bool, codes, cond, Contains, false, filter}
+use Rattle.std.proofs.Common.{if◌then◌else◌, inl, inr, length, List, map, nat_le, refl, slice_index}
+use Rattle.std.proofs.Common.{subst, sym, true, true≢false, ℕ}
+use Rattle.std.proofs.lemmas.{Bool.{le-leb, leb-false, leb-true, lt-leb}, List.{append_cancel_left}}
 use Rattle.std.proofs.lemmas.List.Elements.{All-append, All-cons, All-head, All-nil, All-tail}
-use Rattle.std.specs.Fmt.{decimal}
-use Rattle.std.specs.List.{flat_map}
-use Rattle.fc_parts.proofs.ListLemmas.{verdict-OnlyLegal, verdict-Wins}
-use Rattle.fc_parts.proofs.MoveListLemmas.{list_allowed-exactly, list_refused-exactly}
-use Rattle.fc_parts.proofs.MoveListLemmas.{list_won-exactly}
-use Rattle.fc_parts.proofs.RunPlayLemmas.{list_expanded, one_card, wins_expanded}
-use Rattle.fc_parts.specs.{Board, Fits, Game, game_of, IsWellFormed, Legal, list_verdict, ListFits}
-use Rattle.fc_parts.specs.{move_count, MoveList, OneCard, OnlyLegal, Plays, Refused, RefusedAt}
-use Rattle.fc_parts.specs.{RuleLaws, Runs, Verdict, Won}
-use Rattle.fc_parts.specs.declared.fault.StepFault.{StepFault}
-use Rattle.fc_parts.specs.declared.fault.StepFault.TheVariants as step
-use Rattle.fc_parts.specs.laws.RenamingTests.{bakers_game_laws, eight_off_laws, freecell_laws}
-use Rattle.fc_parts.specs.declared.moves.Move.{Move}
-use Rattle.fc_parts.specs.declared.rule.Variant.{Variant}
-use Rattle.fc_parts.specs.declared.rule.Variant.TheVariants.{BakersGame, EightOff, FreeCell}
-use Rattle.fc_print.proofs.LineLemmas.{InLine}
-use Rattle.fc_print.specs.{blank, line_feed, most_moves, number_sign, text_of}
-use Rattle.fc_text.proofs.PrintedTextLemmas.{text_spells}
+use Rattle.std.{proofs.lemmas.List.Elements.{All-weaker}, specs.{Fmt.{decimal}, List.{flat_map}}}
+use Rattle.fc_board.proofs.ListLemmas.{verdict-OnlyLegal, verdict-Wins}
+use Rattle.fc_board.proofs.MoveListLemmas.{list_allowed-exactly, list_refused-exactly}
+use Rattle.fc_board.proofs.MoveListLemmas.{list_won-exactly}
+use Rattle.fc_board.proofs.RunPlayLemmas.{list_expanded, one_card, wins_expanded}
+use Rattle.fc_board.specs.{Boards.{Board, IsWellFormed}, Games.{Game, game_of, RuleLaws}}
+use Rattle.fc_board.specs.Moves.{Fits, ListFits, move_count, MoveList, OneCard, Runs}
+use Rattle.fc_board.specs.Play.{Legal, list_verdict, OnlyLegal, Plays, Refused, RefusedAt, Verdict}
+use Rattle.fc_board.specs.Play.{Won}
+use Rattle.fc_board.specs.declared.fault.StepFault.{StepFault}
+use Rattle.fc_laws.proofs.ReadAgainLemmas.{all_again, AreReadAs, ReadsAgain, same_printed, Stays}
+use Rattle.fc_board.specs.declared.fault.StepFault.TheVariants as step
+use Rattle.fc_board.specs.laws.RenamingTests.{bakers_game_laws, eight_off_laws, freecell_laws}
+use Rattle.fc_board.specs.declared.moves.Move.{Move}
+use Rattle.fc_board.specs.declared.rule.Variant.TheVariants.{BakersGame, EightOff, FreeCell}
+use Rattle.fc_board.specs.declared.rule.Variant.{Variant}
+use Rattle.fc_text.proofs.{LineLemmas.{InLine}, PrintedTextLemmas.{text_spells}}
+use Rattle.fc_text.specs.{Bytes.{blank, line_feed, number_sign}, Notation.{most_moves}}
+use Rattle.fc_text.specs.Printed.{text_of}
 use Rattle.fc_record.proofs.HeadingLemmas.{heading_said}
 use Rattle.fc_record.proofs.LineLemmas.{one_card_moves-Fit, played-ListLegal}
 use Rattle.fc_record.proofs.PrintedPartLemmas.{lines_of_board}
-use Rattle.fc_record.specs.{Accepted, begins_with, check_lines, comment_line, Contents}
-use Rattle.fc_record.specs.{expand_lines, expanded_by, expanded_line, header_mark, header_text}
-use Rattle.fc_record.specs.{Heading, heading_line, list_line, list_mark, name_of, numbered_lines}
-use Rattle.fc_record.specs.{one_card_moves, printed, printed_by, Reading, reading_of, RecordText}
-use Rattle.fc_record.specs.{show_lines, step_reason, verdict_line, verdict_words, with_header}
-use Rattle.fc_run.specs.{most_countable}
-use Rattle.fc_engine.proofs.LimitLemmas.{IsNumbered}
-use Rattle.fc_engine.specs.{Member, members_among, name_of_member, output_of_records, records_of}
+use Rattle.fc_record.specs.Grammar.{Accepted, begins_with, Contents, Heading, list_mark, Reading}
+use Rattle.fc_record.specs.Printing.{check_lines, comment_line, expand_lines, expanded_by}
+use Rattle.fc_record.specs.Printing.{expanded_line, heading_line, list_line, name_of}
+use Rattle.fc_record.specs.Printing.{numbered_lines, one_card_moves, printed, show_lines}
+use Rattle.fc_record.specs.Printing.{step_reason, verdict_line, verdict_words}
+use Rattle.fc_record.specs.RecordTexts.{header_mark}
+use Rattle.fc_collect.{proofs.LimitLemmas.{IsNumbered}, specs.Groups.{Member, members_among}}
+use Rattle.fc_collect.specs.{Limits.{most_countable}, Records.{output_of_records, records_of}}
 use Rattle.fc_laws.proofs.AcceptanceLemmas.{Says-from_accepted}
 use Rattle.fc_laws.proofs.ListAfterLemmas.{IsReadAs-comment, IsReadAs-list}
 use Rattle.fc_laws.proofs.MemberLemmas.{CanPrint, IsSaid, lists_can, member-Can}
 use Rattle.fc_laws.proofs.MemberLemmas.{member-IsWellFormed, members-said}
-use Rattle.fc_laws.proofs.PrintedRecordLemmas.{board_first, lines-IsReadAs, printed_heading}
-use Rattle.fc_laws.proofs.ReadAgainLemmas.{agains-members, all_read, codes_in_line, decimal_in_line}
-use Rattle.fc_laws.proofs.ReadAgainLemmas.{IsReadAs}
+use Rattle.fc_laws.proofs.PrintedRecordLemmas.{board_first, heading_again, lines-IsReadAs}
+use Rattle.fc_laws.proofs.PrintedRecordLemmas.{printed_heading, printed_variant}
+use Rattle.fc_laws.proofs.ReadAgainLemmas.{codes_in_line, decimal_in_line, IsReadAs}
 use Rattle.fc_laws.proofs.VerdictLineLemmas.{not_both, small_index, verdict_Refused}
 
 -- ---- a list and its expansion
 
-module _ {game : Game} {renamings : List (List ℕ)} {cells count : ℕ} {kings_only : Bool} (laws : RuleLaws game renamings cells count kings_only) (board : Board) (well : IsWellFormed game board) where
+module _ {game : Game} {renamings : List (List ℕ)} {cells count : ℕ} {kings_only : Bool}
+    (laws : RuleLaws game renamings cells count kings_only) (board : Board) (well : IsWellFormed game board) where
   leads : (after : Board) (list : MoveList) → Plays game board list after → Plays game board (OneCard (one_card_moves game board list)) after
   leads after (OneCard moves) plays = plays
   leads after (Runs moves) plays = list_expanded game kings_only laws.builds_one_rank laws.fills_by_rank board after moves well plays
 
-  same_verdict : (list : MoveList) → ListFits game list → Legal game board list → list_verdict game board (OneCard (one_card_moves game board list)) ≡ list_verdict game board list
+  same_verdict : (list : MoveList) → ListFits game list → Legal game board list
+      → list_verdict game board (OneCard (one_card_moves game board list)) ≡ list_verdict game board list
   same_verdict (OneCard moves) fits legal = refl
   same_verdict (Runs moves) fits (after, plays) = by (list_verdict game board (Runs moves)) refl
     where
       four : length board.heights ≡ 4
       four = well.piles.four_foundations
 
-      by : (ensured : Verdict) → list_verdict game board (Runs moves) ≡ ensured → list_verdict game board (OneCard (one_card_moves game board (Runs moves))) ≡ list_verdict game board (Runs moves)
+      by : (ensured : Verdict) → list_verdict game board (Runs moves) ≡ ensured
+          → list_verdict game board (OneCard (one_card_moves game board (Runs moves))) ≡ list_verdict game board (Runs moves)
       by Won e =
-          let wins = (wins_expanded game kings_only laws.builds_one_rank laws.fills_by_rank board moves well).0 ((list_won-exactly game board (Runs moves) fits four).0 e) in
+          let wins =
+          (wins_expanded game kings_only laws.builds_one_rank laws.fills_by_rank board moves well).0
+          ((list_won-exactly game board (Runs moves) fits four).0 e) in
           verdict-Wins (one_card game) board wins.1.0 (one_card_moves game board (Runs moves)) wins.1.1 wins.1.2 ∙ sym e
       by OnlyLegal e =
           let allowed = (list_allowed-exactly game board (Runs moves) fits four).0 e in
-          verdict-OnlyLegal (one_card game) board after (one_card_moves game board (Runs moves)) four (leads after (Runs moves) plays) (λ won. allowed.1 (after, plays, won)) ∙ sym e
+          verdict-OnlyLegal (one_card game) board after (one_card_moves game board (Runs moves)) four (leads after (Runs moves) plays)
+          (λ won. allowed.1 (after, plays, won)) ∙ sym e
       by (Refused index fault) e = absurd (not_both game board after (Runs moves) index fault fits plays e)
 
 module _ where
-  pub expansion-leads : (own : Variant) (board : Board) → IsWellFormed (game_of own) board → (after : Board) (list : MoveList) → Plays (game_of own) board list after
+  pub expansion-leads : (own : Variant) (board : Board) → IsWellFormed (game_of own) board → (after : Board) (list : MoveList)
+      → Plays (game_of own) board list after
       → Plays (game_of own) board (OneCard (one_card_moves (game_of own) board list)) after
   expansion-leads FreeCell = leads freecell_laws
   expansion-leads BakersGame = leads bakers_game_laws
   expansion-leads EightOff = leads eight_off_laws
 
-  pub verdict-kept : (own : Variant) (board : Board) → IsWellFormed (game_of own) board → (list : MoveList) → ListFits (game_of own) list → Legal (game_of own) board list
+  pub verdict-kept : (own : Variant) (board : Board) → IsWellFormed (game_of own) board → (list : MoveList) → ListFits (game_of own) list
+      → Legal (game_of own) board list
       → list_verdict (game_of own) board (OneCard (one_card_moves (game_of own) board list)) ≡ list_verdict (game_of own) board list
   verdict-kept FreeCell = same_verdict freecell_laws
   verdict-kept BakersGame = same_verdict bakers_game_laws
   verdict-kept EightOff = same_verdict eight_off_laws
 
-  expansion-Fits : (own : Variant) (board : Board) (list : MoveList) → IsWellFormed (game_of own) board → ListFits (game_of own) list → Legal (game_of own) board list
+  expansion-Fits : (own : Variant) (board : Board) (list : MoveList) → IsWellFormed (game_of own) board → ListFits (game_of own) list
+      → Legal (game_of own) board list
       → All (Fits (game_of own)) (one_card_moves (game_of own) board list)
   expansion-Fits FreeCell = one_card_moves-Fit freecell_laws
   expansion-Fits BakersGame = one_card_moves-Fit bakers_game_laws
@@ -112,7 +121,8 @@ IsCommentLine line = (comment : List ℕ) × All InLine comment × (line ≡ num
 comment_is : (number : ℕ) (words : List ℕ) → All InLine words → IsCommentLine (comment_line number words)
 comment_is number words in_line = (
   codes " list " ++ decimal number ++ words,
-  All-append InLine (codes " list " ++ decimal number) words (All-append InLine (codes " list ") (decimal number) (codes_in_line (codes " list ") refl) (decimal_in_line number)) in_line,
+  All-append InLine (codes " list " ++ decimal number) words
+      (All-append InLine (codes " list ") (decimal number) (codes_in_line (codes " list ") refl) (decimal_in_line number)) in_line,
   refl,
 )
 
@@ -131,7 +141,8 @@ module _ (own : Variant) (board : Board) (well : IsWellFormed (game_of own) boar
   CanExpand list = Legal game board list × (length (one_card_moves game board list) ≤ most_moves)
 
   pub line-verdict : (number : ℕ) (list : MoveList) → ListFits game list
-      → (CanExpand list × (expanded_line game board number list ≡ list_line (as_one_card list))) ⊎ ((CanExpand list → ⊥) × IsCommentLine (expanded_line game board number list))
+      → (CanExpand list × (expanded_line game board number list ≡ list_line (as_one_card list)))
+      ⊎ ((CanExpand list → ⊥) × IsCommentLine (expanded_line game board number list))
   line-verdict number list fits = by_verdict (list_verdict game board list) refl
     where
       moves : List Move
@@ -141,18 +152,29 @@ module _ (own : Variant) (board : Board) (well : IsWellFormed (game_of own) boar
           → (CanExpand list × ((if b then list_line (OneCard moves) else comment_line number (codes " too long")) ≡ list_line (OneCard moves)))
           ⊎ ((CanExpand list → ⊥) × IsCommentLine (if b then list_line (OneCard moves) else comment_line number (codes " too long")))
       by_length legal true e = inl ((legal, leb-true (length moves) most_moves e), refl)
-      by_length legal false e = inr ((λ can. true≢false (sym (le-leb (length moves) most_moves can.1) ∙ e)), comment_is number (codes " too long") (codes_in_line (codes " too long") refl))
+      by_length legal false e =
+          inr (
+            (λ can. true≢false (sym (le-leb (length moves) most_moves can.1) ∙ e)),
+            comment_is number (codes " too long") (codes_in_line (codes " too long") refl),
+          )
 
       by_verdict : (ensured : Verdict) → list_verdict game board list ≡ ensured
-          → (CanExpand list × (expanded_by number ensured moves ≡ list_line (OneCard moves))) ⊎ ((CanExpand list → ⊥) × IsCommentLine (expanded_by number ensured moves))
+          → (CanExpand list × (expanded_by number ensured moves ≡ list_line (OneCard moves)))
+          ⊎ ((CanExpand list → ⊥) × IsCommentLine (expanded_by number ensured moves))
       by_verdict Won e = by_length (played-ListLegal game board list well fits true (sym e)) (nat_le (length moves) most_moves) refl
       by_verdict OnlyLegal e = by_length (played-ListLegal game board list well fits false (sym e)) (nat_le (length moves) most_moves) refl
-      by_verdict (Refused index fault) e = inr ((λ ((after, plays), short). not_both game board after list index fault fits plays e), comment_is number (verdict_words 0 (Refused index fault)) (refusal_in_line index fault))
+      by_verdict (Refused index fault) e =
+          inr (
+            (λ ((after, plays), short). not_both game board after list index fault fits plays e),
+            comment_is number (verdict_words 0 (Refused index fault)) (refusal_in_line index fault),
+          )
 
-  pub expanded-exactly : (number : ℕ) (list : MoveList) → ListFits game list → (begins_with list_mark (expanded_line game board number list) ≡ true) ↔ CanExpand list
+  pub expanded-exactly : (number : ℕ) (list : MoveList) → ListFits game list
+      → (begins_with list_mark (expanded_line game board number list) ≡ true) ↔ CanExpand list
   expanded-exactly number list fits = by (line-verdict number list fits)
     where
-      by : (CanExpand list × (expanded_line game board number list ≡ list_line (as_one_card list))) ⊎ ((CanExpand list → ⊥) × IsCommentLine (expanded_line game board number list))
+      by : (CanExpand list × (expanded_line game board number list ≡ list_line (as_one_card list)))
+          ⊎ ((CanExpand list → ⊥) × IsCommentLine (expanded_line game board number list))
           → (begins_with list_mark (expanded_line game board number list) ≡ true) ↔ CanExpand list
       by (inl (can, line)) = ((λ e. can), (λ can. ap (begins_with list_mark) line))
       by (inr (never, (comment, in_line, line))) = ((λ e. absurd (true≢false (sym e ∙ ap (begins_with list_mark) line))), (λ can. absurd (never can)))
@@ -162,7 +184,8 @@ module _ (own : Variant) (board : Board) (well : IsWellFormed (game_of own) boar
   expansion-Can list fits can = (expansion-Fits own board list well fits can.0, can.1)
 
   -- and printed as it is
-  expanded-again : (number : ℕ) (list : MoveList) → ListFits game list → CanExpand list → expanded_line game board number (as_one_card list) ≡ list_line (as_one_card list)
+  expanded-again : (number : ℕ) (list : MoveList) → ListFits game list → CanExpand list
+      → expanded_line game board number (as_one_card list) ≡ list_line (as_one_card list)
   expanded-again number list fits can = by (line-verdict number (as_one_card list) (expansion-Can list fits can).0)
     where
       again : CanExpand (as_one_card list)
@@ -187,65 +210,78 @@ module _ (own : Variant) (board : Board) (well : IsWellFormed (game_of own) boar
   numbered number lists = numbered_lines (expanded_line game board) number lists
 
   -- printed again, they are printed as they are
-  pub numbered-again : (number : ℕ) (lists : List MoveList) → All (CanPrint game) lists → numbered number (expanded_lists lists) ≡ flat_map list_line (expanded_lists lists)
+  pub numbered-again : (number : ℕ) (lists : List MoveList) → All (CanPrint game) lists
+      → numbered number (expanded_lists lists) ≡ flat_map list_line (expanded_lists lists)
   numbered-again number [] can = refl
   numbered-again number (list ∷ lists) can =
-      by (is_expanded list) refl (numbered-again number lists (All-tail (CanPrint game) list lists can)) (numbered-again (number + 1) lists (All-tail (CanPrint game) list lists can))
+      by (is_expanded list) refl (numbered-again number lists (All-tail (CanPrint game) list lists can))
+      (numbered-again (number + 1) lists (All-tail (CanPrint game) list lists can))
     where
       kept : Bool → List MoveList
       kept b = map as_one_card (cond b (list ∷ filter is_expanded lists) (filter is_expanded lists))
 
       by : (b : Bool) → is_expanded list ≡ b → numbered number (expanded_lists lists) ≡ flat_map list_line (expanded_lists lists)
-          → numbered (number + 1) (expanded_lists lists) ≡ flat_map list_line (expanded_lists lists) → numbered number (kept b) ≡ flat_map list_line (kept b)
+          → numbered (number + 1) (expanded_lists lists) ≡ flat_map list_line (expanded_lists lists)
+          → numbered number (kept b) ≡ flat_map list_line (kept b)
       by true e same later =
           let fits = (All-head (CanPrint game) list lists can).0 in
-          ap₂ (λ line lines. line ++ lines) (expanded-again number list fits ((expanded-exactly 1 list fits).0 e)) later
+          rw (expanded-again number list fits ((expanded-exactly 1 list fits).0 e), later)
       by false e same later = same
 
   module _ (variant : Variant) (has : Bool) (heading : Heading) (same : game ≡ game_of heading.variant) where
+    -- the bytes are read as the board with these lists
+    abbrev Read : List ℕ → List MoveList → Type 0
+    Read bytes lists = IsReadAs variant has bytes (Accepted heading (record { board = board; lists = lists }))
+
     pub lists_read : (number : ℕ) (lists : List MoveList) → All (CanPrint game) lists → (bytes : List ℕ) (before : List MoveList)
         → IsReadAs variant has bytes (Accepted heading (record { board = board; lists = before }))
         → IsReadAs variant has (bytes ++ numbered number lists) (Accepted heading (record { board = board; lists = before ++ expanded_lists lists }))
     lists_read number [] can bytes before is =
-        subst₂ (λ bytes lists. IsReadAs variant has bytes (Accepted heading (record { board = board; lists = lists }))) (sym (append-nil bytes)) (sym (append-nil before)) is
+        rw (append-nil bytes, append-nil before) is
     lists_read number (list ∷ lists) can bytes before is =
-        by (lists_read (number + 1) lists (All-tail (CanPrint game) list lists can)) (line-verdict number list (All-head (CanPrint game) list lists can).0)
+        by (lists_read (number + 1) lists (All-tail (CanPrint game) list lists can))
+        (line-verdict number list (All-head (CanPrint game) list lists can).0)
       where
         fits : ListFits game list
         fits = (All-head (CanPrint game) list lists can).0
 
         Later : Type 0
-        Later = (bytes : List ℕ) (before : List MoveList) → IsReadAs variant has bytes (Accepted heading (record { board = board; lists = before }))
-            → IsReadAs variant has (bytes ++ numbered (number + 1) lists) (Accepted heading (record { board = board; lists = before ++ expanded_lists lists }))
+        Later = (bytes : List ℕ) (before : List MoveList) → Read bytes before
+            → Read (bytes ++ numbered (number + 1) lists) (before ++ expanded_lists lists)
 
         kept : Bool → List MoveList
         kept b = map as_one_card (cond b (list ∷ filter is_expanded lists) (filter is_expanded lists))
 
         Goal : List ℕ → Bool → Type 0
-        Goal line b = IsReadAs variant has (bytes ++ (line ++ numbered (number + 1) lists)) (Accepted heading (record { board = board; lists = before ++ kept b }))
+        Goal line b = Read (bytes ++ (line ++ numbered (number + 1) lists)) (before ++ kept b)
 
         by_list : Later → CanExpand list → Goal (list_line (as_one_card list)) true
         by_list later can =
-            subst₂ (λ bytes lists. IsReadAs variant has bytes (Accepted heading (record { board = board; lists = lists })))
-            (append_assoc bytes (list_line (as_one_card list)) (numbered (number + 1) lists)) (append_assoc before (as_one_card list ∷ []) (expanded_lists lists))
-            (later (bytes ++ list_line (as_one_card list)) (before ++ as_one_card list ∷ [])
-            (IsReadAs-list variant has bytes heading (record { board = board; lists = before }) (as_one_card list)
-            (subst (λ game. CanPrint game (as_one_card list)) same (expansion-Can list fits can)) is))
+            let shown = as_one_card list in
+            let is_list = IsReadAs-list variant has bytes heading (record { board = board; lists = before }) shown
+            (subst (λ game. CanPrint game shown) same (expansion-Can list fits can)) is in
+            let all = later (bytes ++ list_line shown) (before ++ shown ∷ []) is_list in
+            rw (
+              append_assoc bytes (list_line shown) (numbered (number + 1) lists),
+              append_assoc before (shown ∷ []) (expanded_lists lists),
+            ) at all
 
         by_comment : Later → (comment : List ℕ) → All InLine comment → Goal (number_sign ∷ comment ++ line_feed ∷ []) false
         by_comment later comment in_line =
-            subst (λ bytes. IsReadAs variant has bytes (Accepted heading (record { board = board; lists = before ++ expanded_lists lists })))
-            (append_assoc bytes (number_sign ∷ comment ++ line_feed ∷ []) (numbered (number + 1) lists))
-            (later (bytes ++ (number_sign ∷ comment ++ line_feed ∷ [])) before (IsReadAs-comment variant has bytes comment heading (record { board = board; lists = before }) in_line is))
+            let line = number_sign ∷ comment ++ line_feed ∷ [] in
+            let is_comment = IsReadAs-comment variant has bytes comment heading (record { board = board; lists = before }) in_line is in
+            rw (append_assoc bytes line (numbered (number + 1) lists)) at (later (bytes ++ line) before is_comment)
 
         not_expanded : (CanExpand list → ⊥) → (b : Bool) → is_expanded list ≡ b → b ≡ false
         not_expanded never true e = absurd (never ((expanded-exactly 1 list fits).0 e))
         not_expanded never false e = refl
 
-        by : Later → (CanExpand list × (expanded_line game board number list ≡ list_line (as_one_card list))) ⊎ ((CanExpand list → ⊥) × IsCommentLine (expanded_line game board number list))
+        by : Later
+            → (CanExpand list × (expanded_line game board number list ≡ list_line (as_one_card list)))
+            ⊎ ((CanExpand list → ⊥) × IsCommentLine (expanded_line game board number list))
             → Goal (expanded_line game board number list) (is_expanded list)
-        by later (inl (can, line)) = subst₂ Goal (sym line) (sym ((expanded-exactly 1 list fits).1 can)) (by_list later can)
-        by later (inr (never, (comment, in_line, line))) = subst₂ Goal (sym line) (sym (not_expanded never (is_expanded list) refl)) (by_comment later comment in_line)
+        by later (inl (can, line)) = rw (line, (expanded-exactly 1 list fits).1 can) (by_list later can)
+        by later (inr (never, (comment, in_line, line))) = rw (line, not_expanded never (is_expanded list) refl) (by_comment later comment in_line)
 
 -- ---- what expand prints
 
@@ -260,15 +296,8 @@ expanded_contents member = record {
 abbrev pub expanded_again : Member → Reading
 expanded_again member = Accepted (printed_heading member) (expanded_contents member)
 
-same_game : (member : Member) → game_of member.heading.variant ≡ game_of (printed_heading member).variant
-same_game member = by member.heading.has_header
-  where
-    by : (has : Bool) → game_of member.heading.variant ≡ game_of (if has then with_header member.heading.variant (Some (name_of_member member)) else member.heading).variant
-    by true = refl
-    by false = refl
-
-expanded-IsReadAs : (variant : Variant) (number : ℕ) (bytes : List ℕ) (heading : Heading) (contents : Contents) → number ≤ most_countable → reading_of variant bytes ≡ Accepted heading contents
-    → IsReadAs variant (begins_with header_mark bytes) (expand_lines number heading contents) (expanded_again (record { number = number; heading = heading; contents = contents }))
+-- its lines are read as the record with its lists expanded
+expanded-IsReadAs : (variant : Variant) → AreReadAs variant expand_lines expanded_again
 expanded-IsReadAs variant number bytes heading contents small accepted =
     let says = Says-from_accepted variant bytes heading contents accepted in
     let member : Member = record { number = number; heading = heading; contents = contents } in
@@ -277,59 +306,42 @@ expanded-IsReadAs variant number bytes heading contents small accepted =
     let well = says.board.well_formed in
     let text = text_of contents.board in
     let alone : Contents = record { board = contents.board; lists = [] } in
-    let begun = lines-IsReadAs variant text alone (lines_of_board game contents.board well) has number heading small (heading_said variant bytes heading says.header)
+    let begun =
+    lines-IsReadAs variant text alone (lines_of_board game contents.board well) has number heading small
+    (heading_said variant bytes heading says.header)
     refl (board_first game contents.board [] well) (text_spells game contents.board well) (All-nil (CanPrint game)) contents in
-    let all = lists_read heading.variant contents.board well variant has (printed_heading member) (same_game member) 1 contents.lists (lists_can says.lists) (heading_line number heading ++ (text ++ [])) [] begun in
-    subst (λ text. IsReadAs variant has ((heading_line number heading ++ text) ++ numbered_lines (expanded_line game contents.board) 1 contents.lists) (expanded_again member)) (append-nil text) all
+    let all =
+    lists_read heading.variant contents.board well variant has (printed_heading member) (ap game_of (sym (printed_variant member))) 1 contents.lists
+    (lists_can says.lists) (heading_line number heading ++ (text ++ [])) [] begun in
+    rw (append-nil text) at all
 
 abbrev output : Variant → List ℕ → List ℕ
 output variant collection = output_of_records (printed expand_lines variant) collection
 
-pub expanded-records : (variant : Variant) (collection : List ℕ) → All (IsNumbered most_countable) (records_of collection)
-    → map (λ text. reading_of variant text.bytes) (records_of (output variant collection)) ≡ map expanded_again (members_among variant (records_of collection))
-expanded-records variant collection small =
-    (all_read variant expand_lines expanded_again (expanded-IsReadAs variant) collection small).are ∙ agains-members variant expand_lines expanded_again (expanded-IsReadAs variant) (records_of collection)
+pub expanded-records : (variant : Variant) → ReadsAgain variant expand_lines expanded_again
+expanded-records variant = all_again variant expand_lines expanded_again (expanded-IsReadAs variant)
 
 -- ---- expanded twice
 
 abbrev pub expanded_once : Member → List ℕ
 expanded_once member = show_lines member.number member.heading (expanded_contents member)
 
-lines_stay : (variant : Variant) (number : ℕ) (member : Member) → IsSaid variant member → expand_lines number (printed_heading member) (expanded_contents member) ≡ expanded_once member
-lines_stay variant number member (bytes, says) = by_header member.heading.has_header refl
-  where
-    front_of : Bool → ℕ → List ℕ
-    front_of b n = cond b (header_text member.heading.variant (name_of n member.heading.name)) []
-
-    after : List ℕ → List ℕ
-    after front = front ++ text_of member.contents.board ++ flat_map list_line (expanded_contents member).lists
-
-    lists : (front : List ℕ) → front ++ text_of member.contents.board ++ numbered_lines (expanded_line (game_of member.heading.variant) member.contents.board) 1 (expanded_contents member).lists ≡ after front
-    lists front =
-        ap (λ lines. front ++ text_of member.contents.board ++ lines)
-        (numbered-again member.heading.variant member.contents.board says.board.well_formed 1 member.contents.lists (lists_can says.lists))
-
-    by_header : (has : Bool) → member.heading.has_header ≡ has
-        → expand_lines number (cond has (with_header member.heading.variant (Some (name_of_member member))) member.heading) (expanded_contents member) ≡ expanded_once member
-    by_header true e = lists (header_text member.heading.variant (name_of_member member)) ∙ ap (λ b. after (front_of b member.number)) (sym e)
-    by_header false e = lists (front_of member.heading.has_header number) ∙ ap (λ b. after (front_of b number)) e ∙ ap (λ b. after (front_of b member.number)) (sym e)
-
-same_expanded : (variant : Variant) (texts : List RecordText) (members : List Member) → map (λ text. reading_of variant text.bytes) texts ≡ map expanded_again members
-    → All (IsSaid variant) members → flat_map (printed expand_lines variant) texts ≡ flat_map expanded_once members
-same_expanded variant [] [] e said = refl
-same_expanded variant [] (member ∷ members) e said = absurd (cc)
-same_expanded variant (text ∷ texts) [] e said = absurd (cc)
-same_expanded variant (text ∷ texts) (member ∷ members) e said =
-    let first : reading_of variant text.bytes ≡ expanded_again member = cc in
-    let later : map (λ text. reading_of variant text.bytes) texts ≡ map expanded_again members = ap (drop 1) e in
-    ap₂ (λ first later. first ++ later) (ap (printed_by expand_lines text) first ∙ lines_stay variant text.number member (All-head (IsSaid variant) member members said))
-    (same_expanded variant texts members later (All-tail (IsSaid variant) member members said))
+lines_stay : (variant : Variant) (number : ℕ) (member : Member) → IsSaid variant member
+    → expand_lines number (printed_heading member) (expanded_contents member) ≡ expanded_once member
+lines_stay variant number member (bytes, says) = rw (
+  heading_again number member,
+  printed_variant member,
+  numbered-again member.heading.variant member.contents.board says.board.well_formed 1 member.contents.lists (lists_can says.lists),
+)
 
 pub expanded-bytes : (variant : Variant) (collection : List ℕ) → All (IsNumbered most_countable) (records_of collection)
     → output variant (output variant collection) ≡ flat_map expanded_once (members_among variant (records_of collection))
 expanded-bytes variant collection small =
-    same_expanded variant (records_of (output variant collection)) (members_among variant (records_of collection))
-    (expanded-records variant collection small) (members-said variant (records_of collection))
+    let said = members-said variant (records_of collection) in
+    same_printed variant expand_lines expanded_again expanded_once
+    (records_of (output variant collection)) (members_among variant (records_of collection)) (expanded-records variant collection small)
+    (All-weaker (IsSaid variant) (Stays variant expand_lines expanded_again expanded_once)
+    (λ member said text. lines_stay variant text.number member said) (members_among variant (records_of collection)) said)
 
 -- ---- lists of the accepted records
 
@@ -346,7 +358,8 @@ module _ (variant : Variant) (collection : List ℕ) (member : Member) (there : 
   pub listed-exactly : (number : ℕ) (list : MoveList) → Contains member.contents.lists list
       → (expanded_line (game_of own) board number list ≡ list_line (OneCard (one_card_moves (game_of own) board list)))
       ↔ (Legal (game_of own) board list × (length (one_card_moves (game_of own) board list) ≤ 4096))
-  listed-exactly number list listed = by (line-verdict own board well number list (member-Can variant (records_of collection) member list there listed).0)
+  listed-exactly number list listed =
+      by (line-verdict own board well number list (member-Can variant (records_of collection) member list there listed).0)
     where
       by : (CanExpand own board well list × (expanded_line (game_of own) board number list ≡ list_line (as_one_card own board well list)))
           ⊎ ((CanExpand own board well list → ⊥) × IsCommentLine (expanded_line (game_of own) board number list))
@@ -358,7 +371,8 @@ module _ (variant : Variant) (collection : List ℕ) (member : Member) (there : 
   pub comment-exactly : (number : ℕ) (list : MoveList) → Contains member.contents.lists list
       → (begins_with number_sign (expanded_line (game_of own) board number list) ≡ true)
       ↔ (¬ (Legal (game_of own) board list × (length (one_card_moves (game_of own) board list) ≤ 4096)))
-  comment-exactly number list listed = by (line-verdict own board well number list (member-Can variant (records_of collection) member list there listed).0)
+  comment-exactly number list listed =
+      by (line-verdict own board well number list (member-Can variant (records_of collection) member list there listed).0)
     where
       by : (CanExpand own board well list × (expanded_line (game_of own) board number list ≡ list_line (as_one_card own board well list)))
           ⊎ ((CanExpand own board well list → ⊥) × IsCommentLine (expanded_line (game_of own) board number list))
@@ -370,7 +384,8 @@ module _ (variant : Variant) (collection : List ℕ) (member : Member) (there : 
       → list_verdict (game_of own) board (OneCard (one_card_moves (game_of own) board list)) ≡ list_verdict (game_of own) board list
   verdict-same list listed = verdict-kept own board well list (member-Can variant (records_of collection) member list there listed).0
 
-  pub leads-there : (after : Board) (list : MoveList) → Plays (game_of own) board list after → Plays (game_of own) board (OneCard (one_card_moves (game_of own) board list)) after
+  pub leads-there : (after : Board) (list : MoveList) → Plays (game_of own) board list after
+      → Plays (game_of own) board (OneCard (one_card_moves (game_of own) board list)) after
   leads-there = expansion-leads own board well
 
   -- ---- comments
@@ -382,7 +397,8 @@ module _ (variant : Variant) (collection : List ℕ) (member : Member) (there : 
   no_comment : (number : ℕ) (words : List ℕ) (moves : List Move) → list_line (OneCard moves) ≡ comment_line number words → ⊥
   no_comment number words moves e = let same : 62 ≡ 35 = ap (λ text. slice_index text 0) e in omega (arith, same)
 
-  no_long : (number index : ℕ) (fault : StepFault) → comment_line number (codes " too long") ≡ comment_line number (verdict_words 0 (Refused index fault)) → ⊥
+  no_long : (number index : ℕ) (fault : StepFault)
+      → comment_line number (codes " too long") ≡ comment_line number (verdict_words 0 (Refused index fault)) → ⊥
   no_long number index fault e =
       let front = comment_front number in
       let illegal = verdict_words 0 (Refused index fault) in
@@ -394,7 +410,8 @@ module _ (variant : Variant) (collection : List ℕ) (member : Member) (there : 
   abbrev by_length : ℕ → List Move → Bool → List ℕ
   by_length number moves b = if b then list_line (OneCard moves) else comment_line number (codes " too long")
 
-  never_illegal : (number index : ℕ) (fault : StepFault) (moves : List Move) (b : Bool) → by_length number moves b ≡ comment_line number (verdict_words 0 (Refused index fault)) → ⊥
+  never_illegal : (number index : ℕ) (fault : StepFault) (moves : List Move) (b : Bool)
+      → by_length number moves b ≡ comment_line number (verdict_words 0 (Refused index fault)) → ⊥
   never_illegal number index fault moves true e = no_comment number (verdict_words 0 (Refused index fault)) moves e
   never_illegal number index fault moves false e = no_long number index fault e
 
@@ -406,34 +423,43 @@ module _ (variant : Variant) (collection : List ℕ) (member : Member) (there : 
     moves = one_card_moves (game_of own) board list
 
     pub illegal-exactly : (number index : ℕ) (fault : StepFault) → index < move_count list
-        → (expanded_line (game_of own) board number list ≡ codes "# list " ++ decimal number ++ codes " illegal " ++ decimal index ++ blank ∷ step_reason fault ++ line_feed ∷ [])
+        → (expanded_line (game_of own) board number list
+        ≡ codes "# list " ++ decimal number ++ codes " illegal " ++ decimal index ++ blank ∷ step_reason fault ++ line_feed ∷ [])
         ↔ RefusedAt (game_of own) board list index fault
     illegal-exactly number index fault within = (
       λ e. (list_refused-exactly (game_of own) board list index fault can.0).0 (ahead (list_verdict (game_of own) board list) refl (e ∙ words)),
       λ at. ap (λ ensured. expanded_by number ensured moves) ((list_refused-exactly (game_of own) board list index fault can.0).1 at) ∙ sym words,
     )
       where
-        words : codes "# list " ++ decimal number ++ codes " illegal " ++ decimal index ++ blank ∷ step_reason fault ++ line_feed ∷ [] ≡ comment_line number (verdict_words 0 (Refused index fault))
+        words : codes "# list " ++ decimal number ++ codes " illegal " ++ decimal index ++ blank ∷ step_reason fault ++ line_feed ∷ []
+            ≡ comment_line number (verdict_words 0 (Refused index fault))
         words =
             ap (λ text. text ++ line_feed ∷ [])
             (append_assoc (comment_front number ++ codes " illegal ") (decimal index) (blank ∷ step_reason fault)
             ∙ append_assoc (comment_front number) (codes " illegal ") (decimal index ++ blank ∷ step_reason fault)
             ∙ ap (λ words. comment_front number ++ words) (sym (append_assoc (codes " illegal ") (decimal index) (blank ∷ step_reason fault))))
 
-        ahead : (ensured : Verdict) → list_verdict (game_of own) board list ≡ ensured → expanded_by number ensured moves ≡ comment_line number (verdict_words 0 (Refused index fault)) → ensured ≡ Refused index fault
+        ahead : (ensured : Verdict) → list_verdict (game_of own) board list ≡ ensured
+            → expanded_by number ensured moves ≡ comment_line number (verdict_words 0 (Refused index fault))
+            → ensured ≡ Refused index fault
         ahead Won is e = absurd (never_illegal number index fault moves (nat_le (length moves) most_moves) e)
         ahead OnlyLegal is e = absurd (never_illegal number index fault moves (nat_le (length moves) most_moves) e)
         ahead (Refused other reason) is e =
             verdict_Refused (comment_front number) 0 (Refused other reason) index fault
-            (λ place why same. small_index (game_of own) board list can.0 (omega (arith, can.1)) place why (is ∙ same)) (omega (arith, can.1, within)) e
+            (λ place why same. small_index (game_of own) board list can.0 (omega (arith, can.1)) place why (is ∙ same))
+            (omega (arith, can.1, within)) e
 
     pub long-exactly : (number : ℕ)
-        → (expanded_line (game_of own) board number list ≡ codes "# list " ++ decimal number ++ codes " too long" ++ line_feed ∷ []) ↔ (Legal (game_of own) board list × (4096 < length moves))
+        → (expanded_line (game_of own) board number list ≡ codes "# list " ++ decimal number ++ codes " too long" ++ line_feed ∷ [])
+        ↔ (Legal (game_of own) board list × (4096 < length moves))
     long-exactly number = by_verdict (list_verdict (game_of own) board list) refl
       where
         by_test : Legal (game_of own) board list → (b : Bool) → nat_le (length moves) most_moves ≡ b
             → (by_length number moves b ≡ comment_line number (codes " too long")) ↔ (Legal (game_of own) board list × (4096 < length moves))
-        by_test legal true e = ((λ same. absurd (no_comment number (codes " too long") moves same)), (λ (legal, long). absurd (true≢false (sym e ∙ lt-leb (length moves) most_moves long))))
+        by_test legal true e = (
+          (λ same. absurd (no_comment number (codes " too long") moves same)),
+          (λ (legal, long). absurd (true≢false (sym e ∙ lt-leb (length moves) most_moves long))),
+        )
         by_test legal false e = ((λ same. (legal, leb-false (length moves) most_moves e)), (λ long. refl))
 
         by_verdict : (ensured : Verdict) → list_verdict (game_of own) board list ≡ ensured
@@ -451,16 +477,23 @@ pub numbered-more : (line : ℕ → MoveList → List ℕ) (number : ℕ) (lists
     → numbered_lines line number (lists ++ list ∷ []) ≡ numbered_lines line number lists ++ line (number + length lists) list
 numbered-more line number [] list = append-nil (line number list) ∙ ap (λ n. line n list) (omega arith)
 numbered-more line number (first ∷ lists) list =
-    ap (λ later. line number first ++ later) (numbered-more line (number + 1) lists list ∙ ap (λ n. numbered_lines line (number + 1) lists ++ line n list) (omega arith))
-    ∙ sym (append_assoc (line number first) (numbered_lines line (number + 1) lists) (line (number + length (first ∷ lists)) list))
+    let after : number + 1 + length lists ≡ number + length (first ∷ lists) = omega arith in
+    let last = line (number + length (first ∷ lists)) list in
+    rw (
+      numbered-more line (number + 1) lists list,
+      after,
+      append_assoc (line number first) (numbered_lines line (number + 1) lists) last,
+    )
 
 pub checked-more : (number : ℕ) (heading : Heading) (board : Board) (lists : List MoveList) (list : MoveList) → 0 < length lists
     → check_lines number heading (record { board = board; lists = lists ++ list ∷ [] })
-    ≡ check_lines number heading (record { board = board; lists = lists }) ++ verdict_line (name_of number heading.name) (game_of heading.variant) board (length lists + 1) list
+    ≡ check_lines number heading (record { board = board; lists = lists })
+    ++ verdict_line (name_of number heading.name) (game_of heading.variant) board (length lists + 1) list
 checked-more number heading board [] list some = absurd (omega (arith, some))
 checked-more number heading board (first ∷ lists) list some =
     let line = verdict_line (name_of number heading.name) (game_of heading.variant) board in
-    numbered-more line 1 (first ∷ lists) list ∙ ap (λ n. numbered_lines line 1 (first ∷ lists) ++ line n list) (omega arith)
+    let next : 1 + length (first ∷ lists) ≡ length (first ∷ lists) + 1 = omega arith in
+    rw (numbered-more line 1 (first ∷ lists) list, next)
 
 pub expanded-more : (number : ℕ) (heading : Heading) (board : Board) (lists : List MoveList) (list : MoveList)
     → expand_lines number heading (record { board = board; lists = lists ++ list ∷ [] })
@@ -468,5 +501,5 @@ pub expanded-more : (number : ℕ) (heading : Heading) (board : Board) (lists : 
 expanded-more number heading board lists list =
     let line = expanded_line (game_of heading.variant) board in
     let front = heading_line number heading ++ text_of board in
-    ap (λ lines. front ++ lines) (numbered-more line 1 lists list ∙ ap (λ n. numbered_lines line 1 lists ++ line n list) (omega arith))
-    ∙ sym (append_assoc front (numbered_lines line 1 lists) (line (length lists + 1) list))
+    let next : 1 + length lists ≡ length lists + 1 = omega arith in
+    rw (numbered-more line 1 lists list, next, append_assoc front (numbered_lines line 1 lists) (line (length lists + 1) list))

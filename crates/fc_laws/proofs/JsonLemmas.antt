@@ -3,31 +3,33 @@ use Rattle.json.proofs.Printed.{Decimals.{IsNumber-decimal}, Strings.{escape_byt
 use Rattle.json.{proofs.Printed.Trees.{document-print}, specs.Json.{document, Json, member}}
 use Rattle.json.specs.Json.{Members, no_members, null, number, object, string}
 use Rattle.json.specs.Print.{escape, escape_byte, IsNumber, print, print_from, quoted}
-use Rattle.json.specs.{Token.{Token}, Tree.{json_tokens, members_depth}}
-use Rattle.json.specs.Tree.{members_tokens, MembersHaveNumbers}
+use Rattle.json.specs.Token.{Token}
+use Rattle.json.specs.Tree.{json_tokens, members_depth, members_tokens, MembersHaveNumbers}
 use Rattle.std.proofs.Common.{◌++◌, ◌+◌, ◌<◌, ◌==◌, ◌^◌, ◌||◌, ◌∙◌, ◌∷◌, ◌≡◌, ◌≤◌, ◌⊎◌, [], All, ap}
 use Rattle.std.proofs.Common.{append-nil, append_assoc, ap₂, arith, Bool, codes, cond, Contains}
 use Rattle.std.proofs.Common.{false, if◌then◌else◌, inl, inr, leb, length, List, map, max, refl}
-use Rattle.std.proofs.Common.{slice_index, slice_index_or, Some, subst, suc, sym, true, zero, ℕ}
+use Rattle.std.proofs.Common.{slice_index, slice_index_or, Some, suc, sym, true, zero, ℕ}
 use Rattle.std.proofs.lemmas.Bool.{eqb-false, eqb-true, false_from_ne_true, leb-true}
 use Rattle.std.proofs.lemmas.List.Elements.{All-cons, All-from_get_or, All-head, All-nil, All-tail}
 use Rattle.std.proofs.lemmas.List.{Elements.{All-weaker}, Sums.{AllPass-from_list_all}}
 use Rattle.std.{proofs.lemmas.Slice.Eq.{bytes_eq-Decides}, specs.Fmt.{decimal}}
 use Rattle.std.specs.{List.{flat_map, join_with_byte, list_all}, Str.{bytes_eq}}
 use Rattle.{fc_canon.specs.{chosen_passage}, fc_card.specs.{IsOrder, suit_letters}}
-use Rattle.fc_parts.specs.{Board, Game, game_of, list_verdict, MoveList, renamings_of}
-use Rattle.fc_parts.specs.declared.rule.Variant.TheVariants.{BakersGame, EightOff, FreeCell}
-use Rattle.fc_parts.specs.declared.rule.Variant.{Variant}
-use Rattle.fc_print.specs.{cell_letters, column_digits, line_feed}
+use Rattle.fc_board.specs.{Boards.{Board}, Games.{Game, game_of, renamings_of}, Moves.{MoveList}}
+use Rattle.fc_board.specs.Play.{list_verdict}
+use Rattle.fc_board.specs.declared.rule.Variant.TheVariants.{BakersGame, EightOff, FreeCell}
+use Rattle.fc_board.specs.declared.rule.Variant.{Variant}
+use Rattle.fc_text.specs.{Bytes.{line_feed}, Notation.{cell_letters, column_digits}}
 use Rattle.fc_record.proofs.HeadingLemmas.{bytes_of_name, decimal-high, heading_said, IsHeading}
-use Rattle.fc_record.{proofs.HeadingLemmas.{IsInName, named, unnamed, without}, specs.{begins_with}}
-use Rattle.fc_record.specs.{first_win, header_mark, Heading, is_win, json_object, json_string}
-use Rattle.fc_record.specs.{name_of, number_or_null, table_fields, table_object, variant_word}
-use Rattle.fc_engine.specs.{canonical_text, Member, members_among, records_of}
-use Rattle.fc_groups.proofs.KeyedLemmas.{chosen}
+use Rattle.fc_record.proofs.HeadingLemmas.{IsInName, named, unnamed, without}
+use Rattle.fc_record.specs.{Grammar.{begins_with, Heading, variant_word}, Printing.{name_of}}
+use Rattle.fc_record.specs.{RecordTexts.{header_mark}, Tables.{first_win, is_win, json_object}}
+use Rattle.fc_record.specs.Tables.{json_string, number_or_null, table_fields, table_object}
+use Rattle.fc_collect.proofs.{KeyedLemmas.{chosen}, ShareLemmas.{few_cells}}
+use Rattle.fc_collect.specs.{Groups.{canonical_text, Member, members_among}, Records.{records_of}}
 use Rattle.fc_laws.proofs.MemberLemmas.{member-IsWellFormed, member-said}
 use Rattle.fc_laws.proofs.SideBySideLemmas.{side_by_side-high}
-use Rattle.fc_laws.proofs.TableLawLemmas.{canonical_is_text, object_of, object_of_fields}
+use Rattle.fc_laws.proofs.TableLawLemmas.{canonical_is_text, no_dash, object_of, object_of_fields}
 
 -- ---- strings of printing bytes
 
@@ -43,19 +45,17 @@ unfolding escape_byte
 byte_escaped byte high = by (byte == 34) (byte == 92) refl refl
   where
     by : (a b : Bool) → (byte == 34) ≡ a → (byte == 92) ≡ b → escape_byte byte ≡ escaped_byte byte
-    by true b is is' = subst (λ byte. escape_byte byte ≡ escaped_byte byte) (sym (eqb-true byte 34 is)) refl
-    by false true is is' = subst (λ byte. escape_byte byte ≡ escaped_byte byte) (sym (eqb-true byte 92 is')) refl
-    by false false is is' =
-        escape_byte_plain byte (eqb-false byte 34 is) (eqb-false byte 92 is') high
-        ∙ sym (ap₂ (λ a b. cond (a || b) (92 ∷ byte ∷ []) (byte ∷ [])) is is')
+    by true b is is' = rw (eqb-true byte 34 is) refl
+    by false true is is' = rw (eqb-true byte 92 is') refl
+    by false false is is' = rw (escape_byte_plain byte (eqb-false byte 34 is) (eqb-false byte 92 is') high, is', is)
 
 escaped : (text : List ℕ) → IsHigh text → escape text ≡ flat_map escaped_byte text
 escaped [] high = refl
 escaped (byte ∷ text) high =
-    ap₂ (λ first rest. first ++ rest) (byte_escaped byte (All-head (λ byte. 32 ≤ byte) byte text high)) (escaped text (All-tail (λ byte. 32 ≤ byte) byte text high))
+    rw (byte_escaped byte (All-head (λ byte. 32 ≤ byte) byte text high), escaped text (All-tail (λ byte. 32 ≤ byte) byte text high))
 
 pub string-quoted : (text : List ℕ) → IsHigh text → quoted text ≡ json_string text
-string-quoted text high = ap (λ inside. 34 ∷ (inside ++ 34 ∷ [])) (escaped text high)
+string-quoted text high = rw (escaped text high)
 
 -- ---- members with values that are strings, numbers and null
 
@@ -83,11 +83,15 @@ abbrev text_of_member : List ℕ × Json → List ℕ
 text_of_member each = json_string each.0 ++ 58 ∷ text_of_value each.1
 
 regroup : (name value more end : List ℕ) → (name ++ 58 ∷ []) ++ (value ++ (more ++ end)) ≡ ((name ++ 58 ∷ value) ++ more) ++ end
-regroup name value more end =
-    append_assoc name (58 ∷ []) (value ++ (more ++ end)) ∙ sym (append_assoc (name ++ 58 ∷ value) more end ∙ append_assoc name (58 ∷ value) (more ++ end))
+regroup name value more end = rw (
+  append_assoc name (58 ∷ []) (value ++ (more ++ end)),
+  append_assoc (name ++ 58 ∷ value) more end,
+  append_assoc name (58 ∷ value) (more ++ end),
+)
 
 -- what is printed of a value, and of what comes after it
-value_printed : (value : Json) (tokens : List Token) → IsFlat value → print_from false (json_tokens value ++ tokens) ≡ text_of_value value ++ print_from true tokens
+value_printed : (value : Json) (tokens : List Token) → IsFlat value
+    → print_from false (json_tokens value ++ tokens) ≡ text_of_value value ++ print_from true tokens
 unfolding print_from
 value_printed _ tokens (a_string text high) = ap (λ text. text ++ print_from true tokens) (string-quoted text high)
 value_printed _ tokens (a_number text is) = refl
@@ -108,9 +112,10 @@ members_printed ((name, value) ∷ rest) (one_more _ _ _ high flat more) =
     (value_printed value (members_tokens (members_of rest)) flat ∙ ap (λ text. text_of_value value ++ text) (members_printed rest more))
     ∙ regroup (json_string name) (text_of_value value) (later rest) end)
 
-joined : (first : List ℕ × Json) (rest : List (List ℕ × Json)) → join_with_byte 44 (map text_of_member (first ∷ rest)) ≡ text_of_member first ++ later rest
+joined : (first : List ℕ × Json) (rest : List (List ℕ × Json))
+    → join_with_byte 44 (map text_of_member (first ∷ rest)) ≡ text_of_member first ++ later rest
 joined first [] = sym (append-nil (text_of_member first))
-joined first (next ∷ rest) = ap (λ text. text_of_member first ++ 44 ∷ text) (joined next rest)
+joined first (next ∷ rest) = rw (joined next rest)
 
 flat_numbers : (rest : List (List ℕ × Json)) → AreFlat rest → MembersHaveNumbers (members_of rest)
 flat_numbers [] no_more = tt
@@ -130,7 +135,7 @@ with_texts members = map (λ each. (each.0, text_of_value each.1)) members
 
 texts_mapped : (members : List (List ℕ × Json)) → map (λ each. json_string each.0 ++ 58 ∷ each.1) (with_texts members) ≡ map text_of_member members
 texts_mapped [] = refl
-texts_mapped (each ∷ rest) = ap (λ texts. text_of_member each ∷ texts) (texts_mapped rest)
+texts_mapped (each ∷ rest) = rw (texts_mapped rest)
 
 object_printed : (first : List ℕ × Json) (rest : List (List ℕ × Json)) → AreFlat (first ∷ rest)
     → print (json_tokens (object (members_of (first ∷ rest)))) ≡ 123 ∷ join_with_byte 44 (map text_of_member (first ∷ rest)) ++ end
@@ -144,20 +149,24 @@ object_printed (name, value) rest (one_more _ _ _ high flat more) =
 
 -- a line of an object is a JSON text: the object of these members in this order
 pub object-document : (first : List ℕ × Json) (rest : List (List ℕ × Json)) → AreFlat (first ∷ rest)
-    → (line : List ℕ) × (json_object (with_texts (first ∷ rest)) ≡ line ++ line_feed ∷ []) × (document line ≡ Some (object (members_of (first ∷ rest))))
+    → (line : List ℕ) × (json_object (with_texts (first ∷ rest)) ≡ line ++ line_feed ∷ [])
+    × (document line ≡ Some (object (members_of (first ∷ rest))))
 object-document first rest flat =
     let whole = object (members_of (first ∷ rest)) in
     let inside = join_with_byte 44 (map text_of_member (first ∷ rest)) in (
       123 ∷ inside ++ end,
-      ap (λ text. 123 ∷ text) (ap (λ texts. join_with_byte 44 texts ++ 125 ∷ line_feed ∷ []) (texts_mapped (first ∷ rest)) ∙ sym (append_assoc inside end (line_feed ∷ []))),
+      ap (λ text. 123 ∷ text) (ap (λ texts. join_with_byte 44 texts ++ 125 ∷ line_feed ∷ []) (texts_mapped (first ∷ rest))
+          ∙ sym (append_assoc inside end (line_feed ∷ []))),
       ap document (sym (object_printed first rest flat))
-          ∙ document-print whole (flat_numbers (first ∷ rest) flat) (subst (λ depth. suc depth ≤ 128) (sym (flat_depth (first ∷ rest) flat)) (omega arith)),
+          ∙ document-print whole (flat_numbers (first ∷ rest) flat) (rw (flat_depth (first ∷ rest) flat) (omega arith)),
     )
 
 -- ---- the fields of a table's line
 
 pub codes_high : (field : List ℕ) → list_all (λ byte. leb 32 byte) field ≡ true → IsHigh field
-codes_high field e = All-weaker (λ byte. leb 32 byte ≡ true) (λ byte. 32 ≤ byte) (λ byte is. leb-true 32 byte is) field (AllPass-from_list_all (λ byte. leb 32 byte) field e)
+codes_high field e =
+    All-weaker (λ byte. leb 32 byte ≡ true) (λ byte. 32 ≤ byte) (λ byte is. leb-true 32 byte is) field
+    (AllPass-from_list_all (λ byte. leb 32 byte) field e)
 
 pub decimal_is_high : (n : ℕ) → IsHigh (decimal n)
 decimal_is_high n = All-weaker (λ byte. 48 ≤ byte) (λ byte. 32 ≤ byte) (λ byte high. omega (arith, high)) (decimal n) (decimal-high n)
@@ -165,7 +174,8 @@ decimal_is_high n = All-weaker (λ byte. 48 ≤ byte) (λ byte. 32 ≤ byte) (λ
 pub name_high : (variant : Variant) (has : Bool) (index : ℕ) (heading : Heading) → IsHeading variant has heading → IsHigh (name_of index heading.name)
 name_high variant has index heading without = decimal_is_high index
 name_high variant has index heading (unnamed own) = decimal_is_high index
-name_high variant has index heading (named own name given) = All-weaker IsInName (λ byte. 32 ≤ byte) (λ byte is. omega (arith, is)) name (bytes_of_name name given)
+name_high variant has index heading (named own name given) =
+    All-weaker IsInName (λ byte. 32 ≤ byte) (λ byte is. omega (arith, is)) name (bytes_of_name name given)
 
 word_high : (variant : Variant) → IsHigh (variant_word variant)
 word_high FreeCell = codes_high (codes "freecell") refl
@@ -175,9 +185,11 @@ word_high EightOff = codes_high (codes "eight_off") refl
 pub letter_high : (letters : List ℕ) → IsHigh letters → (place : ℕ) → place < length letters → 32 ≤ slice_index letters place
 letter_high [] are place within = absurd (omega (arith, within))
 letter_high (letter ∷ letters) are zero within = All-head (λ byte. 32 ≤ byte) letter letters are
-letter_high (letter ∷ letters) are (suc place) within = letter_high letters (All-tail (λ byte. 32 ≤ byte) letter letters are) place (omega (arith, within))
+letter_high (letter ∷ letters) are (suc place) within =
+    letter_high letters (All-tail (λ byte. 32 ≤ byte) letter letters are) place (omega (arith, within))
 
-letters_high : (letters : List ℕ) → IsHigh letters → (places : List ℕ) → All (λ place. place < length letters) places → IsHigh (map (slice_index letters) places)
+letters_high : (letters : List ℕ) → IsHigh letters → (places : List ℕ) → All (λ place. place < length letters) places
+    → IsHigh (map (slice_index letters) places)
 letters_high letters high [] within = All-nil (λ byte. 32 ≤ byte)
 letters_high letters high (place ∷ places) within =
     All-cons (λ byte. 32 ≤ byte) (slice_index letters place) (map (slice_index letters) places)
@@ -189,11 +201,6 @@ below order limit is few =
     All-weaker (λ place. place < length order) (λ place. place < limit) (λ place within. omega (arith, within, few)) order
     (All-from_get_or (λ place. place < length order) order 0 is.within)
 
-few_cells : (variant : Variant) → (game_of variant).cells ≤ 8
-few_cells FreeCell = omega arith
-few_cells BakersGame = omega arith
-few_cells EightOff = omega arith
-
 -- the number of the first win, or a dash
 win_is : (game : Game) (board : Board) (index : ℕ) (lists : List MoveList)
     → (first_win game board index lists ≡ codes "-") ⊎ ((n : ℕ) × (n < index + length lists) × (first_win game board index lists ≡ decimal n))
@@ -204,8 +211,10 @@ win_is game board index (list ∷ lists) = by (is_win (list_verdict game board l
     whole b = cond b (decimal index) (first_win game board (index + 1) lists)
 
     by : (b : Bool) → is_win (list_verdict game board list) ≡ b
-        → (first_win game board (index + 1) lists ≡ codes "-") ⊎ ((n : ℕ) × (n < index + 1 + length lists) × (first_win game board (index + 1) lists ≡ decimal n))
-        → (whole (is_win (list_verdict game board list)) ≡ codes "-") ⊎ ((n : ℕ) × (n < index + length (list ∷ lists)) × (whole (is_win (list_verdict game board list)) ≡ decimal n))
+        → (first_win game board (index + 1) lists ≡ codes "-")
+        ⊎ ((n : ℕ) × (n < index + 1 + length lists) × (first_win game board (index + 1) lists ≡ decimal n))
+        → (whole (is_win (list_verdict game board list)) ≡ codes "-")
+        ⊎ ((n : ℕ) × (n < index + length (list ∷ lists)) × (whole (is_win (list_verdict game board list)) ≡ decimal n))
     by true is after = inr (index, omega arith, ap whole is)
     by false is (inl dash) = inl (ap whole is ∙ dash)
     by false is (inr (n, few, same)) = inr (n, omega (arith, few), ap whole is ∙ same)
@@ -214,32 +223,34 @@ abbrev win_value : List ℕ → Json
 win_value win = if bytes_eq win (codes "-") then null else number win
 
 -- what is shown for the first win is the text of that value, which is flat
-win_flat : (win : List ℕ) (limit : ℕ) → limit < 2 ^ 64 → (win ≡ codes "-") ⊎ ((n : ℕ) × (n < limit) × (win ≡ decimal n)) → IsFlat (win_value win) × (text_of_value (win_value win) ≡ number_or_null win)
-win_flat win limit small (inl is) = subst (λ win. IsFlat (win_value win) × (text_of_value (win_value win) ≡ number_or_null win)) (sym is) (a_null, refl)
+win_flat : (win : List ℕ) (limit : ℕ) → limit < 2 ^ 64 → (win ≡ codes "-") ⊎ ((n : ℕ) × (n < limit) × (win ≡ decimal n))
+    → IsFlat (win_value win) × (text_of_value (win_value win) ≡ number_or_null win)
+win_flat win limit small (inl is) = rw is (a_null, refl)
 win_flat win limit small (inr (n, few, is)) =
-    let no_dash = false_from_ne_true _ (λ e. absurd (dashless n ((bytes_eq-Decides (decimal n) (codes "-")).0 e))) in
-    subst (λ win. IsFlat (win_value win) × (text_of_value (win_value win) ≡ number_or_null win)) (sym is)
-    (subst (λ b. IsFlat (cond b null (number (decimal n))) × (text_of_value (cond b null (number (decimal n))) ≡ cond b (codes "null") (decimal n))) (sym no_dash)
-    (a_number (decimal n) (IsNumber-decimal n (omega (arith, few, small))), refl))
-  where
-    dashless : (n : ℕ) → decimal n ≡ codes "-" → ⊥
-    dashless n e = let high = All-head (λ byte. 48 ≤ byte) 45 [] (subst (All (λ byte. 48 ≤ byte)) e (decimal-high n)) in absurd (omega (arith, high))
+    let no_dash = false_from_ne_true _ (λ e. absurd (no_dash n ((bytes_eq-Decides (decimal n) (codes "-")).0 e))) in
+    rw (is, no_dash) (a_number (decimal n) (IsNumber-decimal n (omega (arith, few, small))), refl)
 
 module _ (name own board renaming columns cells lists win : List ℕ) where
   abbrev field_members : List (List ℕ × Json)
   field_members =
-      (codes "name", string name) ∷ (codes "variant", string own) ∷ (codes "board", string board) ∷ (codes "renaming", string renaming) ∷ (codes "columns", string columns)
+      (codes "name", string name) ∷ (codes "variant", string own) ∷ (codes "board", string board) ∷ (codes "renaming", string renaming) ∷
+      (codes "columns", string columns)
       ∷ (codes "cells", string cells) ∷ (codes "lists", number lists) ∷ (codes "win", win_value win) ∷ []
 
   abbrev HasDocument : List ℕ → Type 0
   HasDocument text = (line : List ℕ) × (text ≡ line ++ line_feed ∷ []) × (document line ≡ Some (object (members_of field_members)))
 
-  fields_flat : IsHigh name → IsHigh own → IsHigh board → IsHigh renaming → IsHigh columns → IsHigh cells → IsNumber lists → IsFlat (win_value win) → AreFlat field_members
+  fields_flat : IsHigh name → IsHigh own → IsHigh board → IsHigh renaming → IsHigh columns → IsHigh cells → IsNumber lists
+      → IsFlat (win_value win) → AreFlat field_members
   fields_flat is_name is_own is_board is_renaming is_columns is_cells is_lists is_win =
-      one_more _ _ _ (codes_high (codes "name") refl) (a_string name is_name) (one_more _ _ _ (codes_high (codes "variant") refl) (a_string own is_own)
-      (one_more _ _ _ (codes_high (codes "board") refl) (a_string board is_board) (one_more _ _ _ (codes_high (codes "renaming") refl) (a_string renaming is_renaming)
-      (one_more _ _ _ (codes_high (codes "columns") refl) (a_string columns is_columns) (one_more _ _ _ (codes_high (codes "cells") refl) (a_string cells is_cells)
-      (one_more _ _ _ (codes_high (codes "lists") refl) (a_number lists is_lists) (one_more _ _ _ (codes_high (codes "win") refl) is_win no_more)))))))
+      one_more _ _ _ (codes_high (codes "name") refl) (a_string name is_name)
+      (one_more _ _ _ (codes_high (codes "variant") refl) (a_string own is_own)
+      (one_more _ _ _ (codes_high (codes "board") refl) (a_string board is_board)
+      (one_more _ _ _ (codes_high (codes "renaming") refl) (a_string renaming is_renaming)
+      (one_more _ _ _ (codes_high (codes "columns") refl) (a_string columns is_columns)
+      (one_more _ _ _ (codes_high (codes "cells") refl) (a_string cells is_cells)
+      (one_more _ _ _ (codes_high (codes "lists") refl) (a_number lists is_lists)
+      (one_more _ _ _ (codes_high (codes "win") refl) is_win no_more)))))))
 
 pub table_document : (variant : Variant) (collection : List ℕ) (each : Member) (name own board renaming columns cells lists win : List ℕ)
     → Contains (members_among variant (records_of collection)) each → length each.contents.lists + 1 < 2 ^ 64
@@ -252,18 +263,24 @@ table_document variant collection each name own board renaming columns cells lis
     let (bytes, says) = member-said variant (records_of collection) each there in
     let passage = chosen_passage (renamings_of heading.variant) contents.board in
     let is = (chosen heading.variant contents.board well).is_passage in
-    let at = λ (field : List ℕ) (place : ℕ) (high : IsHigh field) (same : field ≡ slice_index_or (name ∷ own ∷ board ∷ renaming ∷ columns ∷ cells ∷ lists ∷ win ∷ []) place []). subst IsHigh same high in
+    let at =
+    λ (field : List ℕ) (place : ℕ) (high : IsHigh field)
+    (same : field ≡ slice_index_or (name ∷ own ∷ board ∷ renaming ∷ columns ∷ cells ∷ lists ∷ win ∷ []) place []). rw same at high in
     let field = λ (place : ℕ). ap (λ fields. slice_index_or fields place []) are in
-    let shown = win_flat win (1 + length contents.lists) (omega (arith, few)) (subst (λ win. (win ≡ codes "-") ⊎ ((n : ℕ) × (n < 1 + length contents.lists) × (win ≡ decimal n))) (field 7)
-    (win_is (game_of heading.variant) contents.board 1 contents.lists)) in
+    let shown =
+    win_flat win (1 + length contents.lists) (omega (arith, few))
+    (rw (field 7) at (win_is (game_of heading.variant) contents.board 1 contents.lists)) in
     let flat = fields_flat name own board renaming columns cells lists win
     (at _ 0 (name_high variant (begins_with header_mark bytes) each.number heading (heading_said variant bytes heading says.header)) (field 0))
     (at _ 1 (word_high heading.variant) (field 1))
     (at _ 2 (side_by_side-high (canonical_text each) (canonical_is_text each well)) (field 2))
-    (at _ 3 (letters_high suit_letters (codes_high suit_letters refl) passage.renaming (below passage.renaming 4 is.renames.order (omega (arith, is.renames.four)))) (field 3))
-    (at _ 4 (letters_high column_digits (codes_high column_digits refl) passage.columns (below passage.columns 8 is.orders.of_columns (omega (arith, is.orders.eight_columns)))) (field 4))
-    (at _ 5 (letters_high cell_letters (codes_high cell_letters refl) passage.cells (below passage.cells 8 is.orders.of_cells (omega (arith, is.orders.all_cells, few_cells heading.variant)))) (field 5))
-    (subst IsNumber (field 6) (IsNumber-decimal (length contents.lists) (omega (arith, few))))
+    (at _ 3 (letters_high suit_letters (codes_high suit_letters refl) passage.renaming
+    (below passage.renaming 4 is.renames.order (omega (arith, is.renames.four)))) (field 3))
+    (at _ 4 (letters_high column_digits (codes_high column_digits refl) passage.columns
+    (below passage.columns 8 is.orders.of_columns (omega (arith, is.orders.eight_columns)))) (field 4))
+    (at _ 5 (letters_high cell_letters (codes_high cell_letters refl) passage.cells
+    (below passage.cells 8 is.orders.of_cells (omega (arith, is.orders.all_cells, few_cells heading.variant)))) (field 5))
+    (rw (field 6) at (IsNumber-decimal (length contents.lists) (omega (arith, few))))
     shown.0 in
     let whole = object-document (codes "name", string name) _ flat in
     let object_is = object_of_fields each.number heading contents name own board renaming columns cells lists win are in

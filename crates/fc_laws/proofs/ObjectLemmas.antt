@@ -1,56 +1,48 @@
 -- The objects of refusals and of figures are JSON texts, as the library `json` reads them.
-use Rattle.json.{proofs.Printed.Decimals.{IsNumber-decimal}, specs.Json.{document, Json, number}}
-use Rattle.json.specs.Json.{object, string}
+use Rattle.json.proofs.Printed.Decimals.{IsNumber-decimal}
+use Rattle.json.specs.Json.{document, Json, number, object, string}
 use Rattle.std.proofs.Common.{◌++◌, ◌+◌, ◌-◌, ◌<◌, ◌==◌, ◌^◌, ◌∙◌, ◌∷◌, ◌≡◌, ◌≤◌, [], All, ap}
-use Rattle.std.proofs.Common.{arith, Bool, codes}
-use Rattle.std.proofs.Common.{cond, drop, Err, false, IfSome, length, List, map, None, Ok, Option}
-use Rattle.std.proofs.Common.{refl, Result, Some, subst, true, ℕ}
+use Rattle.std.proofs.Common.{arith, Bool, codes, cond, drop, Err, false, IfSome, length, List, map}
+use Rattle.std.proofs.Common.{None, Ok, Option, refl, Result, Some, true, ℕ}
 use Rattle.std.proofs.lemmas.List.Elements.{All-append, All-cons, All-from_get_or, All-get_or}
-use Rattle.std.proofs.lemmas.List.Elements.{All-head, All-nil, All-tail}
+use Rattle.std.proofs.lemmas.List.Elements.{All-nil}
 use Rattle.std.proofs.lemmas.List.FromFn.{get_or-range_with_len, length-range_with_len}
-use Rattle.std.proofs.lemmas.Option.{same_Some}
-use Rattle.std.specs.{Fmt.{decimal}, List.{find, flat_map, list_any, range_with_len}}
-use Rattle.std.specs.Option.{option_map, option_or}
+use Rattle.std.{proofs.lemmas.Option.{same_Some}, specs.Fmt.{decimal}}
+use Rattle.std.specs.{List.{flat_map, list_any, range_with_len}, Option.{option_map, option_or}}
 use Rattle.std.specs.Prelude.{not, slice_index_or}
 use Rattle.fc_card.specs.{card_text, rank_letter, rank_letters, rank_of, suit_letter, suit_letters}
 use Rattle.fc_card.specs.{suit_of}
-use Rattle.fc_parts.specs.{Game, game_of, MoveList, OneCard, Runs}
-use Rattle.fc_parts.specs.declared.rule.Variant.{Variant}
-use Rattle.fc_print.specs.{is_gap, line_feed, Piece, words_from}
-use Rattle.fc_text.proofs.PlaceLemmas.{no_item_misses}
-use Rattle.fc_text.specs.{BadToken, cards_of_item, first_fault, first_faulty, items_of}
-use Rattle.fc_text.specs.{ListFault, lowest_missing, missing_card, moves_read, runs_read, TooMany}
+use Rattle.fc_board.specs.{Games.{Game, game_of}, Moves.{MoveList, OneCard, Runs}}
+use Rattle.fc_board.specs.declared.rule.Variant.{Variant}
+use Rattle.fc_text.{proofs.PlaceLemmas.{no_item_misses}, specs.Bytes.{is_gap, line_feed}}
+use Rattle.fc_text.specs.Faults.{cards_of_item, first_fault, first_faulty, items_of, lowest_missing}
+use Rattle.fc_text.specs.{Faults.{missing_card}, Lines.{Piece, words_from}}
+use Rattle.fc_text.specs.{Notation.{BadToken, ListFault, TooMany}, Readings.{moves_read, runs_read}}
 use Rattle.fc_text.specs.declared.fault.{BoardFault.{BoardFault}, BoardFaultKind.{BoardFaultKind}}
 use Rattle.fc_text.specs.declared.fault.BoardFaultKind.TheVariants.{BadCard, BadFoundation}
 use Rattle.fc_text.specs.declared.fault.BoardFaultKind.TheVariants.{MissingCard, RepeatedCard}
 use Rattle.fc_text.specs.declared.fault.BoardFaultKind.TheVariants.{RepeatedLine, TooManyCells}
 use Rattle.fc_text.specs.declared.fault.BoardFaultKind.TheVariants.{TooManyColumns}
-use Rattle.fc_record.proofs.HeadingLemmas.{heading_said}
-use Rattle.fc_record.specs.{after_header, AreFaulty, board_part, bad_board, bad_header, bad_line, bad_list, begins_with}
-use Rattle.fc_record.specs.{board_reason, fault_at, has_two_marks, header_line, header_mark}
-use Rattle.fc_record.specs.{heading_by, heading_of, heading_of_words, is_name, IsFaulty, later_line}
-use Rattle.fc_record.specs.{list_read, list_with, name_of, reading_of, record_reason, RecordText}
-use Rattle.fc_record.specs.{refusal_object, Refused, stray_line, variant_named, with_header}
-use Rattle.fc_record.specs.{without_header}
+use Rattle.fc_record.{proofs.HeadingLemmas.{heading_said}, specs.Grammar.{after_header, AreFaulty}}
+use Rattle.fc_record.specs.Grammar.{bad_board, bad_header, bad_line, bad_list, begins_with}
+use Rattle.fc_record.specs.Grammar.{board_part, fault_at, has_two_marks, header_line, heading_by}
+use Rattle.fc_record.specs.Grammar.{heading_of, heading_of_words, is_name, IsFaulty, later_line}
+use Rattle.fc_record.specs.Grammar.{list_read, list_with, reading_of, Refused, stray_line}
+use Rattle.fc_record.specs.Grammar.{variant_named, with_header, without_header}
+use Rattle.fc_record.specs.Printing.{board_reason, name_of, record_reason}
+use Rattle.fc_record.specs.{RecordTexts.{header_mark, RecordText}, Tables.{refusal_object}}
 use Rattle.fc_record.specs.declared.record.RecordFault.{RecordFault}
 use Rattle.fc_record.specs.declared.record.RecordFaultKind.{RecordFaultKind}
-use Rattle.fc_run.specs.declared.outcome.Summary.{Summary}
-use Rattle.fc_engine.specs.{figures, figures_object, Member}
-use Rattle.fc_laws.proofs.AcceptanceLemmas.{IsFaulty-from_refused}
-use Rattle.fc_laws.proofs.JsonLemmas.{a_number, a_string, AreFlat, codes_high, decimal_is_high}
-use Rattle.fc_laws.proofs.JsonLemmas.{IsHigh, letter_high, members_of, name_high, no_more}
-use Rattle.fc_laws.proofs.JsonLemmas.{object-document, one_more}
+use Rattle.fc_collect.specs.Groups.{figures, figures_object, Member}
+use Rattle.fc_collect.specs.declared.streams.faults.Summary.{Summary}
+use Rattle.fc_laws.proofs.{AcceptanceLemmas.{IsFaulty-from_refused}, JsonLemmas.{a_number}}
+use Rattle.fc_laws.proofs.JsonLemmas.{a_string, AreFlat, codes_high, decimal_is_high, IsHigh}
+use Rattle.fc_laws.proofs.JsonLemmas.{letter_high, members_of, name_high, no_more, object-document}
+use Rattle.fc_laws.proofs.JsonLemmas.{one_more}
 use Rattle.fc_record.specs.declared.record.RecordFaultKind.TheVariants as kind
+use Rattle.fc_collect.proofs.ShareLemmas.{find-All}
 
 -- ---- a missing card is one of the deck
-
-found_holds : {X : Type 0} (P : X → Type 0) (test : X → Bool) (items : List X) → All P items → IfSome (find test items) P
-found_holds P test [] all = tt
-found_holds P test (item ∷ items) all = by (test item) (found_holds P test items (All-tail P item items all))
-  where
-    by : (b : Bool) → IfSome (find test items) P → IfSome (cond b (Some item) (find test items)) P
-    by true later = All-head P item items all
-    by false later = later
 
 deck_small : All (λ card. card < 52) (range_with_len 0 52)
 deck_small =
@@ -60,25 +52,29 @@ deck_small =
     omega (arith, inside, length_is, at))
 
 -- the card that a fault names as missing
-abbrev card_missed : BoardFaultKind → ℕ
-card_missed (MissingCard card) = card
-card_missed kind = 0
-
-missing_small : (game : Game) (text : List ℕ) (place card : ℕ) → first_fault game text ≡ Some (record { place = place; kind = MissingCard card }) → card < 52
+missing_small : (game : Game) (text : List ℕ) (place card : ℕ)
+    → first_fault game text ≡ Some (record { place = place; kind = MissingCard card }) → card < 52
 missing_small game text place card e = by (first_faulty game [] (items_of text)) refl e
   where
     found : Option ℕ
     found = lowest_missing (flat_map cards_of_item (items_of text))
 
     at_end : (lowest : Option ℕ) → IfSome lowest (λ card. card < 52)
-        → option_map {U = BoardFault} (λ card. record { place = length text; kind = MissingCard card }) lowest ≡ Some (record { place = place; kind = MissingCard card }) → card < 52
+        → option_map {U = BoardFault} (λ card. record { place = length text; kind = MissingCard card }) lowest
+        ≡ Some (record { place = place; kind = MissingCard card })
+        → card < 52
     at_end None small e = absurd (cc)
-    at_end (Some other) small e = subst (λ card. card < 52) (ap (λ (fault : BoardFault). card_missed fault.kind) (same_Some _ _ e)) small
+    at_end (Some other) small e =
+        let missing : ◌≡◌ {A = BoardFaultKind} (MissingCard other) (MissingCard card) = ap (λ (fault : BoardFault). fault.kind) (same_Some _ _ e) in
+        let same : other ≡ card = cc in rw same at small
 
-    by : (first : Option BoardFault) → first_faulty game [] (items_of text) ≡ first → option_or first (missing_card text) ≡ Some (record { place = place; kind = MissingCard card }) → card < 52
+    by : (first : Option BoardFault) → first_faulty game [] (items_of text) ≡ first
+        → option_or first (missing_card text) ≡ Some (record { place = place; kind = MissingCard card }) → card < 52
     by (Some fault) is e = absurd (no_item_misses game (items_of text) [] place card (is ∙ e))
     by None is e =
-        at_end found (found_holds (λ card. card < 52) (λ card. not (list_any (λ other. other == card) (flat_map cards_of_item (items_of text)))) (range_with_len 0 52) deck_small) e
+        at_end found (find-All (λ card. card < 52)
+        (λ card. not (list_any (λ other. other == card) (flat_map cards_of_item (items_of text))))
+        (range_with_len 0 52) deck_small) e
 
 -- ---- the reason for a refusal has printing bytes
 
@@ -86,14 +82,16 @@ card_high : (card : ℕ) → card < 52 → IsHigh (card_text card)
 card_high card small =
     All-cons (λ byte. 32 ≤ byte) (rank_letter (rank_of card)) (suit_letter (suit_of card) ∷ [])
     (letter_high rank_letters (codes_high rank_letters refl) (rank_of card - 1) (omega (arith, small)))
-    (All-cons (λ byte. 32 ≤ byte) (suit_letter (suit_of card)) [] (letter_high suit_letters (codes_high suit_letters refl) (suit_of card) (omega arith)) (All-nil (λ byte. 32 ≤ byte)))
+    (All-cons (λ byte. 32 ≤ byte) (suit_letter (suit_of card)) []
+    (letter_high suit_letters (codes_high suit_letters refl) (suit_of card) (omega arith)) (All-nil (λ byte. 32 ≤ byte)))
 
 board_high : (game : Game) (text : List ℕ) (fault : BoardFault) → first_fault game text ≡ Some fault → IsHigh (board_reason fault.kind)
 board_high game text fault e = by_kind fault.place fault.kind e
   where
     by_kind : (place : ℕ) (kind : BoardFaultKind) → first_fault game text ≡ Some (record { place = place; kind = kind }) → IsHigh (board_reason kind)
     by_kind place (MissingCard card) e =
-        All-append (λ byte. 32 ≤ byte) (codes "missing card ") (card_text card) (codes_high (codes "missing card ") refl) (card_high card (missing_small game text place card e))
+        All-append (λ byte. 32 ≤ byte) (codes "missing card ") (card_text card) (codes_high (codes "missing card ") refl)
+        (card_high card (missing_small game text place card e))
     by_kind place BadCard e = codes_high (codes "bad card") refl
     by_kind place TooManyColumns e = codes_high (codes "too many columns") refl
     by_kind place TooManyCells e = codes_high (codes "too many cells") refl
@@ -110,7 +108,7 @@ abbrev HasReason : {T : Type 0} → Result T RecordFault → Type 0
 HasReason read = IsHigh (record_reason (kind_in read))
 
 reason_of : {T : Type 0} (read : Result T RecordFault) (fault : RecordFault) → read ≡ Err fault → HasReason read → IsHigh (record_reason fault.kind)
-reason_of read fault e = subst (λ kind. IsHigh (record_reason kind)) (ap kind_in e)
+reason_of read fault e high = rw e at high
 
 bad_header_high : IsHigh (codes "bad header")
 bad_header_high = codes_high (codes "bad header") refl
@@ -118,7 +116,8 @@ bad_header_high = codes_high (codes "bad header") refl
 heading_high : (variant : Variant) (bytes : List ℕ) → HasReason (heading_of variant bytes)
 heading_high variant bytes = by_test (begins_with header_mark bytes)
   where
-    by_name : (b : Bool) (own : Variant) (name : Piece) → HasReason (cond b (Ok (with_header own (Some name.bytes))) (Err (fault_at name.start kind.BadHeader)))
+    by_name : (b : Bool) (own : Variant) (name : Piece)
+        → HasReason (cond b (Ok (with_header own (Some name.bytes))) (Err (fault_at name.start kind.BadHeader)))
     by_name true own name = bad_header_high
     by_name false own name = bad_header_high
 
@@ -132,7 +131,9 @@ heading_high variant bytes = by_test (begins_with header_mark bytes)
     of_words end [] = bad_header_high
     of_words end (word ∷ words) = by_variant word.start (variant_named word.bytes) words
 
-    by_test : (b : Bool) → HasReason (cond b (heading_of_words (length (header_line bytes)) (words_from is_gap 1 (drop 1 (header_line bytes)))) (Ok (without_header variant)))
+    by_test : (b : Bool)
+        → HasReason
+        (cond b (heading_of_words (length (header_line bytes)) (words_from is_gap 1 (drop 1 (header_line bytes)))) (Ok (without_header variant)))
     by_test true = of_words (length (header_line bytes)) (words_from is_gap 1 (drop 1 (header_line bytes)))
     by_test false = bad_header_high
 
@@ -144,21 +145,27 @@ list_high game place line = by_form (has_two_marks line)
     of_read form place (Err (BadToken at)) = codes_high (codes "bad token") refl
     of_read form place (Err (TooMany at)) = codes_high (codes "too many moves") refl
 
-    by_form : (b : Bool) → HasReason (cond b (list_with Runs (place + 2) (runs_read game (drop 2 line))) (list_with OneCard (place + 1) (moves_read game (drop 1 line))))
+    by_form : (b : Bool)
+        → HasReason
+        (cond b (list_with Runs (place + 2) (runs_read game (drop 2 line))) (list_with OneCard (place + 1) (moves_read game (drop 1 line))))
     by_form true = of_read Runs (place + 2) (runs_read game (drop 2 line))
     by_form false = of_read OneCard (place + 1) (moves_read game (drop 1 line))
 
 lines_high : {game : Game} {lines : List Piece} {fault : RecordFault} → AreFaulty game lines fault → IsHigh (record_reason fault.kind)
-lines_high {game} (bad_list line lines fault is_list read) = reason_of (list_read game line.start line.bytes) fault read (list_high game line.start line.bytes)
+lines_high {game} (bad_list line lines fault is_list read) =
+    reason_of (list_read game line.start line.bytes) fault read (list_high game line.start line.bytes)
 lines_high (stray_line line lines is_list is_blank) = codes_high (codes "stray line") refl
 lines_high (later_line good faulty) = lines_high faulty
 
 -- the name and the reason of a refusal
 refused_high : (variant : Variant) (bytes : List ℕ) (index : ℕ) {name : Option (List ℕ)} {fault : RecordFault} → IsFaulty variant bytes name fault
     → IsHigh (name_of index name) × IsHigh (record_reason fault.kind)
-refused_high variant bytes index (bad_header fault e) = (decimal_is_high index, reason_of (heading_of variant bytes) fault e (heading_high variant bytes))
-refused_high variant bytes index (bad_board heading e fault found) =
-    (name_high variant (begins_with header_mark bytes) index heading (heading_said variant bytes heading e), board_high (game_of heading.variant) (board_part (after_header bytes)) fault found)
+refused_high variant bytes index (bad_header fault e) =
+    (decimal_is_high index, reason_of (heading_of variant bytes) fault e (heading_high variant bytes))
+refused_high variant bytes index (bad_board heading e fault found) = (
+  name_high variant (begins_with header_mark bytes) index heading (heading_said variant bytes heading e),
+  board_high (game_of heading.variant) (board_part (after_header bytes)) fault found,
+)
 refused_high variant bytes index (bad_line heading board fault e spelled faulty) =
     (name_high variant (begins_with header_mark bytes) index heading (heading_said variant bytes heading e), lines_high faulty)
 
@@ -167,7 +174,8 @@ refused_high variant bytes index (bad_line heading board fault e spelled faulty)
 module _ (text : RecordText) (name : Option (List ℕ)) (fault : RecordFault) where
   abbrev refusal_members : List (List ℕ × Json)
   refusal_members =
-      (codes "refused", string (name_of text.number name)) ∷ (codes "place", number (decimal (text.start + fault.place))) ∷ (codes "reason", string (record_reason fault.kind)) ∷ []
+      (codes "refused", string (name_of text.number name)) ∷ (codes "place", number (decimal (text.start + fault.place))) ∷
+      (codes "reason", string (record_reason fault.kind)) ∷ []
 
   refusal_flat : IsHigh (name_of text.number name) → text.start + fault.place < 2 ^ 64 → IsHigh (record_reason fault.kind) → AreFlat refusal_members
   refusal_flat is_name small is_reason =
@@ -193,11 +201,14 @@ module _ (summary : Summary) (members : List Member) where
 
   abbrev figure_members : List ℕ → List (List ℕ × Json)
   figure_members numbers =
-      figure_member numbers (codes "records") 0 ∷ figure_member numbers (codes "refused") 1 ∷ figure_member numbers (codes "groups") 2 ∷ figure_member numbers (codes "doubles") 3
+      figure_member numbers (codes "records") 0 ∷ figure_member numbers (codes "refused") 1 ∷ figure_member numbers
+      (codes "groups") 2 ∷ figure_member numbers (codes "doubles") 3
       ∷ figure_member numbers (codes "lists") 4 ∷ figure_member numbers (codes "wins") 5 ∷ figure_member numbers (codes "solved") 6 ∷ []
 
   abbrev HasDocument : List ℕ → Type 0
-  HasDocument numbers = (line : List ℕ) × (figures_object (figures summary members) ≡ line ++ line_feed ∷ []) × (document line ≡ Some (object (members_of (figure_members numbers))))
+  HasDocument numbers =
+      (line : List ℕ) × (figures_object (figures summary members) ≡ line ++ line_feed ∷ [])
+      × (document line ≡ Some (object (members_of (figure_members numbers))))
 
   figures_flat : All (λ figure. figure.1 < 2 ^ 64) (figures summary members) → AreFlat (figure_members own_figures)
   figures_flat small =
@@ -211,5 +222,6 @@ module _ (summary : Summary) (members : List Member) where
       (one_more _ _ _ (codes_high (codes "wins") refl) (a_number _ (number_at 5 (omega arith)))
       (one_more _ _ _ (codes_high (codes "solved") refl) (a_number _ (number_at 6 (omega arith))) no_more))))))
 
-  pub figures_document : (numbers : List ℕ) → own_figures ≡ numbers → All (λ figure. figure.1 < 2 ^ 64) (figures summary members) → HasDocument numbers
-  figures_document numbers are small = subst HasDocument are (object-document (figure_member own_figures (codes "records") 0) _ (figures_flat small))
+  pub figures_document : (numbers : List ℕ) → own_figures ≡ numbers → All (λ figure. figure.1 < 2 ^ 64) (figures summary members)
+      → HasDocument numbers
+  figures_document numbers are small = rw (← are) (object-document (figure_member own_figures (codes "records") 0) _ (figures_flat small))

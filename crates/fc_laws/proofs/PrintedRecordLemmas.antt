@@ -1,50 +1,44 @@
 -- What is printed for a record is read as that record again.
-use Rattle.std.proofs.Common.{◌++◌, ◌+◌, ◌-◌, ◌||◌, ◌∙◌, ◌∷◌, ◌≡◌, ◌≤◌, [], All, ap, append-nil}
-use Rattle.std.proofs.Common.{append_assoc, ap₂, arith, Bool, codes, cond, drop, false}
-use Rattle.std.proofs.Common.{if◌then◌else◌, length, List, map, None, not, Ok, refl, Some, subst}
-use Rattle.std.proofs.Common.{sym, take, true, ℕ}
-use Rattle.std.proofs.Math.Seq.{drop-append_seam, take-append_seam}
-use Rattle.std.proofs.lemmas.List.Elements.{All-append, All-cons, All-head, All-nil, All-tail}
-use Rattle.std.proofs.lemmas.List.Elements.{All-weaker}
-use Rattle.std.proofs.lemmas.List.Folds.{find-append}
-use Rattle.std.specs.Fmt.{decimal}
-use Rattle.std.specs.List.{after_first, AllZip, find, flat_map, join_with_byte, list_any}
-use Rattle.std.specs.Option.{option_map, option_or, unwrap_or}
-use Rattle.fc_parts.specs.{Board, Fits, Game, game_of, IsWellFormed, MoveList, OneCard, RunFits}
-use Rattle.fc_parts.specs.{Runs}
-use Rattle.fc_parts.specs.declared.rule.Variant.{Variant}
-use Rattle.fc_print.proofs.LineLemmas.{first_line, InLine}
-use Rattle.fc_print.proofs.RunTokenLemmas.{run_token-IsSolid}
-use Rattle.fc_print.proofs.TokenLemmas.{token-IsSolid}
-use Rattle.fc_print.proofs.WordLemmas.{after_separator, words_from-moved}
-use Rattle.fc_print.specs.{blank, column_line, is_empty, is_gap, IsRunToken, IsToken, line_feed}
-use Rattle.fc_print.specs.{line_of, lines_from, Listed, moved, Piece, print, run_token}
-use Rattle.fc_print.specs.{separates_tokens, text_of, token, words_from}
+use Rattle.std.proofs.Common.{◌++◌, ◌+◌, ◌-◌, ◌∙◌, ◌∷◌, ◌≡◌, ◌≤◌, [], All, ap, append-nil}
+use Rattle.std.proofs.Common.{append_assoc, arith, Bool, codes, cond, Contains, drop, false}
+use Rattle.std.proofs.Common.{if◌then◌else◌, length, List, map, None, Option, refl, Some, subst}
+use Rattle.std.proofs.{Common.{sym, true, ℕ}, lemmas.List.Elements.{All-append, All-cons}}
+use Rattle.std.proofs.lemmas.List.Elements.{All-contains_itself, All-head, All-nil, All-tail}
+use Rattle.std.proofs.lemmas.List.{Elements.{All-weaker}, Folds.{find-append}}
+use Rattle.std.{proofs.Math.Seq.{drop-append_seam, take-append_seam}, specs.Fmt.{decimal}}
+use Rattle.std.specs.{List.{find, flat_map, join_with_byte}, Option.{option_map, unwrap_or}}
+use Rattle.fc_board.specs.{Boards.{Board, IsWellFormed}, Games.{Game, game_of}}
+use Rattle.fc_board.specs.Moves.{Fits, MoveList, OneCard, RunFits, Runs}
+use Rattle.fc_board.specs.declared.rule.Variant.{Variant}
+use Rattle.fc_text.proofs.{LineLemmas.{first_line, InLine}, PrintedTextLemmas.{bytes_in_lines}}
+use Rattle.fc_text.proofs.PrintedTextLemmas.{cells_bytes, heights_bytes, text_lines, text_spells}
 use Rattle.fc_text.proofs.PrintLemmas.{print-Listed, print_runs-Listed}
-use Rattle.fc_text.proofs.PrintedTextLemmas.{bytes_in_lines, cells_bytes, heights_bytes, text_lines}
-use Rattle.fc_text.proofs.PrintedTextLemmas.{text_spells}
-use Rattle.fc_text.specs.{Spells}
-use Rattle.fc_record.proofs.ContentsLemmas.{begins_list}
-use Rattle.fc_record.proofs.HeadingLemmas.{given_name, header_gone, header_read, heading_said}
-use Rattle.fc_record.proofs.HeadingLemmas.{in_line, IsGiven, IsHeading, named, numbered, unnamed}
-use Rattle.fc_record.proofs.HeadingLemmas.{without}
+use Rattle.fc_text.proofs.{RunTokenLemmas.{run_solid}, TokenLemmas.{token-IsSolid}}
+use Rattle.fc_text.proofs.WordLemmas.{after_separator, words_from-moved}
+use Rattle.fc_text.specs.{Bytes.{blank, line_feed}, Lines.{lines_from, moved, Piece, words_from}}
+use Rattle.fc_text.specs.Notation.{IsRunToken, IsToken, Listed, print, run_token, separates_tokens}
+use Rattle.fc_text.specs.{Notation.{token}, Printed.{column_line, text_of}}
+use Rattle.fc_text.specs.{Rows.{is_empty, line_of}, Spelling.{Spells}}
+use Rattle.fc_record.proofs.{ContentsLemmas.{begins_list}, HeadingLemmas.{given_name, header_gone}}
+use Rattle.fc_record.proofs.HeadingLemmas.{header_read, heading_said, in_line, IsGiven, IsHeading}
+use Rattle.fc_record.proofs.HeadingLemmas.{named, numbered, unnamed, without}
 use Rattle.fc_record.proofs.PrintedPartLemmas.{IsPlain, lines_of_board, no_list}
 use Rattle.fc_record.proofs.TextLineLemmas.{AreLines, AreLines-append, AreLines-flat_map}
 use Rattle.fc_record.proofs.TextLineLemmas.{AreLines-line, ends-after, ends-line_feed, lines_after}
-use Rattle.fc_record.specs.{Accepted, after_blank, after_header, AreLists, begins_with, board_part}
-use Rattle.fc_record.specs.{Contents, header_line, header_mark, header_text, Heading, heading_line}
-use Rattle.fc_record.specs.{heading_of_words, is_line_feed, IsList, list_line, list_lines}
-use Rattle.fc_record.specs.{list_mark, lists_start, marks_of, name_of, next_list, no_lines, printed}
-use Rattle.fc_record.specs.{printed_by, Reading, reading_of, RecordText, show_lines, variant_word}
-use Rattle.fc_record.specs.{with_header, without_header}
-use Rattle.fc_run.specs.{most_countable}
-use Rattle.fc_engine.specs.{has_content, Member, members_among, name_of_member, output_of_records}
-use Rattle.fc_engine.specs.{records_of}
-use Rattle.fc_groups.proofs.ShareLemmas.{few_cells}
+use Rattle.fc_record.specs.Grammar.{Accepted, after_header, AreLists, begins_with, board_part}
+use Rattle.fc_record.specs.Grammar.{Contents, Heading, IsList, list_lines, list_mark, lists_start}
+use Rattle.fc_record.specs.Grammar.{next_list, no_lines, Reading, reading_of, variant_word}
+use Rattle.fc_record.specs.{Grammar.{with_header, without_header}, Printing.{after_blank}}
+use Rattle.fc_record.specs.Printing.{header_text, heading_line, list_line, marks_of, name_of}
+use Rattle.fc_record.specs.{Printing.{printed, show_lines}, RecordTexts.{header_mark, RecordText}}
+use Rattle.fc_collect.proofs.ShareLemmas.{few_cells}
+use Rattle.fc_collect.specs.{Groups.{Member, members_among, name_of_member}, inside.{member_of}}
+use Rattle.fc_collect.specs.Limits.{most_countable}
+use Rattle.fc_collect.specs.Records.{has_content, output_of_records, records_of}
 use Rattle.fc_laws.proofs.AcceptanceLemmas.{accepted-from_Says, Says-from_accepted}
 use Rattle.fc_laws.proofs.HeaderLemmas.{marks, marks-lines, starts_of}
-use Rattle.fc_laws.proofs.MemberLemmas.{CanPrint, lists_can}
-use Rattle.fc_laws.proofs.ReadAgainLemmas.{agains-members, all_read, IsReadAs}
+use Rattle.fc_laws.proofs.{MemberLemmas.{CanPrint, lists_can}, ReadAgainLemmas.{all_again}}
+use Rattle.fc_laws.proofs.ReadAgainLemmas.{AreReadAs, IsReadAs, ReadsAgain, same_printed, Stays}
 
 -- ---- the lines of lists
 
@@ -53,20 +47,24 @@ list_bytes list = marks_of list ++ after_blank (print list)
 
 bytes_kept : (places : ℕ) (words : List Piece) → map (λ word. word.bytes) (map (moved places) words) ≡ map (λ word. word.bytes) words
 bytes_kept places [] = refl
-bytes_kept places (word ∷ words) = ap (λ rest. word.bytes ∷ rest) (bytes_kept places words)
+bytes_kept places (word ∷ words) = rw (bytes_kept places words)
 
 -- words with a blank before them are the same words
-after_one_blank : {Item : Type 0} (Names : List ℕ → Item → Type 0) (text : List ℕ) (items : List Item) → Listed Names text items → Listed Names (after_blank text) items
+after_one_blank : {Item : Type 0} (Names : List ℕ → Item → Type 0) (text : List ℕ) (items : List Item) → Listed Names text items
+    → Listed Names (after_blank text) items
 after_one_blank Names [] items listed = listed
 after_one_blank Names (byte ∷ text) items listed = record {
-  tokens = subst (λ words. AllZip Names words items)
-      (sym (ap (map (λ word. word.bytes)) (after_separator separates_tokens 0 blank (byte ∷ text) refl ∙ words_from-moved separates_tokens 1 0 (byte ∷ text))
-      ∙ bytes_kept 1 (words_from separates_tokens 0 (byte ∷ text)))) listed.tokens;
+  tokens = rw (
+    after_separator separates_tokens 0 blank (byte ∷ text) refl,
+    words_from-moved separates_tokens 1 0 (byte ∷ text),
+    bytes_kept 1 (words_from separates_tokens 0 (byte ∷ text)),
+  ) listed.tokens;
   at_most = listed.at_most;
 }
 
 in_one_line : (word : List ℕ) → All (λ byte. separates_tokens byte ≡ false) word → All InLine word
-in_one_line word are = All-weaker (λ byte. separates_tokens byte ≡ false) InLine (λ byte joins e. absurd (let ends = ap separates_tokens e in cc)) word are
+in_one_line word are =
+    All-weaker (λ byte. separates_tokens byte ≡ false) InLine (λ byte joins e. absurd (let ends = ap separates_tokens e in cc)) word are
 
 -- what is printed with blanks between is in one line
 pub join_in_line : {Item : Type 0} (word_of : Item → List ℕ) (P : Item → Type 0) → ((item : Item) → P item → All InLine (word_of item))
@@ -99,23 +97,27 @@ module _ (game : Game) (few : game.cells ≤ 8) where
       (join_in_line token (Fits game) (λ move fits. in_one_line (token move) (token-IsSolid game few move fits).1) moves fits))
   list_in_line (Runs moves) (fits, short) =
       mark_in_line (list_mark ∷ after_blank (print (Runs moves))) (mark_in_line (after_blank (print (Runs moves))) (blank_in_line (print (Runs moves))
-      (join_in_line run_token (RunFits game) (λ move fits. in_one_line (run_token move) (run_token-IsSolid game few move fits).1) moves fits)))
+      (join_in_line run_token (RunFits game) (λ move fits. in_one_line (run_token move) (run_solid game few move fits).1) moves fits)))
 
   pub is_list : (list : MoveList) → CanPrint game list → IsList game (list_bytes list) list
   is_list (OneCard moves) (fits, short) =
       (one_mark (print (OneCard moves)), after_one_blank (IsToken game) (print (OneCard moves)) moves (print-Listed game moves few fits short))
-  is_list (Runs moves) (fits, short) = (refl, after_one_blank (IsRunToken game) (print (Runs moves)) moves (print_runs-Listed game moves few fits short))
+  is_list (Runs moves) (fits, short) =
+      (refl, after_one_blank (IsRunToken game) (print (Runs moves)) moves (print_runs-Listed game moves few fits short))
 
   first_list : (place : ℕ) (list : MoveList) (rest : List ℕ) → CanPrint game list
-      → lines_from place (list_line list ++ rest) ≡ record { start = place; bytes = list_bytes list } ∷ lines_from (place + length (list_bytes list) + 1) rest
-  first_list place list rest can = ap (lines_from place) (append_assoc (list_bytes list) (line_feed ∷ []) rest) ∙ first_line place (list_bytes list) rest (list_in_line list can)
+      → lines_from place (list_line list ++ rest)
+      ≡ record { start = place; bytes = list_bytes list } ∷ lines_from (place + length (list_bytes list) + 1) rest
+  first_list place list rest can =
+      rw (append_assoc (list_bytes list) (line_feed ∷ []) rest, first_line place (list_bytes list) rest (list_in_line list can))
 
   lists_read : (place : ℕ) (lists : List MoveList) → All (CanPrint game) lists → AreLists game (lines_from place (flat_map list_line lists)) lists
   lists_read place [] can = no_lines
   lists_read place (list ∷ lists) can =
       let first = All-head (CanPrint game) list lists can in
-      subst (λ lines. AreLists game lines (list ∷ lists)) (sym (first_list place list (flat_map list_line lists) first))
-      (next_list (lists_read (place + length (list_bytes list) + 1) lists (All-tail (CanPrint game) list lists can)) (record { start = place; bytes = list_bytes list }) list (marked list) (is_list list first))
+      let later = lists_read (place + length (list_bytes list) + 1) lists (All-tail (CanPrint game) list lists can) in
+      rw (first_list place list (flat_map list_line lists) first)
+      (next_list later (record { start = place; bytes = list_bytes list }) list (marked list) (is_list list first))
 
   -- ---- a board's text and lists after it
 
@@ -124,31 +126,41 @@ module _ (game : Game) (few : game.cells ≤ 8) where
     body = above ++ flat_map list_line lists
 
     none_above : find begins_list (lines_from 0 above) ≡ None
-    none_above = no_list (lines_from 0 above) (All-weaker (λ line. IsPlain line.bytes) (λ line. begins_list line ≡ false) (λ line is. is.1) (lines_from 0 above) (are.lines 0))
+    none_above =
+        no_list (lines_from 0 above)
+        (All-weaker (λ line. IsPlain line.bytes) (λ line. begins_list line ≡ false) (λ line is. is.1) (lines_from 0 above) (are.lines 0))
 
     found : find begins_list (lines_from 0 body) ≡ find begins_list (lines_from (0 + length above) (flat_map list_line lists))
-    found =
-        ap (find begins_list) (lines_after 0 above (flat_map list_line lists) are.ends)
-        ∙ find-append begins_list (lines_from 0 above) (lines_from (0 + length above) (flat_map list_line lists))
-        ∙ ap (λ first. option_or first (find begins_list (lines_from (0 + length above) (flat_map list_line lists)))) none_above
+    found = rw (
+      lines_after 0 above (flat_map list_line lists) are.ends,
+      find-append begins_list (lines_from 0 above) (lines_from (0 + length above) (flat_map list_line lists)),
+      none_above,
+    )
 
     starts : lists_start body ≡ length above
-    starts = ap (λ found. unwrap_or (option_map (λ line. line.start) found) (length body)) found ∙ by_lists lists can
+    starts = rw (found, by_lists lists can)
       where
+        start_by : Option Piece → List ℕ → ℕ
+        start_by found text = unwrap_or (option_map (λ line. line.start) found) (length text)
+
         by_lists : (lists : List MoveList) → All (CanPrint game) lists
-            → unwrap_or (option_map (λ line. line.start) (find begins_list (lines_from (0 + length above) (flat_map list_line lists)))) (length (above ++ flat_map list_line lists)) ≡ length above
+            → start_by (find begins_list (lines_from (0 + length above) (flat_map list_line lists))) (above ++ flat_map list_line lists)
+            ≡ length above
         by_lists [] can = ap length (append-nil above)
         by_lists (list ∷ lists) can =
-            ap (λ lines. unwrap_or (option_map (λ line. line.start) (find begins_list lines)) (length (above ++ flat_map list_line (list ∷ lists))))
+            let piece : Piece = record { start = 0 + length above; bytes = list_bytes list } in
+            let later = lines_from (0 + length above + length (list_bytes list) + 1) (flat_map list_line lists) in
+            let text = above ++ flat_map list_line (list ∷ lists) in
+            ap (λ lines. start_by (find begins_list lines) text)
             (first_list (0 + length above) list (flat_map list_line lists) (All-head (CanPrint game) list lists can))
-            ∙ ap (λ b. unwrap_or (option_map (λ (line : Piece). line.start) (cond b (Some (record { start = 0 + length above; bytes = list_bytes list })) (find begins_list (lines_from (0 + length above + length (list_bytes list) + 1) (flat_map list_line lists))))) (length (above ++ flat_map list_line (list ∷ lists)))) (marked list)
+            ∙ ap (λ b. start_by (cond b (Some piece) (find begins_list later)) text) (marked list)
             ∙ omega arith
 
-    pub body_read : (place : ℕ) (board : Board) → Spells game above board → Spells game (board_part body) board × AreLists game (list_lines place body) lists
+    pub body_read : (place : ℕ) (board : Board) → Spells game above board
+        → Spells game (board_part body) board × AreLists game (list_lines place body) lists
     body_read place board spells = (
-      subst (λ text. Spells game text board) (sym (ap (λ n. take n body) starts ∙ take-append_seam above (flat_map list_line lists))) spells,
-      subst (λ n. AreLists game (lines_from (place + n) (drop n body)) lists) (sym starts)
-          (subst (λ text. AreLists game (lines_from (place + length above) text) lists) (sym (drop-append_seam above (flat_map list_line lists))) (lists_read (place + length above) lists can)),
+      rw (starts, take-append_seam above (flat_map list_line lists)) spells,
+      rw (starts, drop-append_seam above (flat_map list_line lists)) (lists_read (place + length above) lists can),
     )
 
 -- ---- the record
@@ -158,7 +170,8 @@ module _ (other : Variant) (above : List ℕ) (contents : Contents) (are : AreLi
   lists_text = flat_map list_line contents.lists
 
   -- with a header
-  pub read_headed : (variant : Variant) (name : List ℕ) → IsGiven name → Spells (game_of variant) above contents.board → All (CanPrint (game_of variant)) contents.lists
+  pub read_headed : (variant : Variant) (name : List ℕ) → IsGiven name → Spells (game_of variant) above contents.board
+      → All (CanPrint (game_of variant)) contents.lists
       → reading_of other (header_text variant name ++ (above ++ lists_text)) ≡ Accepted (with_header variant (Some name)) contents
   read_headed variant name given spells can =
       let text = header_text variant name ++ (above ++ lists_text) in
@@ -172,15 +185,16 @@ module _ (other : Variant) (above : List ℕ) (contents : Contents) (are : AreLi
       })
 
   -- without one
-  pub read_unheaded : begins_with header_mark (above ++ lists_text) ≡ false → Spells (game_of other) above contents.board → All (CanPrint (game_of other)) contents.lists
+  pub read_unheaded : begins_with header_mark (above ++ lists_text) ≡ false → Spells (game_of other) above contents.board
+      → All (CanPrint (game_of other)) contents.lists
       → reading_of other (above ++ lists_text) ≡ Accepted (without_header other) contents
   read_unheaded unmarked spells can =
       let text = above ++ lists_text in
-      let whole : after_header text ≡ text = ap (λ b. cond b (after_first is_line_feed text) text) unmarked in
+      let whole : after_header text ≡ text = rw unmarked in
       let place = length text - length (after_header text) in
       let reads = body_read (game_of other) (few_cells other) above contents.lists are can place contents.board spells in
       accepted-from_Says other text (without_header other) contents (record {
-        header = ap (λ b. cond b (heading_of_words (length (header_line text)) (words_from is_gap 1 (drop 1 (header_line text)))) (Ok (without_header other))) unmarked;
+        header = rw unmarked;
         board = subst (λ body. Spells (game_of other) (board_part body) contents.board) (sym whole) reads.0;
         lists = subst (λ body. AreLists (game_of other) (list_lines place body) contents.lists) (sym whole) reads.1;
       })
@@ -198,21 +212,25 @@ shown-with_header variant other number bytes heading contents accepted has_heade
     let text = text_of contents.board in
     ap (λ b. reading_of other (cond b (header_text heading.variant name) [] ++ text ++ flat_map list_line contents.lists)) has_header
     ∙ ap (reading_of other) (append_assoc (header_text heading.variant name) text (flat_map list_line contents.lists))
-    ∙ read_headed other text contents (lines_of_board (game_of heading.variant) contents.board well) heading.variant name given (text_spells (game_of heading.variant) contents.board well) (lists_can says.lists)
+    ∙ read_headed other text contents (lines_of_board (game_of heading.variant) contents.board well) heading.variant name given
+    (text_spells (game_of heading.variant) contents.board well) (lists_can says.lists)
 
 pub shown-without_header : (variant : Variant) (number : ℕ) (bytes : List ℕ) (heading : Heading) (contents : Contents)
     → reading_of variant bytes ≡ Accepted heading contents → heading.has_header ≡ false
     → reading_of variant (show_lines number heading contents) ≡ Accepted heading contents
 shown-without_header variant number bytes heading contents accepted none =
     let says = Says-from_accepted variant bytes heading contents accepted in
-    by_heading (begins_with header_mark bytes) heading (heading_said variant bytes heading says.header) none says.board.well_formed (lists_can says.lists)
+    by_heading (begins_with header_mark bytes) heading (heading_said variant bytes heading says.header) none says.board.well_formed
+    (lists_can says.lists)
   where
-    by_heading : (has : Bool) (heading : Heading) → IsHeading variant has heading → heading.has_header ≡ false → IsWellFormed (game_of heading.variant) contents.board → All (CanPrint (game_of heading.variant)) contents.lists
+    by_heading : (has : Bool) (heading : Heading) → IsHeading variant has heading → heading.has_header ≡ false
+        → IsWellFormed (game_of heading.variant) contents.board → All (CanPrint (game_of heading.variant)) contents.lists
         → reading_of variant (show_lines number heading contents) ≡ Accepted heading contents
     by_heading has heading (unnamed own) none well can = absurd (cc)
     by_heading has heading (named own name given) none well can = absurd (cc)
     by_heading has heading without none well can =
-        read_unheaded variant (text_of contents.board) contents (lines_of_board (game_of variant) contents.board well) refl (text_spells (game_of variant) contents.board well) can
+        read_unheaded variant (text_of contents.board) contents (lines_of_board (game_of variant) contents.board well) refl
+        (text_spells (game_of variant) contents.board well) can
 
 -- ---- a collection of one record
 
@@ -222,31 +240,59 @@ NoHeader line = begins_with header_mark line ≡ false
 no_starts : (lines : List Piece) → All (λ line. NoHeader line.bytes) lines → starts_of lines ≡ []
 no_starts [] are = refl
 no_starts (line ∷ lines) are =
-    ap (λ b. cond b (line.start ∷ []) [] ++ starts_of lines) (All-head (λ line. NoHeader line.bytes) line lines are) ∙ no_starts lines (All-tail (λ line. NoHeader line.bytes) line lines are)
+    rw (All-head (λ line. NoHeader line.bytes) line lines are, no_starts lines (All-tail (λ line. NoHeader line.bytes) line lines are))
 
 no_marks : (place : ℕ) (text : List ℕ) → AreLines NoHeader text → marks true place text ≡ []
 no_marks place text are = (marks-lines place text).0 ∙ no_starts (lines_from place text) (are.lines place)
 
 plainly : (text : List ℕ) → AreLines IsPlain text → AreLines NoHeader text
-plainly text are = record { ends = are.ends; lines = λ place. All-weaker (λ line. IsPlain line.bytes) (λ line. NoHeader line.bytes) (λ line is. is.0) (lines_from place text) (are.lines place) }
+plainly text are =
+    record {
+      ends = are.ends;
+      lines = λ place. All-weaker (λ line. IsPlain line.bytes) (λ line. NoHeader line.bytes) (λ line is. is.0)
+          (lines_from place text) (are.lines place);
+    }
+
+pub no_header_mark : (list : MoveList) → NoHeader (list_bytes list)
+no_header_mark (OneCard moves) = refl
+no_header_mark (Runs moves) = refl
 
 lines_of_lists : (game : Game) → game.cells ≤ 8 → (lists : List MoveList) → All (CanPrint game) lists → AreLines NoHeader (flat_map list_line lists)
 lines_of_lists game few lists can =
     AreLines-flat_map NoHeader list_line lists
-    (All-weaker (CanPrint game) (λ list. AreLines NoHeader (list_line list)) (λ list can. AreLines-line NoHeader (list_bytes list) (list_in_line game few list can) (no_header_mark list)) lists can)
-  where
-    no_header_mark : (list : MoveList) → NoHeader (list_bytes list)
-    no_header_mark (OneCard moves) = refl
-    no_header_mark (Runs moves) = refl
+    (All-weaker (CanPrint game) (λ list. AreLines NoHeader (list_line list))
+    (λ list can. AreLines-line NoHeader (list_bytes list) (list_in_line game few list can) (no_header_mark list)) lists can)
 
-holds_first : (line rest : List ℕ) → All InLine line → is_empty (line_of (record { start = 0; bytes = line })) ≡ false → has_content (line ++ line_feed ∷ rest) ≡ true
-holds_first line rest in_line holds =
-    ap (list_any (λ line. not (is_empty (line_of line)))) (first_line 0 line rest in_line)
-    ∙ ap (λ b. not b || list_any (λ line. not (is_empty (line_of line))) (lines_from (0 + length line + 1) rest)) holds
+holds_first : (line rest : List ℕ) → All InLine line → is_empty (line_of (record { start = 0; bytes = line })) ≡ false
+    → has_content (line ++ line_feed ∷ rest) ≡ true
+holds_first line rest in_line holds = rw (first_line 0 line rest in_line, holds)
 
 -- the heading that is printed
 abbrev pub printed_heading : Member → Heading
 printed_heading member = if member.heading.has_header then with_header member.heading.variant (Some (name_of_member member)) else member.heading
+
+-- it names the same variant
+pub printed_variant : (member : Member) → (printed_heading member).variant ≡ member.heading.variant
+printed_variant member = by member.heading.has_header
+  where
+    by : (has : Bool)
+        → (if has then with_header member.heading.variant (Some (name_of_member member)) else member.heading).variant ≡ member.heading.variant
+    by true = refl
+    by false = refl
+
+-- and printed again it is the same line
+pub heading_again : (number : ℕ) (member : Member)
+    → heading_line number (printed_heading member) ≡ heading_line member.number member.heading
+heading_again number member = by member.heading.has_header refl
+  where
+    line_if : Bool → ℕ → List ℕ
+    line_if has n = cond has (header_text member.heading.variant (name_of n member.heading.name)) []
+
+    by : (has : Bool) → member.heading.has_header ≡ has
+        → heading_line number (if has then with_header member.heading.variant (Some (name_of_member member)) else member.heading)
+        ≡ heading_line member.number member.heading
+    by true e = rw e
+    by false e = rw e
 
 -- a header, where there is one, lines that spell a board, and lists
 module _ (variant : Variant) (above : List ℕ) (contents : Contents) (are : AreLines IsPlain above) where
@@ -254,9 +300,11 @@ module _ (variant : Variant) (above : List ℕ) (contents : Contents) (are : Are
   all_lines = above ++ flat_map list_line contents.lists
 
   plain_lines : (game : Game) → game.cells ≤ 8 → All (CanPrint game) contents.lists → AreLines NoHeader all_lines
-  plain_lines game few can = AreLines-append NoHeader above (flat_map list_line contents.lists) (plainly above are) (lines_of_lists game few contents.lists can)
+  plain_lines game few can =
+      AreLines-append NoHeader above (flat_map list_line contents.lists) (plainly above are) (lines_of_lists game few contents.lists can)
 
-  module _ (own : Variant) (name : List ℕ) (given : IsGiven name) (spells : Spells (game_of own) above contents.board) (can : All (CanPrint (game_of own)) contents.lists) where
+  module _ (own : Variant) (name : List ℕ) (given : IsGiven name) (spells : Spells (game_of own) above contents.board)
+      (can : All (CanPrint (game_of own)) contents.lists) where
     abbrev line : List ℕ
     line = codes "@ " ++ (variant_word own ++ blank ∷ name)
 
@@ -267,7 +315,8 @@ module _ (variant : Variant) (above : List ℕ) (contents : Contents) (are : Are
     one_start =
         (marks-lines 0 (header_text own name ++ all_lines)).0
         ∙ ap starts_of (ap (lines_from 0) cut ∙ first_line 0 line all_lines (in_line own own name all_lines given))
-        ∙ ap (λ later. 0 ∷ later) (no_starts (lines_from (0 + length line + 1) all_lines) ((plain_lines (game_of own) (few_cells own) can).lines (0 + length line + 1)))
+        ∙ ap (λ later. 0 ∷ later) (no_starts (lines_from (0 + length line + 1) all_lines)
+        ((plain_lines (game_of own) (few_cells own) can).lines (0 + length line + 1)))
 
     pub with_header-IsReadAs : IsReadAs variant true (header_text own name ++ all_lines) (Accepted (with_header own (Some name)) contents)
     with_header-IsReadAs = record {
@@ -282,7 +331,7 @@ module _ (variant : Variant) (above : List ℕ) (contents : Contents) (are : Are
   pub lines-IsReadAs : (has : Bool) (number : ℕ) (heading : Heading) → number ≤ most_countable → IsHeading variant has heading
       → begins_with header_mark all_lines ≡ false → has_content all_lines ≡ true
       → Spells (game_of heading.variant) above contents.board → All (CanPrint (game_of heading.variant)) contents.lists → (own : Contents)
-      → IsReadAs variant has (heading_line number heading ++ all_lines) (Accepted (printed_heading (record { number = number; heading = heading; contents = own })) contents)
+      → IsReadAs variant has (heading_line number heading ++ all_lines) (Accepted (printed_heading (member_of number heading own)) contents)
   lines-IsReadAs has number heading small without unmarked holds spells can own = record {
     ends = (plain_lines (game_of variant) (few_cells variant) can).ends;
     holds = holds;
@@ -291,7 +340,8 @@ module _ (variant : Variant) (above : List ℕ) (contents : Contents) (are : Are
     with_header = λ yes. absurd (cc);
     without_header = λ no. no_marks 0 all_lines (plain_lines (game_of variant) (few_cells variant) can);
   }
-  lines-IsReadAs has number heading small (unnamed own) unmarked holds spells can _ = with_header-IsReadAs own (decimal number) (numbered number small) spells can
+  lines-IsReadAs has number heading small (unnamed own) unmarked holds spells can _ =
+      with_header-IsReadAs own (decimal number) (numbered number small) spells can
   lines-IsReadAs has number heading small (named own name given) unmarked holds spells can _ = with_header-IsReadAs own name given spells can
 
 -- what follows the printed text of a board does not change its first line
@@ -306,46 +356,35 @@ board_first game board more well =
 abbrev pub shown_again : Member → Reading
 shown_again member = Accepted (printed_heading member) member.contents
 
-pub shown-IsReadAs : (variant : Variant) (number : ℕ) (bytes : List ℕ) (heading : Heading) (contents : Contents) → number ≤ most_countable → reading_of variant bytes ≡ Accepted heading contents
-    → IsReadAs variant (begins_with header_mark bytes) (show_lines number heading contents) (shown_again (record { number = number; heading = heading; contents = contents }))
+-- its lines are read as the record
+pub shown-IsReadAs : (variant : Variant) → AreReadAs variant show_lines shown_again
 shown-IsReadAs variant number bytes heading contents small accepted =
     let says = Says-from_accepted variant bytes heading contents accepted in
     let game = game_of heading.variant in
     let well = says.board.well_formed in
     let text = text_of contents.board in
-    subst (λ lines. IsReadAs variant (begins_with header_mark bytes) lines (shown_again (record { number = number; heading = heading; contents = contents })))
-    (sym (append_assoc (heading_line number heading) text (flat_map list_line contents.lists)))
-    (lines-IsReadAs variant text contents (lines_of_board game contents.board well) (begins_with header_mark bytes) number heading small (heading_said variant bytes heading says.header)
-    refl (board_first game contents.board (flat_map list_line contents.lists) well) (text_spells game contents.board well) (lists_can says.lists) contents)
+    rw (append_assoc (heading_line number heading) text (flat_map list_line contents.lists)) (lines-IsReadAs variant text contents
+    (lines_of_board game contents.board well) (begins_with header_mark bytes) number heading small
+    (heading_said variant bytes heading says.header) refl (board_first game contents.board (flat_map list_line contents.lists) well)
+    (text_spells game contents.board well) (lists_can says.lists) contents)
 
-pub shown-records : (variant : Variant) (collection : List ℕ) → All (λ text. text.number ≤ most_countable) (records_of collection)
-    → map (λ text. reading_of variant text.bytes) (records_of (output_of_records (printed show_lines variant) collection)) ≡ map shown_again (members_among variant (records_of collection))
-shown-records variant collection small =
-    (all_read variant show_lines shown_again (shown-IsReadAs variant) collection small).are ∙ agains-members variant show_lines shown_again (shown-IsReadAs variant) (records_of collection)
+pub shown-records : (variant : Variant) → ReadsAgain variant show_lines shown_again
+shown-records variant = all_again variant show_lines shown_again (shown-IsReadAs variant)
 
 abbrev pub shown_once : Member → List ℕ
 shown_once member = show_lines member.number member.heading member.contents
 
-pub same_lines : (variant : Variant) (texts : List RecordText) (members : List Member) → map (λ text. reading_of variant text.bytes) texts ≡ map shown_again members
+pub same_lines : (variant : Variant) (texts : List RecordText) (members : List Member)
+    → map (λ text. reading_of variant text.bytes) texts ≡ map shown_again members
     → flat_map (printed show_lines variant) texts ≡ flat_map shown_once members
-same_lines variant [] [] e = refl
-same_lines variant [] (member ∷ members) e = absurd (cc)
-same_lines variant (text ∷ texts) [] e = absurd (cc)
-same_lines variant (text ∷ texts) (member ∷ members) e =
-    let first : reading_of variant text.bytes ≡ shown_again member = cc in
-    let later : map (λ text. reading_of variant text.bytes) texts ≡ map shown_again members = ap (drop 1) e in
-    ap₂ (λ first later. first ++ later) (ap (printed_by show_lines text) first ∙ by_header member.heading.has_header refl) (same_lines variant texts members later)
-  where
-    by_header : (has : Bool) → member.heading.has_header ≡ has
-        → heading_line text.number (cond has (with_header member.heading.variant (Some (name_of_member member))) member.heading) ++ text_of member.contents.board ++ flat_map list_line member.contents.lists
-        ≡ shown_once member
-    by_header true e =
-        ap (λ b. cond b (header_text member.heading.variant (name_of_member member)) [] ++ text_of member.contents.board ++ flat_map list_line member.contents.lists) (sym e)
-    by_header false e =
-        ap (λ b. cond b (header_text member.heading.variant (name_of text.number member.heading.name)) [] ++ text_of member.contents.board ++ flat_map list_line member.contents.lists) e
-        ∙ ap (λ b. cond b (header_text member.heading.variant (name_of_member member)) [] ++ text_of member.contents.board ++ flat_map list_line member.contents.lists) (sym e)
+same_lines variant texts members e =
+    same_printed variant show_lines shown_again shown_once texts members e
+    (All-weaker (Contains members) (Stays variant show_lines shown_again shown_once) (λ member there text. rw (heading_again text.number member))
+    members (All-contains_itself members))
 
 pub shown-bytes : (variant : Variant) (collection : List ℕ) → All (λ text. text.number ≤ most_countable) (records_of collection)
-    → output_of_records (printed show_lines variant) (output_of_records (printed show_lines variant) collection) ≡ flat_map shown_once (members_among variant (records_of collection))
+    → output_of_records (printed show_lines variant) (output_of_records (printed show_lines variant) collection)
+    ≡ flat_map shown_once (members_among variant (records_of collection))
 shown-bytes variant collection small =
-    same_lines variant (records_of (output_of_records (printed show_lines variant) collection)) (members_among variant (records_of collection)) (shown-records variant collection small)
+    same_lines variant (records_of (output_of_records (printed show_lines variant) collection))
+    (members_among variant (records_of collection)) (shown-records variant collection small)

@@ -2,31 +2,29 @@
 use Rattle.std.proofs.Common.{◌++◌, ◌<◌, ◌==◌, ◌||◌, ◌↔◌, ◌∙◌, ◌∷◌, ◌≡◌, [], All, ap, arith, Bool}
 use Rattle.std.proofs.Common.{cond, Contains, false, filter, get_or, if◌then◌else◌, is_some, length}
 use Rattle.std.proofs.Common.{List, map, None, Option, refl, slice_get, Some, subst, suc, sym, true}
-use Rattle.std.proofs.Common.{true≢false, zero, ℕ}
-use Rattle.std.proofs.lemmas.Bool.{both_ways, eq-eqb, eqb-true}
-use Rattle.std.proofs.lemmas.List.{append-nil}
-use Rattle.std.proofs.lemmas.List.Elements.{All-cons, All-nil}
-use Rattle.std.proofs.lemmas.List.Folds.{list_any_at}
-use Rattle.std.proofs.lemmas.Option.{same_Some}
-use Rattle.std.specs.List.{find, flat_map, list_any}
-use Rattle.std.specs.Option.{option_to_list}
-use Rattle.fc_parts.proofs.MoveListLemmas.{list_wins-carried, list_won-exactly}
-use Rattle.fc_parts.specs.{Board, Game, game_of, inverse_passage, IsWellFormed, list_image}
-use Rattle.fc_parts.specs.{list_verdict, MoveList, OnlyLegal, passage_product, Refused}
-use Rattle.fc_parts.specs.{renamings_of, RuleLaws, Verdict, Wins, Won}
-use Rattle.fc_parts.specs.laws.RenamingTests.{bakers_game_laws, eight_off_laws, freecell_laws}
-use Rattle.fc_parts.specs.declared.rule.Variant.{Variant}
-use Rattle.fc_parts.specs.declared.rule.Variant.TheVariants.{BakersGame, EightOff, FreeCell}
-use Rattle.fc_print.specs.{text_of}
+use Rattle.std.proofs.{Common.{true≢false, zero, ℕ}, lemmas.Bool.{both_ways, eq-eqb, eqb-true}}
+use Rattle.std.proofs.lemmas.List.{append-nil, Elements.{All-cons, All-nil}, Folds.{list_any_at}}
+use Rattle.std.{proofs.lemmas.Option.{same_Some}, specs.List.{find, flat_map, list_any}}
+use Rattle.fc_board.proofs.MoveListLemmas.{list_wins-carried, list_won-exactly}
+use Rattle.fc_board.specs.Boards.{Board, IsWellFormed}
+use Rattle.fc_board.specs.Games.{Game, game_of, renamings_of, RuleLaws}
+use Rattle.fc_board.specs.laws.RenamingTests.{bakers_game_laws, eight_off_laws, freecell_laws}
+use Rattle.fc_board.specs.Moves.{list_image, MoveList}
+use Rattle.fc_board.specs.Passages.{inverse_passage, passage_product}
+use Rattle.fc_board.specs.Play.{list_verdict, OnlyLegal, Refused, Verdict, Wins, Won}
+use Rattle.fc_board.specs.declared.rule.Variant.TheVariants.{BakersGame, EightOff, FreeCell}
+use Rattle.fc_board.specs.declared.rule.Variant.{Variant}
+use Rattle.fc_text.specs.Printed.{text_of}
 use Rattle.fc_canon.proofs.LeastTextLemmas.{chosen-between, chosen_passage-Chosen}
 use Rattle.fc_canon.proofs.SymmetryLemmas.{Contains-kept, kept-Contains}
 use Rattle.fc_canon.specs.{chosen_passage, Equivalent, IsFirst}
-use Rattle.fc_record.specs.{header_text, image_line, is_win, list_line}
-use Rattle.fc_engine.specs.{belong_together, groups_of, leaders_after, Member, member_lines}
-use Rattle.fc_engine.specs.{members_among, name_of_member, owner_among, passage_between, passage_of}
-use Rattle.fc_engine.specs.{records_of, shared_line, solution_line, solution_of}
-use Rattle.fc_groups.proofs.GroupLemmas.{Apart, leaders-Apart, leaders-cover, together}
-use Rattle.fc_collect.proofs.GroupLemmas.{has_one-Contains, together-Equivalent}
+use Rattle.fc_record.specs.{Printing.{header_text, image_line, list_line}, Tables.{is_win}}
+use Rattle.fc_collect.proofs.GroupLemmas.{Apart, leaders-Apart, leaders-cover, together}
+use Rattle.fc_collect.proofs.GroupNameLemmas.{has_one-Contains, together-Equivalent}
+use Rattle.fc_collect.specs.Groups.{belong_together, groups_of, leaders_after, Member, member_lines}
+use Rattle.fc_collect.specs.Groups.{members_among, name_of_member, owner_among, passage_between}
+use Rattle.fc_collect.specs.Groups.{passage_of, shared_line, solution_line, solution_of}
+use Rattle.fc_collect.specs.Records.{records_of}
 use Rattle.fc_laws.proofs.CanonicalAgainLemmas.{image_can}
 use Rattle.fc_laws.proofs.MemberLemmas.{CanPrint, member-Can, member-IsWellFormed, one_of_a_number}
 
@@ -41,17 +39,20 @@ any_where : {X : Type 0} (test : X → Bool) (items : List X) → list_any test 
 any_where test [] e = absurd (true≢false (sym e))
 any_where {X} test (first ∷ rest) e = by (test first) refl e (any_where test rest)
   where
-    by : (b : Bool) → test first ≡ b → (b || list_any test rest) ≡ true → (list_any test rest ≡ true → (item : X) × Contains rest item × (test item ≡ true))
+    by : (b : Bool) → test first ≡ b → (b || list_any test rest) ≡ true
+        → (list_any test rest ≡ true → (item : X) × Contains rest item × (test item ≡ true))
         → (item : X) × Contains (first ∷ rest) item × (test item ≡ true)
     by true passes e on = (first, (0, omega arith, refl), passes)
     by false fails e on = let (item, (place, inside, at), passes) = on e in (item, (suc place, omega arith, at), passes)
 
-any-at : {X : Type 0} (test : X → Bool) (items : List X) (place : ℕ) (item : X) → slice_get items place ≡ Some item → test item ≡ true → list_any test items ≡ true
+any-at : {X : Type 0} (test : X → Bool) (items : List X) (place : ℕ) (item : X) → slice_get items place ≡ Some item → test item ≡ true
+    → list_any test items ≡ true
 any-at test items place item at passes =
     let (found, inside, there) = at-Contains items place item at in
     list_any_at test items found item inside (ap test there ∙ passes)
 
-mapped-at : {X Y : Type 0} (f : X → Y) (items : List X) (place : ℕ) (image : Y) → slice_get (map f items) place ≡ Some image → (item : X) × (slice_get items place ≡ Some item) × (f item ≡ image)
+mapped-at : {X Y : Type 0} (f : X → Y) (items : List X) (place : ℕ) (image : Y) → slice_get (map f items) place ≡ Some image
+    → (item : X) × (slice_get items place ≡ Some item) × (f item ≡ image)
 mapped-at f [] place image at = absurd (cc)
 mapped-at f (first ∷ rest) zero image at = (first, refl, same_Some (f first) image at)
 mapped-at f (first ∷ rest) (suc place) image at = mapped-at f rest place image at
@@ -64,7 +65,8 @@ Contains-at (first ∷ rest) item (suc place, inside, at) = let (later, there) =
 mapped-Contains : {X Y : Type 0} (f : X → Y) (items : List X) (item : X) → Contains items item → Contains (map f items) (f item)
 mapped-Contains f [] item (place, inside, at) = absurd (omega arith)
 mapped-Contains f (first ∷ rest) item (zero, inside, at) = (0, omega arith, ap f at)
-mapped-Contains f (first ∷ rest) item (suc place, inside, at) = let (later, inside', there) = mapped-Contains f rest item (place, omega arith, at) in (suc later, omega arith, there)
+mapped-Contains f (first ∷ rest) item (suc place, inside, at) =
+    let (later, inside', there) = mapped-Contains f rest item (place, omega arith, at) in (suc later, omega arith, there)
 
 -- ---- the first that passes a test
 
@@ -80,7 +82,7 @@ found-first test first rest passes = record { place = 0; at = refl; passes = pas
 
 module _ {X : Type 0} (test : X → Bool) (first item : X) (rest : List X) (fails : test first ≡ false) (later : IsFound test rest item) where
   fails_before : (earlier : ℕ) (other : X) → earlier < suc later.place → slice_get (first ∷ rest) earlier ≡ Some other → test other ≡ false
-  fails_before zero other below at = ap test (sym (same_Some first other at)) ∙ fails
+  fails_before zero other below at = rw (← same_Some first other at, fails)
   fails_before (suc earlier) other below at = later.before earlier other (omega arith) at
 
   found-later : IsFound test (first ∷ rest) item
@@ -90,7 +92,8 @@ pub found : {X : Type 0} (test : X → Bool) (items : List X) (item : X) → fin
 found test [] item e = absurd (cc)
 found {X} test (first ∷ rest) item e = by (test first) refl e (found test rest item)
   where
-    by : (b : Bool) → test first ≡ b → cond b (Some first) (find test rest) ≡ Some item → (find test rest ≡ Some item → IsFound test rest item) → IsFound test (first ∷ rest) item
+    by : (b : Bool) → test first ≡ b → cond b (Some first) (find test rest) ≡ Some item
+        → (find test rest ≡ Some item → IsFound test rest item) → IsFound test (first ∷ rest) item
     by true passes e on = subst (IsFound test (first ∷ rest)) (same_Some first item e) (found-first test first rest passes)
     by false fails e on = found-later test first item rest fails (on e)
 
@@ -98,10 +101,11 @@ pub none_found : {X : Type 0} (test : X → Bool) (items : List X) (item : X) �
 none_found test [] item e (place, inside, at) = absurd (omega arith)
 none_found {X} test (first ∷ rest) item e (place, inside, at) = by (test first) refl e place inside at (none_found test rest item)
   where
-    by : (b : Bool) → test first ≡ b → cond b (Some first) (find test rest) ≡ None → (place : ℕ) → place < length (first ∷ rest) → get_or (first ∷ rest) place item ≡ item
+    by : (b : Bool) → test first ≡ b → cond b (Some first) (find test rest) ≡ None → (place : ℕ) → place < length (first ∷ rest)
+        → get_or (first ∷ rest) place item ≡ item
         → (find test rest ≡ None → Contains rest item → test item ≡ false) → test item ≡ false
     by true passes e place inside at on = absurd (cc)
-    by false fails e zero inside at on = ap test (sym at) ∙ fails
+    by false fails e zero inside at on = rw (← at, fails)
     by false fails e (suc place) inside at on = on e (place, omega arith, at)
 
 -- ---- the members of a group
@@ -115,16 +119,19 @@ module _ (members : List Member) where
       → (leader : Member) × (slice_get (leaders_after [] members) place ≡ Some leader) × (led leader ≡ group)
   group-led group place at = mapped-at led (leaders_after [] members) place group at
 
-  pub of-led : (leader member : Member) (group : List Member) → led leader ≡ group → Contains group member → Contains members member × (belong_together leader member ≡ true)
-  of-led leader member group is there = kept-Contains (belong_together leader) member members (subst (λ group. Contains group member) (sym is) there)
+  pub of-led : (leader member : Member) (group : List Member) → led leader ≡ group → Contains group member
+      → Contains members member × (belong_together leader member ≡ true)
+  of-led leader member group is there = kept-Contains (belong_together leader) member members (rw is there)
 
-  pub group-of_members : (group : List Member) (member : Member) → Contains (groups_of members) group → Contains group member → Contains members member
+  pub group-of_members : (group : List Member) (member : Member) → Contains (groups_of members) group → Contains group member
+      → Contains members member
   group-of_members group member known there =
       let (place, at) = Contains-at (groups_of members) group known in
       let (leader, led_at, is) = group-led group place at in
       (of-led leader member group is there).0
 
-  pub group-together : (group : List Member) (member other : Member) → Contains (groups_of members) group → Contains group member → Contains group other → belong_together member other ≡ true
+  pub group-together : (group : List Member) (member other : Member) → Contains (groups_of members) group → Contains group member
+      → Contains group other → belong_together member other ≡ true
   group-together group member other known there there' =
       let (place, at) = Contains-at (groups_of members) group known in
       let (leader, led_at, is) = group-led group place at in
@@ -135,14 +142,17 @@ module _ (members : List Member) where
   pub together-group : (member other : Member) → Contains members member → Contains members other → belong_together member other ≡ true
       → (group : List Member) × Contains (groups_of members) group × Contains group member × Contains group other
   together-group member other there there' e =
-      let (leader, leads, one) = any_where (λ leader. belong_together leader member) (leaders_after [] members) (sym (leaders-cover member [] members) ∙ has_one-Contains members member there) in (
+      let (leader, leads, one) =
+      any_where (λ leader. belong_together leader member) (leaders_after [] members)
+      (sym (leaders-cover member [] members) ∙ has_one-Contains members member there) in (
         led leader,
         mapped-Contains led (leaders_after [] members) leader leads,
         Contains-kept (belong_together leader) member one members there,
         Contains-kept (belong_together leader) other (together.congr leader member other one ∙ e) members there',
       )
 
-apart_places : (leaders : List Member) (place next : ℕ) (leader other : Member) → Apart leaders → slice_get leaders place ≡ Some leader → slice_get leaders next ≡ Some other
+apart_places : (leaders : List Member) (place next : ℕ) (leader other : Member) → Apart leaders → slice_get leaders place ≡ Some leader
+    → slice_get leaders next ≡ Some other
     → belong_together leader other ≡ true → place ≡ next
 apart_places [] place next leader other apart at at' e = absurd (cc)
 apart_places (first ∷ rest) zero zero leader other apart at at' e = refl
@@ -164,7 +174,7 @@ groups-apart members group other place next member at at' there there' =
     apart_places (leaders_after [] members) place next leader leader' (leaders-Apart [] members) led_at led_at'
     (together.congr leader member leader' one ∙ together.symm member leader' ∙ two)
 
-won-by : (ensured : Verdict) → is_win ensured ≡ true → ensured ≡ Won
+pub won-by : (ensured : Verdict) → is_win ensured ≡ true → ensured ≡ Won
 won-by Won e = refl
 won-by OnlyLegal e = absurd (true≢false (sym e))
 won-by (Refused index fault) e = absurd (true≢false (sym e))
@@ -182,37 +192,51 @@ module _ (variant : Variant) (collection : List ℕ) where
       → ((group : List Member) × Contains (groups_of accepted) group × Contains group member × Contains group other)
       ↔ ((member.heading.variant ≡ other.heading.variant) × Equivalent (game_of member.heading.variant) member.contents.board other.contents.board)
   classes member other there there' = (
-    (λ (group, known, one, two). (together-Equivalent member other (well member there) (well other there')).0 (group-together accepted group member other known one two)),
+    (λ (group, known, one, two). (together-Equivalent member other (well member there) (well other there')).0
+        (group-together accepted group member other known one two)),
     (λ alike. together-group accepted member other there there' ((together-Equivalent member other (well member there) (well other there')).1 alike)),
   )
 
   -- ---- lists that win
 
   module _ (member : Member) (there : Contains accepted member) where
+    abbrev verdict : MoveList → Verdict
+    verdict list = list_verdict (game_of member.heading.variant) member.contents.board list
+
+    abbrev passes : MoveList → Bool
+    passes list = is_win (verdict list)
+
+    abbrev Winning : MoveList → Type 0
+    Winning list = Wins (game_of member.heading.variant) member.contents.board list
+
     wins-exactly : (list : MoveList) → Contains member.contents.lists list
-        → (list_verdict (game_of member.heading.variant) member.contents.board list ≡ Won) ↔ Wins (game_of member.heading.variant) member.contents.board list
+        → (verdict list ≡ Won)
+        ↔ Winning list
     wins-exactly list listed =
-        list_won-exactly (game_of member.heading.variant) member.contents.board list (member-Can variant (records_of collection) member list there listed).0 (well member there).piles.four_foundations
+        list_won-exactly (game_of member.heading.variant) member.contents.board list
+        (member-Can variant (records_of collection) member list there listed).0 (well member there).piles.four_foundations
 
-    pub passes-Wins : (list : MoveList) → Contains member.contents.lists list → is_win (list_verdict (game_of member.heading.variant) member.contents.board list) ≡ true
-        → Wins (game_of member.heading.variant) member.contents.board list
-    passes-Wins list listed e = (wins-exactly list listed).0 (won-by (list_verdict (game_of member.heading.variant) member.contents.board list) e)
+    pub passes-Wins : (list : MoveList) → Contains member.contents.lists list
+        → passes list ≡ true
+        → Winning list
+    passes-Wins list listed e = (wins-exactly list listed).0 (won-by (verdict list) e)
 
-    pub Wins-passes : (list : MoveList) → Contains member.contents.lists list → Wins (game_of member.heading.variant) member.contents.board list
-        → is_win (list_verdict (game_of member.heading.variant) member.contents.board list) ≡ true
+    pub Wins-passes : (list : MoveList) → Contains member.contents.lists list → Winning list
+        → passes list ≡ true
     Wins-passes list listed wins = ap is_win ((wins-exactly list listed).1 wins)
 
     pub solution-first : (list : MoveList) → solution_of member ≡ Some list
-        → IsFirst (Wins (game_of member.heading.variant) member.contents.board) member.contents.lists list
+        → IsFirst Winning member.contents.lists list
     solution-first list e =
-        let first = found (λ list. is_win (list_verdict (game_of member.heading.variant) member.contents.board list)) member.contents.lists list e in (
+        let first = found passes member.contents.lists list e in (
           first.place,
           first.at,
           passes-Wins list (at-Contains member.contents.lists first.place list first.at) first.passes,
-          λ earlier other below at wins. absurd (true≢false (sym (Wins-passes other (at-Contains member.contents.lists earlier other at) wins) ∙ first.before earlier other below at)),
+          λ earlier other below at wins. absurd
+              (true≢false (sym (Wins-passes other (at-Contains member.contents.lists earlier other at) wins) ∙ first.before earlier other below at)),
         )
 
-    pub solution-Wins : (list : MoveList) → solution_of member ≡ Some list → Wins (game_of member.heading.variant) member.contents.board list
+    pub solution-Wins : (list : MoveList) → solution_of member ≡ Some list → Winning list
     solution-Wins list e = let (place, at, wins, before) = solution-first list e in wins
 
     pub solution-Can : (list : MoveList) → solution_of member ≡ Some list → CanPrint (game_of member.heading.variant) list
@@ -220,13 +244,14 @@ module _ (variant : Variant) (collection : List ℕ) where
         let (place, at, wins, before) = solution-first list e in
         member-Can variant (records_of collection) member list there (at-Contains member.contents.lists place list at)
 
-    some_solution : (list : MoveList) → Contains member.contents.lists list → Wins (game_of member.heading.variant) member.contents.board list → is_some (solution_of member) ≡ true
+    some_solution : (list : MoveList) → Contains member.contents.lists list
+        → Winning list → is_some (solution_of member) ≡ true
     some_solution list listed wins = by (solution_of member) refl
       where
         by : (solution : Option MoveList) → solution_of member ≡ solution → is_some solution ≡ true
         by (Some found) e = refl
         by None e = absurd (true≢false (sym (Wins-passes list listed wins)
-            ∙ none_found (λ list. is_win (list_verdict (game_of member.heading.variant) member.contents.board list)) member.contents.lists list e listed))
+            ∙ none_found passes member.contents.lists list e listed))
 
 -- ---- the owner
 
@@ -248,9 +273,7 @@ owner-first members owner e =
     )
 
 pub unchanged : (owner : Member) (list : MoveList) → solution_of owner ≡ Some list → solution_line owner (Some owner) ≡ list_line list
-unchanged owner list e =
-    ap (λ solution. flat_map (shared_line owner owner) (option_to_list solution)) e ∙ append-nil (shared_line owner owner list)
-    ∙ ap (λ same. if same then list_line list else image_line (passage_between owner owner) list) (eq-eqb owner.number owner.number refl)
+unchanged owner list e = rw (e, append-nil (shared_line owner owner list), eq-eqb owner.number owner.number refl)
 
 -- ---- what the members of a group get
 
@@ -263,24 +286,28 @@ pub record AreGiven (owner : Option Member) (member : Member) (lists : List Move
 abbrev IsSolution : Game → Board → MoveList → Type 0
 IsSolution game board list = Wins game board list × CanPrint game list
 
-image-wins : {game : Game} {renamings : List (List ℕ)} {cells count : ℕ} {kings_only : Bool} → RuleLaws game renamings cells count kings_only → (board other : Board) (list : MoveList)
+image-wins : {game : Game} {renamings : List (List ℕ)} {cells count : ℕ} {kings_only : Bool}
+    → RuleLaws game renamings cells count kings_only → (board other : Board) (list : MoveList)
     → IsWellFormed game board → IsWellFormed game other → Equivalent game board other → CanPrint game list
-    → Wins game board list → IsSolution game other (list_image (passage_product (chosen_passage renamings board) (inverse_passage (chosen_passage renamings other))) list)
+    → Wins game board list
+    → IsSolution game other (list_image (passage_product (chosen_passage renamings board) (inverse_passage (chosen_passage renamings other))) list)
 image-wins {game} {renamings} laws board other list well well' equivalent can wins =
     let between = passage_product (chosen_passage renamings board) (inverse_passage (chosen_passage renamings other)) in
     let carries = chosen-between game renamings board other (chosen_passage renamings board) (chosen_passage renamings other) well well'
     (chosen_passage-Chosen laws board well) (chosen_passage-Chosen laws other well') equivalent in
     (list_wins-carried laws between board other well carries list can.0 wins, image_can game between carries.is_passage list can)
 
-rules : (variant : Variant) (board other : Board) (list : MoveList) → IsWellFormed (game_of variant) board → IsWellFormed (game_of variant) other → Equivalent (game_of variant) board other
+rules : (variant : Variant) (board other : Board) (list : MoveList) → IsWellFormed (game_of variant) board
+    → IsWellFormed (game_of variant) other → Equivalent (game_of variant) board other
     → CanPrint (game_of variant) list → Wins (game_of variant) board list
-    → IsSolution (game_of variant) other (list_image (passage_product (chosen_passage (renamings_of variant) board) (inverse_passage (chosen_passage (renamings_of variant) other))) list)
+    → IsSolution (game_of variant) other
+    (list_image (passage_product (chosen_passage (renamings_of variant) board) (inverse_passage (chosen_passage (renamings_of variant) other))) list)
 rules FreeCell board other list = image-wins freecell_laws board other list
 rules BakersGame board other list = image-wins bakers_game_laws board other list
 rules EightOff board other list = image-wins eight_off_laws board other list
 
 end_lines : (front line : List ℕ) → front ++ (line ++ []) ≡ front ++ [] ++ line
-end_lines front line = ap (λ line. front ++ line) (append-nil line) ∙ ap (λ front. front ++ line) (sym (append-nil front))
+end_lines front line = rw (append-nil line, append-nil front)
 
 module _ (variant : Variant) (collection : List ℕ) (group : List Member) (known : Contains (groups_of (accepted variant collection)) group) where
   abbrev here : List Member
@@ -289,34 +316,47 @@ module _ (variant : Variant) (collection : List ℕ) (group : List Member) (know
   among : (member : Member) → Contains group member → Contains here member
   among member there = group-of_members here group member known there
 
-  -- the image of the owner's solution wins from the board of a member
-  wins_for : (owner member : Member) (list : MoveList) → Contains group owner → Contains group member → CanPrint (game_of owner.heading.variant) list → Wins (game_of owner.heading.variant) owner.contents.board list
-      → IsSolution (game_of member.heading.variant) member.contents.board (list_image (passage_between owner member) list)
-  wins_for owner member list there there' can wins =
-      let (same, alike) = (together-Equivalent owner member (well variant collection owner (among owner there)) (well variant collection member (among member there'))).0
-      (group-together here group owner member known there there') in
-      let well' = subst (λ variant. IsWellFormed (game_of variant) member.contents.board) (sym same) (well variant collection member (among member there')) in
-      subst (λ v. IsSolution (game_of v) member.contents.board (list_image (passage_product (passage_of owner) (inverse_passage (chosen_passage (renamings_of v) member.contents.board))) list)) same
-      (rules owner.heading.variant owner.contents.board member.contents.board list (well variant collection owner (among owner there)) well' alike can wins)
+  module _ (owner member : Member) (there : Contains group owner) (there' : Contains group member) where
+    well_owner : IsWellFormed (game_of owner.heading.variant) owner.contents.board
+    well_owner = well variant collection owner (among owner there)
 
-  gets : (owner member : Member) (list : MoveList) → Contains group owner → Contains group member → solution_of owner ≡ Some list
-      → (shared : MoveList) × IsSolution (game_of member.heading.variant) member.contents.board shared × (shared_line owner member list ≡ list_line shared)
-  gets owner member list there there' e = by (owner.number == member.number) refl
-    where
-      by : (b : Bool) → (owner.number == member.number) ≡ b
-          → (shared : MoveList) × IsSolution (game_of member.heading.variant) member.contents.board shared × (shared_line owner member list ≡ list_line shared)
-      by true same = (
-        list,
-        subst (λ member. IsSolution (game_of member.heading.variant) member.contents.board list)
-            (one_of_a_number variant collection owner member (among owner there) (among member there') (eqb-true owner.number member.number same))
-            (solution-Wins variant collection owner (among owner there) list e, solution-Can variant collection owner (among owner there) list e),
-        ap (λ same. if same then list_line list else image_line (passage_between owner member) list) same,
-      )
-      by false other = (
-        list_image (passage_between owner member) list,
-        wins_for owner member list there there' (solution-Can variant collection owner (among owner there) list e) (solution-Wins variant collection owner (among owner there) list e),
-        ap (λ same. if same then list_line list else image_line (passage_between owner member) list) other,
-      )
+    well_member : IsWellFormed (game_of member.heading.variant) member.contents.board
+    well_member = well variant collection member (among member there')
+
+    -- the image of the owner's solution wins from the board of a member
+    wins_for : (list : MoveList) → IsSolution (game_of owner.heading.variant) owner.contents.board list
+        → IsSolution (game_of member.heading.variant) member.contents.board (list_image (passage_between owner member) list)
+    wins_for list (wins, can) =
+        let (same, alike) =
+        (together-Equivalent owner member well_owner well_member).0 (group-together here group owner member known there there') in
+        let well' = rw (← same) at well_member in
+        let image = λ (own : Variant). list_image
+        (passage_product (passage_of owner) (inverse_passage (chosen_passage (renamings_of own) member.contents.board))) list in
+        subst (λ own. IsSolution (game_of own) member.contents.board (image own)) same
+        (rules owner.heading.variant owner.contents.board member.contents.board list well_owner well' alike can wins)
+
+    gets : (list : MoveList) → solution_of owner ≡ Some list
+        → (shared : MoveList) × IsSolution (game_of member.heading.variant) member.contents.board shared
+        × (shared_line owner member list ≡ list_line shared)
+    gets list e = by (owner.number == member.number) refl
+      where
+        solves : IsSolution (game_of owner.heading.variant) owner.contents.board list
+        solves = (
+          solution-Wins variant collection owner (among owner there) list e,
+          solution-Can variant collection owner (among owner there) list e,
+        )
+
+        line_if : Bool → List ℕ
+        line_if same = if same then list_line list else image_line (passage_between owner member) list
+
+        by : (b : Bool) → (owner.number == member.number) ≡ b
+            → (shared : MoveList) × IsSolution (game_of member.heading.variant) member.contents.board shared
+            × (shared_line owner member list ≡ list_line shared)
+        by true same =
+            let numbers = eqb-true owner.number member.number same in
+            let one = one_of_a_number variant collection owner member (among owner there) (among member there') numbers in
+            (list, rw (← one) solves, ap line_if same)
+        by false other = (list_image (passage_between owner member) list, wins_for list solves, ap line_if other)
 
   pub solution_for_all : (winner : Member) (winning : MoveList) → Contains group winner → Contains winner.contents.lists winning
       → Wins (game_of winner.heading.variant) winner.contents.board winning → (member : Member) → Contains group member
@@ -330,28 +370,31 @@ module _ (variant : Variant) (collection : List ℕ) (group : List Member) (know
           ∙ none_found (λ member. is_some (solution_of member)) group winner e there))
       by (Some owner) e =
           let (place, at, (list, is), first) = owner-first group owner e in
-          let (shared, wins', same) = gets owner member list (at-Contains group place owner at) there' is in (
+          let (shared, wins', same) = gets owner member (at-Contains group place owner at) there' list is in
+          let front = header_text member.heading.variant (name_of_member member) ++ text_of member.contents.board in (
             shared,
             wins'.0,
-            ap (λ solution. header_text member.heading.variant (name_of_member member) ++ text_of member.contents.board ++ flat_map (shared_line owner member) (option_to_list solution)) is
-                ∙ ap (λ line. header_text member.heading.variant (name_of_member member) ++ text_of member.contents.board ++ (line ++ [])) same
-                ∙ end_lines (header_text member.heading.variant (name_of_member member) ++ text_of member.contents.board) (list_line shared),
+            rw (is, same) (end_lines front (list_line shared)),
           )
 
   -- the lists that a member gets, where this is the owner
-  pub given_to : (owner : Option Member) (member : Member) → owner_among group ≡ owner → Contains group member → (lists : List MoveList) × AreGiven owner member lists
+  pub given_to : (owner : Option Member) (member : Member) → owner_among group ≡ owner → Contains group member
+      → (lists : List MoveList) × AreGiven owner member lists
   given_to None member e there' = ([], record { line = refl; are = All-nil (IsSolution (game_of member.heading.variant) member.contents.board) })
   given_to (Some owner) member e there' =
       let (place, at, (list, is), first) = owner-first group owner e in
-      let (shared, solves, same) = gets owner member list (at-Contains group place owner at) there' is in (
+      let (shared, solves, same) = gets owner member (at-Contains group place owner at) there' list is in (
         shared ∷ [],
         record {
-          line = ap (λ solution. flat_map (shared_line owner member) (option_to_list solution)) is ∙ ap (λ line. line ++ []) same;
-          are = All-cons (IsSolution (game_of member.heading.variant) member.contents.board) shared [] solves (All-nil (IsSolution (game_of member.heading.variant) member.contents.board));
+          line = rw (is, same);
+          are =
+              All-cons (IsSolution (game_of member.heading.variant) member.contents.board) shared [] solves
+              (All-nil (IsSolution (game_of member.heading.variant) member.contents.board));
         },
       )
 
-  pub none_for_all : ((member : Member) (list : MoveList) → Contains group member → Contains member.contents.lists list → ¬ Wins (game_of member.heading.variant) member.contents.board list)
+  pub none_for_all : ((member : Member) (list : MoveList) → Contains group member → Contains member.contents.lists list
+      → ¬ Wins (game_of member.heading.variant) member.contents.board list)
       → (member : Member) → Contains group member → member_lines (owner_among group) member ≡ member_lines None member
   none_for_all never member there = by (owner_among group) refl
     where

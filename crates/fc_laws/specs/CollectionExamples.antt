@@ -1,14 +1,14 @@
 -- Collections as keepers of FreeCell boards write them, and what is printed for them.
 use Rattle.std.specs.List.{flat_map, join_with_byte}
 use Rattle.std.specs.Prelude.{◌++◌, ◌∷◌, [], codes, List, replicate, ℕ}
-use Rattle.{fc_parts.specs.declared.rule.Variant.TheVariants.{FreeCell}, fc_run.specs.{largest}}
-use Rattle.fc_print.specs.{carriage_return, line_feed, tab}
-use Rattle.fc_record.specs.{canon_lines, check_lines, Contents, expand_lines, Heading, printed}
-use Rattle.fc_record.specs.{show_lines, table_line, table_object}
-use Rattle.fc_engine.specs.{group_lines, grouped, Member, records_from, records_of, share_lines}
-use Rattle.fc_engine.specs.{unique_output, whole_output}
-use Rattle.fc_collect.specs.{ending_of_kind, output_of_kind}
-use Rattle.fc_collect.specs.declared.commands.Format.{Format, TheVariants.{Lines}}
+use Rattle.fc_board.specs.declared.rule.Variant.TheVariants.{FreeCell}
+use Rattle.fc_text.specs.Bytes.{carriage_return, line_feed, tab}
+use Rattle.fc_record.specs.Grammar.{Contents, Heading}
+use Rattle.fc_record.specs.Printing.{canon_lines, check_lines, expand_lines, printed, show_lines}
+use Rattle.fc_record.specs.Tables.{table_line, table_object}
+use Rattle.fc_collect.specs.Groups.{group_lines, grouped, Member, share_lines, unique_output}
+use Rattle.fc_collect.specs.{Limits.{largest}, Records.{records_from, records_of, whole_output}}
+use Rattle.fc_collect.specs.Runs.{ending_of_kind, output_of_kind}
 use Rattle.fc_collect.specs.declared.commands.RunKind.{RunKind}
 use Rattle.fc_laws.specs.{CanonicalExamples.{clubs_king_text}, TextExamples.{all_home, lines_text}}
 
@@ -48,16 +48,16 @@ output_of_share collection = printed_in_groups share_lines collection
 abbrev pub output_of_unique : List ℕ → List ℕ
 output_of_unique collection = unique_output FreeCell (records_of collection)
 
--- what a run of this kind and format writes
-abbrev pub output_of_run : RunKind → Format → List ℕ → List ℕ
-output_of_run kind format collection =
-    output_of_kind kind format FreeCell (records_of collection) ++ ending_of_kind kind format FreeCell (records_of collection)
+-- what a run of this kind writes
+abbrev pub output_of_run : RunKind → List ℕ → List ℕ
+output_of_run kind collection =
+    output_of_kind kind FreeCell (records_of collection) ++ ending_of_kind kind FreeCell (records_of collection)
 
 -- what it writes of a piece of a collection that begins with the record of this number, at this byte
 abbrev pub output_of_piece : RunKind → ℕ → ℕ → List ℕ → List ℕ
 output_of_piece kind number place piece =
     let records = records_from (record largest { number = number; place = place }) piece in
-    output_of_kind kind Lines FreeCell records ++ ending_of_kind kind Lines FreeCell records
+    output_of_kind kind FreeCell records ++ ending_of_kind kind FreeCell records
 
 -- two boards that are one another's images, of which the second has a solution
 abbrev pub group_of_two : List ℕ

@@ -1,6 +1,6 @@
 -- Printed texts as FreeCell players know them: of Microsoft's deal 1, and of the board on which all cards are home.
 use Rattle.std.specs.{List.{flat_map}, Prelude.{◌++◌, ◌∷◌, [], codes, List, ℕ}}
-use Rattle.fc_print.specs.{blank, carriage_return, line_feed, tab}
+use Rattle.fc_text.specs.Bytes.{blank, carriage_return, line_feed, tab}
 
 -- lines, each ended by a line feed
 abbrev pub lines_text : List (List ℕ) → List ℕ

@@ -1,9 +1,10 @@
 //! Laws of boards, passages and moves as plain bytes.
 ghost use Rattle.std.specs.Prelude.{◌↔◌, ◌∷◌, ◌≡◌, [], replicate};
 ghost use Rattle.fc_card.specs.declared.suit.Suit.TheVariants.{C, D, H, S};
-ghost use Rattle.fc_parts.specs.{Board, carried, IsPassage, IsWellFormed, Passage, word};
-ghost use Rattle.fc_parts.specs.declared.{moves.Move.{Move}, run_move.RunMove.{RunMove}};
-ghost use Rattle.fc_parts.specs.declared.run_move.RunMove.TheVariants.{One};
+ghost use Rattle.fc_board.specs.{Boards.{Board, IsWellFormed}, Games.{word}};
+ghost use Rattle.fc_board.specs.Passages.{carried, IsPassage, Passage};
+ghost use Rattle.fc_board.specs.declared.{moves.Move.{Move}, run_move.RunMove.{RunMove}};
+ghost use Rattle.fc_board.specs.declared.run_move.RunMove.TheVariants.{One};
 ghost use Rattle.fc_canon.specs.{Chosen, Equivalent};
 ghost use Rattle.fc_bytes.specs.{board_bytes, board_hash, HoldsBoard, HoldsMove, HoldsPassage};
 ghost use Rattle.fc_bytes.specs.{HoldsRun, move_bytes, passage_bytes, run_bytes};

@@ -1,7 +1,7 @@
 //! Laws of Microsoft's deals.
 ghost use Rattle.std.specs.List.Sorted.{IsPermutation};
 ghost use Rattle.std.specs.Prelude.{◌==◌, ◌≡◌, count_by, length, slice_index, ℕ};
-ghost use Rattle.{fc_card.specs.{IsCard}, fc_parts.specs.{HasEachCardOnce}};
+ghost use Rattle.{fc_board.specs.Boards.{HasEachCardOnce}, fc_card.specs.{IsCard}};
 ghost use Rattle.fc_deal.specs.{deal, dealt_board, deck, drawn, next_state};
 ghost use Rattle.fc_laws.specs.BoardExamples.{deal_1 as board_1, deal_617 as board_617};
 ghost use Rattle.fc_laws.specs.DealExamples.{cards_of_deal_1, cards_of_deal_617};

@@ -4,17 +4,20 @@ use Rattle.std.proofs.Common.{Bool, cond, drop, Err, false, length, List, map, N
 use Rattle.std.proofs.Common.{Result, Some, subst, sym, take, true, ℕ}
 use Rattle.std.proofs.lemmas.List.Elements.{All-head, All-tail}
 use Rattle.std.specs.List.{find, prefix_len}
-use Rattle.fc_parts.specs.{Board, Game, MoveList}
-use Rattle.fc_print.proofs.NextLineLemmas.{piece_within}
-use Rattle.fc_print.proofs.WordLemmas.{words-are_pieces}
-use Rattle.fc_print.specs.{BadTokenAt, Comment, Content, is_empty, is_gap, IsPieceOf, line_of}
-use Rattle.fc_print.specs.{line_of_front, lines_from, moved, number_sign, Piece, row_of}
-use Rattle.fc_print.specs.{separates_tokens, TooManyAt, trim_carriage_return, words_from}
+use Rattle.fc_board.specs.{Boards.{Board}, Games.{Game}, Moves.{MoveList}}
+use Rattle.fc_text.specs.{Bytes.{is_gap, number_sign}, Faults.{first_fault}, Lines.{IsPieceOf}}
+use Rattle.fc_text.specs.Lines.{lines_from, moved, Piece, trim_carriage_return, words_from}
+use Rattle.fc_text.specs.Notation.{BadToken, BadTokenAt, ListFault, separates_tokens, TooMany}
+use Rattle.fc_text.specs.Notation.{TooManyAt}
+use Rattle.fc_text.specs.Rows.{Comment, Content, is_empty, line_of, line_of_front, row_of}
+use Rattle.fc_text.specs.Spelling.{board_of}
+use Rattle.fc_record.specs.Grammar.{begins_with, Contents, contents_of, contents_with, fault_at}
+use Rattle.fc_record.specs.Grammar.{list_mark, list_read, list_with, lists_of, lists_start}
+use Rattle.fc_record.specs.Grammar.{with_list}
+use Rattle.fc_text.proofs.NextLineLemmas.{piece_within}
+use Rattle.fc_text.proofs.WordLemmas.{words-are_pieces}
 use Rattle.fc_text.proofs.PlaceLemmas.{missing_at_end, others_within}
-use Rattle.fc_text.specs.{BadToken, board_of, first_fault, ListFault, TooMany}
 use Rattle.fc_text.specs.declared.fault.MovesFault.{MovesFault}
-use Rattle.fc_record.specs.{begins_with, Contents, contents_of, contents_with, fault_at, list_mark}
-use Rattle.fc_record.specs.{list_read, list_with, lists_of, lists_start, with_list}
 use Rattle.fc_record.specs.inside.{IfFaultOf, IsNoFurther, unread_for}
 use Rattle.fc_text.specs.declared.fault.MovesFault.TheVariants as list
 use Rattle.fc_text.specs.declared.fault.BoardFault.{BoardFault}

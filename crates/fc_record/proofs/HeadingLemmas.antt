@@ -14,19 +14,20 @@ use Rattle.std.proofs.lemmas.Str.Parse.{digit_from_value}
 use Rattle.std.specs.Fmt.{decimal, digit_glyph, digits, digits_onto}
 use Rattle.std.specs.List.{list_all, position_or_len}
 use Rattle.std.specs.Str.Parse.{AllDigits}
-use Rattle.fc_parts.specs.{game_of}
-use Rattle.fc_parts.specs.declared.rule.Variant.{Variant}
-use Rattle.fc_parts.specs.declared.rule.Variant.TheVariants.{BakersGame, EightOff, FreeCell}
-use Rattle.fc_print.proofs.LineLemmas.{InLine}
-use Rattle.fc_print.proofs.WordLemmas.{after_separator, EndsWord, first_word, words_from-AreWords}
-use Rattle.fc_print.specs.{blank, is_gap, IsWord, line_feed, Piece, trim_carriage_return}
-use Rattle.fc_print.specs.{words_from}
+use Rattle.fc_board.specs.Games.{game_of}
+use Rattle.fc_text.specs.Bytes.{blank, is_gap, line_feed}
+use Rattle.fc_text.specs.Lines.{IsWord, Piece, trim_carriage_return, words_from}
+use Rattle.fc_record.specs.Grammar.{Accepted, after_header, begins_with, Contents, contents_of}
+use Rattle.fc_record.specs.Grammar.{fault_at, header_line, Heading, heading_by, heading_of}
+use Rattle.fc_record.specs.Grammar.{heading_of_words, is_line_feed, is_name, Reading, reading_by}
+use Rattle.fc_record.specs.Grammar.{reading_of, reading_with, Refused, variant_named, variant_word}
+use Rattle.fc_record.specs.{Grammar.{with_header, without_header}, Printing.{header_text, name_of}}
+use Rattle.fc_record.specs.RecordTexts.{header_mark}
+use Rattle.fc_board.specs.declared.rule.Variant.{Variant}
+use Rattle.fc_board.specs.declared.rule.Variant.TheVariants.{BakersGame, EightOff, FreeCell}
+use Rattle.fc_text.proofs.LineLemmas.{InLine}
+use Rattle.fc_text.proofs.WordLemmas.{after_separator, EndsWord, first_word, words_from-AreWords}
 use Rattle.fc_text.proofs.PrintedTextLemmas.{no_return}
-use Rattle.fc_record.specs.{Accepted, after_header, begins_with, Contents, contents_of, fault_at}
-use Rattle.fc_record.specs.{header_line, header_mark, header_text, Heading, heading_by, heading_of}
-use Rattle.fc_record.specs.{heading_of_words, is_line_feed, is_name, name_of, Reading, reading_by}
-use Rattle.fc_record.specs.{reading_of, reading_with, Refused, variant_named, variant_word}
-use Rattle.fc_record.specs.{with_header, without_header}
 use Rattle.fc_record.specs.declared.record.RecordFault.{RecordFault}
 use Rattle.fc_record.specs.declared.record.RecordFaultKind.TheVariants.{BadHeader}
 

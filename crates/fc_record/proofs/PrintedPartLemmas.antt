@@ -10,19 +10,20 @@ use Rattle.std.proofs.lemmas.List.Elements.{All-from_get_or, All-head, All-tail,
 use Rattle.std.proofs.lemmas.List.Folds.{find-append}
 use Rattle.std.specs.List.{find, flat_map}
 use Rattle.std.specs.Option.{option_map, option_or, unwrap_or}
-use Rattle.fc_parts.specs.{Board, Game, IsWellFormed}
-use Rattle.fc_print.proofs.LineLemmas.{in_line-first, InLine, lines_are_pieces, lines_from-moved}
-use Rattle.fc_print.proofs.LineLemmas.{lines_join}
-use Rattle.fc_print.specs.{cells_line, column_line, foundations_line, in_line, IsPieceOf, line_feed}
-use Rattle.fc_print.specs.{lines_from, Piece, text_of}
+use Rattle.fc_board.specs.{Boards.{Board, IsWellFormed}, Games.{Game}}
+use Rattle.fc_text.specs.{Bytes.{line_feed}, Lines.{in_line, IsPieceOf, lines_from, Piece}}
+use Rattle.fc_text.specs.Printed.{cells_line, column_line, foundations_line, text_of}
+use Rattle.fc_text.specs.Spelling.{Spells}
+use Rattle.fc_record.specs.Grammar.{begins_with, list_mark, lists_start}
+use Rattle.fc_record.specs.RecordTexts.{ends_line, header_mark}
+use Rattle.fc_text.proofs.LineLemmas.{in_line-first, InLine, lines_are_pieces, lines_from-moved}
+use Rattle.fc_text.proofs.LineLemmas.{lines_join}
 use Rattle.fc_text.proofs.PrintedTextLemmas.{bytes_in_lines, cells_bytes, column_bytes}
 use Rattle.fc_text.proofs.PrintedTextLemmas.{heights_bytes}
 use Rattle.fc_text.proofs.SpellingLemmas.{spelled}
-use Rattle.fc_text.specs.{Spells}
 use Rattle.fc_record.proofs.ContentsLemmas.{at_place, begins_list, first_list-later}
 use Rattle.fc_record.proofs.TextLineLemmas.{AreLines, AreLines-append, AreLines-flat_map}
 use Rattle.fc_record.proofs.TextLineLemmas.{AreLines-line, last_byte, lines_after}
-use Rattle.fc_record.specs.{begins_with, ends_line, header_mark, list_mark, lists_start}
 use Rattle.fc_record.specs.inside.{ends_board}
 
 abbrev pub Unmarked : ℕ → Type 0

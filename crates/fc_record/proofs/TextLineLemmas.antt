@@ -5,16 +5,14 @@ use Rattle.std.proofs.Common.{append_assoc, ap₂, arith, drop, Err, false, get_
 use Rattle.std.proofs.Common.{length, length-append, List, None, Ok, OnOk, refl, Result, Some}
 use Rattle.std.proofs.Common.{subst, suc, sym, take, true, zero, ℕ}
 use Rattle.std.proofs.lemmas.Bool.{eqb-true, false_from_ne_true}
-use Rattle.std.proofs.lemmas.List.{length-drop, take_all, take_more}
+use Rattle.std.proofs.lemmas.List.{take_more}
 use Rattle.std.proofs.lemmas.List.Elements.{All-append, All-cons, All-head, All-nil, All-tail}
 use Rattle.std.specs.List.{flat_map}
 use Rattle.std.specs.Result.{is_ok}
-use Rattle.fc_print.proofs.LineLemmas.{first_line, InLine, lines_joined}
-use Rattle.fc_print.specs.{blank, line_feed, lines_from, Piece}
-use Rattle.fc_record.specs.{ends_line}
-
-pub all_after : (xs : List ℕ) (from : ℕ) → take (length xs - from) (drop from xs) ≡ drop from xs
-all_after xs from = take_all (length xs - from) (drop from xs) (let long = length-drop from xs in omega (arith, long))
+use Rattle.fc_text.proofs.LineLemmas.{first_line, InLine, lines_joined}
+use Rattle.fc_text.specs.{Bytes.{blank, line_feed}, Lines.{lines_from, Piece}}
+use Rattle.fc_record.specs.RecordTexts.{ends_line}
+use Rattle.fc_text.proofs.LeavingLemmas.{rest_of}
 
 abbrev pub apart : List ℕ → List ℕ
 apart text = flat_map (λ byte. if byte == line_feed then blank ∷ blank ∷ [] else byte ∷ []) text
@@ -51,7 +49,7 @@ apart-next left out first next whole end found e line blanks =
     let rest = apart (drop (suc end) left) in
     let later : end + 1 ≡ suc end = omega arith in
     ap₂ (λ front rest. front ++ apart rest) (blanks ∙ ap (λ front. front ++ blank ∷ blank ∷ []) line)
-    (all_after left (end + 1) ∙ ap (λ place. drop place left) later)
+    (rest_of left (end + 1) ∙ ap (λ place. drop place left) later)
     ∙ append_assoc (out ++ take end left) (blank ∷ blank ∷ []) rest ∙ append_assoc out (take end left) (blank ∷ blank ∷ rest)
     ∙ ap (λ text. out ++ text) (sym (apart-line left end found.0.high found.1 found.0.before)) ∙ e
 

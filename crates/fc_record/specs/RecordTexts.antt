@@ -1,6 +1,6 @@
 -- Where a record begins, and what of a collection is its text. From: this project's profile.
 use Rattle.std.specs.Prelude.{◌==◌, ◌∷◌, [], Bool, List, true, ℕ}
-use Rattle.fc_print.specs.{line_feed}
+use Rattle.fc_text.specs.Bytes.{line_feed}
 
 -- the byte `@`, which begins a header
 abbrev pub header_mark : ℕ

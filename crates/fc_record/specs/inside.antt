@@ -4,11 +4,11 @@ use Rattle.fc_record.specs.declared.record.RecordFaultKind.TheVariants as kind
 use Rattle.fc_text.specs.declared.fault.MovesFault.TheVariants as list
 use Rattle.std.specs.Prelude.{◌+◌, ◌==◌, ◌∷◌, ◌≡◌, ◌≤◌, [], Bool, Err, if◌then◌else◌, List, Ok}
 use Rattle.std.specs.Prelude.{Result, true, ℕ}
-use Rattle.fc_parts.specs.{Board, Game, list_verdict, MoveList, OneCard, OnlyLegal, Refused}
-use Rattle.fc_parts.specs.{Verdict, Won}
-use Rattle.fc_parts.specs.declared.fault.PlayFault.{PlayFault}
+use Rattle.fc_board.specs.{Boards.{Board}, Games.{Game}, Moves.{MoveList, OneCard}}
+use Rattle.fc_board.specs.Play.{list_verdict, OnlyLegal, Refused, Verdict, Won}
+use Rattle.fc_board.specs.declared.fault.PlayFault.{PlayFault}
 use Rattle.fc_text.specs.declared.fault.MovesFault.{MovesFault}
-use Rattle.fc_record.specs.{fault_at, list_mark, one_card_moves}
+use Rattle.fc_record.specs.{Grammar.{fault_at, list_mark}, Printing.{one_card_moves}}
 use Rattle.fc_record.specs.declared.record.body.Unread.{TheVariants.{Fault, Memory}, Unread}
 use Rattle.fc_record.specs.declared.record.RecordFault.{RecordFault}
 

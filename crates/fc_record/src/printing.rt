@@ -1,11 +1,12 @@
 //! What is printed for a record alone: by `show`, `canon`, `check`, `expand`, `table` and
 //! `symmetries` where it is accepted, and by every command where it is refused.
 ghost use Rattle.std.specs.{List.{flat_map}, Prelude.{◌++◌, ◌≡◌, List, OnOk, ℕ}};
-ghost use Rattle.{fc_parts.specs.{ListFits}, fc_print.specs.{text_of}};
-ghost use Rattle.fc_record.specs.{canon_lines, check_lines, Contents as SaidContents};
-ghost use Rattle.fc_record.specs.{contents_seen, expand_lines, Heading as SaidHeading};
-ghost use Rattle.fc_record.specs.{heading_seen, image_line, inside.Fitting.{AllFit}};
-ghost use Rattle.fc_record.specs.{show_lines, table_line, table_object};
+ghost use Rattle.{fc_board.specs.Moves.{ListFits}, fc_text.specs.Printed.{text_of}};
+ghost use Rattle.fc_record.specs.Grammar.{Contents as SaidContents, contents_seen};
+ghost use Rattle.fc_record.specs.Grammar.{Heading as SaidHeading, heading_seen};
+ghost use Rattle.fc_record.specs.{inside.Fitting.{AllFit}, Printing.{canon_lines, check_lines}};
+ghost use Rattle.fc_record.specs.Printing.{expand_lines, image_line, show_lines};
+ghost use Rattle.fc_record.specs.Tables.{table_line, table_object};
 
 use crate::record::{Contents, Heading, MoveList};
 use fc_board::{Board, Rule};

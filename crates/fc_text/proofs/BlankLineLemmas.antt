@@ -1,21 +1,24 @@
 -- The rows of lines, line by line from the front: what the last line gives follows from those before it.
 use Rattle.std.proofs.Common.{◌++◌, ◌+◌, ◌<◌, ◌∙◌, ◌∷◌, ◌≡◌, ◌≤◌, ◌⊎◌, [], All, ap, append-nil}
-use Rattle.std.proofs.Common.{append_assoc, ap₂, arith, Bool, cond, drop, false, inl, inr, length}
+use Rattle.std.proofs.Common.{append_assoc, arith, Bool, cond, drop, false, inl, inr, length}
 use Rattle.std.proofs.Common.{List, ltb, map, not, refl, Some, subst, suc, sym, true, zero, ℕ}
 use Rattle.std.proofs.lemmas.Bool.Decides.{nat_tests}
 use Rattle.std.proofs.lemmas.List.{map-append}
 use Rattle.std.proofs.lemmas.List.Elements.{All-cons}
 use Rattle.std.specs.List.{list_any, prefix_len}
-use Rattle.fc_parts.specs.{Board, Game}
-use Rattle.fc_print.proofs.LineLemmas.{first_line, InLine, lines_joined}
-use Rattle.fc_print.specs.{Blank, Column, column_row, columns_left, Comment, Content, Foundations}
-use Rattle.fc_print.specs.{Freecells, is_empty, Line, line_feed, line_of, lines_from, number_sign}
-use Rattle.fc_print.specs.{Piece, Row, RowKind, rows_of, rows_of_lines, rows_within}
+use Rattle.fc_board.specs.{Boards.{Board}, Games.{Game}}
+use Rattle.fc_text.specs.{Bytes.{line_feed, number_sign}, Lines.{lines_from, Piece}, Rows.{Blank}}
+use Rattle.fc_text.specs.Rows.{column_row, columns_left, Comment, Content, is_empty, Line, line_of}
+use Rattle.fc_text.specs.Rows.{Row, rows_of}
+use Rattle.fc_text.specs.declared.board.reader.Section.{Section}
+use Rattle.fc_text.specs.declared.board.reader.Section.TheVariants.{Column, Foundations, Freecells}
+use Rattle.fc_text.specs.{Rows.{rows_of_lines, rows_within}, Spelling.{AreRows, blank_after_all}}
+use Rattle.fc_text.specs.Spelling.{blank_before_all, card_spelled, cell_spelled, comment}
+use Rattle.fc_text.specs.Spelling.{empty_column, foundation_spelled, held, is_section, lines_of}
+use Rattle.fc_text.specs.Spelling.{none, OneByOne, Spells, words_of}
+use Rattle.fc_text.proofs.LineLemmas.{first_line, InLine, lines_joined}
 use Rattle.fc_text.proofs.RowLemmas.{length-kept}
 use Rattle.fc_text.proofs.TakingLemmas.{held_first, ltb_tells}
-use Rattle.fc_text.specs.{AreRows, blank_after_all, blank_before_all, card_spelled, cell_spelled}
-use Rattle.fc_text.specs.{comment, empty_column, foundation_spelled, held, is_section, lines_of}
-use Rattle.fc_text.specs.{none, OneByOne, Spells, words_of}
 use Rattle.fc_text.specs.reader.{rows_of_line}
 
 abbrev holds : Line → Bool
@@ -35,7 +38,7 @@ comment_first zero lines = refl
 comment_first (suc left) lines = refl
 
 -- a further column has room exactly where one had room before the row
-room_later : (section : RowKind) (left count : ℕ) → ltb (cond (is_section Column section) 1 0 + count) left ≡ ltb count (columns_left section left)
+room_later : (section : Section) (left count : ℕ) → ltb (cond (is_section Column section) 1 0 + count) left ≡ ltb count (columns_left section left)
 room_later Foundations left count = ap (λ n. ltb n left) (omega arith)
 room_later Freecells left count = ap (λ n. ltb n left) (omega arith)
 room_later Column left count = grind (arith, nat_tests)
@@ -136,7 +139,7 @@ pub rows_are : (lines : List Line) → AreRows lines (rows_of_lines lines)
 rows_are lines = grown [] lines none
   where
     grown : (before lines : List Line) → AreRows before (rows_of_lines before) → AreRows (before ++ lines) (rows_of_lines (before ++ lines))
-    grown before [] are = subst (λ lines. AreRows lines (rows_of_lines lines)) (sym (append-nil before)) are
+    grown before [] are = rw (append-nil before) are
     grown before (line ∷ lines) are =
         subst (λ lines. AreRows lines (rows_of_lines lines)) (append_assoc before (line ∷ []) lines) (grown (before ++ line ∷ []) lines (one_more before line are))
 
@@ -146,23 +149,21 @@ only_rows (comment {lines} {rows} are) = only_rows are ∙ sym (comment_last lin
 only_rows (held {lines} {rows} are row) = ap (λ rows. rows ++ row ∷ []) (only_rows are) ∙ sym (last_line lines (Content row))
 only_rows (empty_column {lines} {rows} are start some room) =
     let same = only_rows are in
-    ap (λ rows. rows ++ column_row start [] ∷ []) same
-    ∙ sym (last_line lines (Blank start) ∙ ap₂ (λ begun room. rows_of_lines lines ++ rows_of_line begun room (Blank start)) some (has_room (columns (rows_of_lines lines)) (subst (λ rows. columns rows < 8) same room)))
+    let free = has_room (columns (rows_of_lines lines)) (rw same at room) in
+    rw (same, last_line lines (Blank start), some, free)
   where
     has_room : (count : ℕ) → count < 8 → ltb count 8 ≡ true
     has_room count h = grind (arith, nat_tests)
 only_rows (blank_before_all {lines} {rows} are start not_some) =
-    only_rows are
-    ∙ sym (last_line lines (Blank start) ∙ ap (λ begun. rows_of_lines lines ++ rows_of_line begun (ltb (columns (rows_of_lines lines)) 8) (Blank start)) (none_hold (list_any holds lines) not_some) ∙ append-nil (rows_of_lines lines))
+    rw (only_rows are, last_line lines (Blank start), none_hold (list_any holds lines) not_some, append-nil (rows_of_lines lines))
   where
     none_hold : (b : Bool) → (b ≡ true → ⊥) → b ≡ false
     none_hold true h = absurd (h refl)
     none_hold false h = refl
 only_rows (blank_after_all {lines} {rows} are start no_room) =
     let same = only_rows are in
-    same
-    ∙ sym (last_line lines (Blank start) ∙ ap (λ room. rows_of_lines lines ++ rows_of_line (list_any holds lines) room (Blank start)) (full (columns (rows_of_lines lines)) (λ h. no_room (subst (λ rows. columns rows < 8) (sym same) h)))
-    ∙ by_begun (list_any holds lines) ∙ append-nil (rows_of_lines lines))
+    let none = full (columns (rows_of_lines lines)) (λ h. no_room (rw same h)) in
+    rw (same, last_line lines (Blank start), none, by_begun (list_any holds lines), append-nil (rows_of_lines lines))
   where
     full : (count : ℕ) → ¬ (count < 8) → ltb count 8 ≡ false
     full count h = full_from (ltb_tells count 8)
@@ -204,7 +205,8 @@ spelled_alike game text other board same spells = record {
 }
 
 -- a text that has a comment more spells the same board
-pub spelled_with_comment : (game : Game) (text other : List ℕ) (line : Piece) (board : Board) → lines_from 0 other ≡ lines_from 0 text ++ line ∷ [] → line_of line ≡ Comment
+pub spelled_with_comment : (game : Game) (text other : List ℕ) (line : Piece) (board : Board) → lines_from 0 other ≡ lines_from 0 text ++ line ∷ []
+    → line_of line ≡ Comment
     → Spells game text board → Spells game other board
 spelled_with_comment game text other line board lines is =
     spelled_alike game text other board

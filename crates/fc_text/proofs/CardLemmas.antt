@@ -12,12 +12,14 @@ use Rattle.std.specs.List.{flat_map, list_any, range_with_len}
 use Rattle.std.specs.Option.{option_and_then, option_map, option_to_list}
 use Rattle.std.specs.Str.{bytes_eq}
 use Rattle.fc_card.specs.{card_of, is_up_to, IsCard, rank_letters, rank_of, suit_letters, suit_of}
-use Rattle.fc_parts.proofs.BoardLemmas.{count_of-cons}
-use Rattle.fc_parts.specs.{count_of}
-use Rattle.fc_print.specs.{Column, Foundations, Freecells, RowKind}
-use Rattle.fc_text.specs.{card_spelled, cards_at_home, cards_of_word, Foundation}
-use Rattle.fc_text.specs.{foundation_spelled, height_spelled, is_empty_mark, letter_spelled}
-use Rattle.fc_text.specs.{rank_spelled, suit_spelled, suits_of_word}
+use Rattle.fc_board.proofs.BoardLemmas.{count_of-cons}
+use Rattle.fc_card.specs.{count_of}
+use Rattle.fc_text.specs.Faults.{cards_at_home, cards_of_word, suits_of_word}
+use Rattle.fc_text.specs.Spelling.{card_spelled, foundation_spelled, height_spelled, is_empty_mark}
+use Rattle.fc_text.specs.declared.board.reader.Section.{Section}
+use Rattle.fc_text.specs.declared.board.reader.Section.TheVariants.{Column, Foundations, Freecells}
+use Rattle.fc_text.specs.declared.board.spelling.Foundation.{Foundation}
+use Rattle.fc_text.specs.Spelling.{letter_spelled, rank_spelled, suit_spelled}
 
 -- ---- one number before others
 
@@ -202,7 +204,7 @@ cell_held true o is = held_none
 cell_held false None is = held_none
 cell_held false (Some card) is = held_one card (is card refl)
 
-pub cards_held : (section : RowKind) (word : List ℕ) → All IsCard (cards_of_word section word) × ((card : ℕ) → count_of card (cards_of_word section word) ≤ 1)
+pub cards_held : (section : Section) (word : List ℕ) → All IsCard (cards_of_word section word) × ((card : ℕ) → count_of card (cards_of_word section word) ≤ 1)
 cards_held Foundations word = foundation_held (foundation_spelled word) (foundation_spelled-IsFoundation word)
 cards_held Freecells word = cell_held (is_empty_mark word) (card_spelled word) (card_spelled-IsCard word)
 cards_held Column word = card_held (card_spelled word) (card_spelled-IsCard word)
@@ -211,7 +213,7 @@ suit_held : (o : Option Foundation) (suit : ℕ) → count_of suit (map (λ foun
 suit_held None suit = omega arith
 suit_held (Some foundation) suit = count_option (Some foundation.suit) suit
 
-pub suits_held : (section : RowKind) (word : List ℕ) (suit : ℕ) → count_of suit (suits_of_word section word) ≤ 1
+pub suits_held : (section : Section) (word : List ℕ) (suit : ℕ) → count_of suit (suits_of_word section word) ≤ 1
 suits_held Foundations word suit = suit_held (foundation_spelled word) suit
 suits_held Freecells word suit = omega arith
 suits_held Column word suit = omega arith

@@ -1,21 +1,19 @@
 -- Lemmas on columns that lie end to end while they are read: a column begun, a card more, and the columns that are not begun.
-use Rattle.std.proofs.Common.{◌++◌, ◌+◌, ◌-◌, ◌<◌, ◌∙◌, ◌∷◌, ◌≡◌, ◌≤◌, [], All, ap, arith, Bool}
-use Rattle.std.proofs.Common.{drop, drop-drop, get_or, length, length-append, List, map, None}
-use Rattle.std.proofs.Common.{Option, refl, replicate, set, slice_range, Some, subst, suc, sym}
-use Rattle.std.proofs.Common.{take, zero, ℕ}
-use Rattle.std.proofs.lemmas.List.{drop-set-add, length-take-le, map-id, take-set-le}
+use Rattle.std.proofs.Common.{◌++◌, ◌+◌, ◌-◌, ◌<◌, ◌∙◌, ◌∷◌, ◌≡◌, ◌≤◌, [], All, ap, arith, drop}
+use Rattle.std.proofs.Common.{drop-drop, get_or, length, length-append, List, map, None, Option}
+use Rattle.std.proofs.Common.{refl, replicate, set, slice_range, Some, subst, suc, sym, take, zero}
+use Rattle.std.proofs.{Common.{ℕ}, lemmas.List.{drop-set-add}}
 use Rattle.std.proofs.lemmas.List.Elements.{All-drop, All-head, All-tail}
-use Rattle.std.specs.Option.{IsNone}
-use Rattle.fc_parts.proofs.ColumnsLemmas.{length-columns_from}
-use Rattle.fc_parts.specs.{Board, Game}
-use Rattle.fc_parts.specs.inside.{AreBounds, AscendTo, board_of_laid, columns_between, columns_from}
-use Rattle.fc_print.proofs.PieceLemmas.{longer_range}
-use Rattle.fc_text.specs.{padded_with}
-use Rattle.fc_text.specs.reader.{add_to_last, board_known, bounds_known, ends_known, IsKept}
-use Rattle.fc_text.specs.reader.{known_height, known_of, ReadState}
+use Rattle.std.{proofs.lemmas.List.{length-take-le, map-id, take-set-le}, specs.Option.{IsNone}}
+use Rattle.fc_board.{proofs.ColumnsLemmas.{length-columns_from}, specs.Games.{Game}}
+use Rattle.fc_board.specs.inside.{AreBounds, AscendTo, board_of_laid, columns_between, columns_from}
+use Rattle.fc_text.{proofs.PieceLemmas.{longer_range}, specs.reader.{add_to_last, board_known}}
+use Rattle.fc_text.specs.reader.{bounds_known, ends_known, IsKept, known_height, known_of}
+use Rattle.fc_text.specs.Spelling.{padded_with}
+use Rattle.fc_text.specs.declared.board.reader.Kept.{Kept}
 
 nothing_between : (cards : List ℕ) (n : ℕ) → slice_range cards n n ≡ []
-nothing_between cards n = ap (λ k. take k (drop n cards)) (let e : n - n ≡ 0 = omega arith in e)
+nothing_between cards n = let e : n - n ≡ 0 = omega arith in rw e
 
 pub length-columns_between : (cards bounds : List ℕ) (n : ℕ) → length (columns_between cards (bounds ++ n ∷ [])) ≡ length bounds
 length-columns_between cards [] n = refl
@@ -23,15 +21,18 @@ length-columns_between cards (first ∷ bounds) n = omega (arith, length-columns
 
 -- ---- a column is begun
 
-from-begun : (start : ℕ) (cards bounds : List ℕ) (n : ℕ) → columns_from start cards ((bounds ++ n ∷ []) ++ n ∷ []) ≡ columns_from start cards (bounds ++ n ∷ []) ++ [] ∷ []
-from-begun start cards [] n = ap (λ column. slice_range cards start n ∷ column ∷ []) (nothing_between cards n)
-from-begun start cards (next ∷ bounds) n = ap (λ columns. slice_range cards start next ∷ columns) (from-begun next cards bounds n)
+from-begun : (start : ℕ) (cards bounds : List ℕ) (n : ℕ)
+    → columns_from start cards ((bounds ++ n ∷ []) ++ n ∷ []) ≡ columns_from start cards (bounds ++ n ∷ []) ++ [] ∷ []
+from-begun start cards [] n = rw (nothing_between cards n)
+from-begun start cards (next ∷ bounds) n = rw (from-begun next cards bounds n)
 
-pub columns_between-begun : (cards bounds : List ℕ) (n : ℕ) → columns_between cards ((bounds ++ n ∷ []) ++ n ∷ []) ≡ columns_between cards (bounds ++ n ∷ []) ++ [] ∷ []
-columns_between-begun cards [] n = ap (λ column. column ∷ []) (nothing_between cards n)
+pub columns_between-begun : (cards bounds : List ℕ) (n : ℕ)
+    → columns_between cards ((bounds ++ n ∷ []) ++ n ∷ []) ≡ columns_between cards (bounds ++ n ∷ []) ++ [] ∷ []
+columns_between-begun cards [] n = rw (nothing_between cards n)
 columns_between-begun cards (first ∷ bounds) n = from-begun first cards bounds n
 
-AscendTo-begun : (start : ℕ) (bounds : List ℕ) (n most : ℕ) → AscendTo start (bounds ++ n ∷ []) most → AscendTo start ((bounds ++ n ∷ []) ++ n ∷ []) most
+AscendTo-begun : (start : ℕ) (bounds : List ℕ) (n most : ℕ) → AscendTo start (bounds ++ n ∷ []) most
+    → AscendTo start ((bounds ++ n ∷ []) ++ n ∷ []) most
 AscendTo-begun start [] n most up = (up.0, (omega arith, up.1))
 AscendTo-begun start (next ∷ bounds) n most up = (up.0, AscendTo-begun next bounds n most up.1)
 
@@ -58,17 +59,20 @@ later_columns column start cards (next ∷ bounds) n card = refl
 
 pub columns_from-card : (start : ℕ) (cards bounds : List ℕ) (n card most : ℕ) → AscendTo start (bounds ++ n ∷ []) most → n < length cards
     → columns_from start (set cards n card) (bounds ++ (n + 1) ∷ []) ≡ add_to_last (columns_from start cards (bounds ++ n ∷ [])) card
-columns_from-card start cards [] n card most up inside = ap (λ column. column ∷ []) (longer_range cards start n card up.0 inside)
-columns_from-card start cards (next ∷ bounds) n card most up inside =
-    ap (λ column. column ∷ columns_from next (set cards n card) (bounds ++ (n + 1) ∷ [])) (earlier_range cards start next n card up.0 (up_to_end next bounds n most up.1))
-    ∙ ap (λ columns. slice_range cards start next ∷ columns) (columns_from-card next cards bounds n card most up.1 inside)
-    ∙ sym (later_columns (slice_range cards start next) next cards bounds n card)
+columns_from-card start cards [] n card most up inside = rw (longer_range cards start n card up.0 inside)
+columns_from-card start cards (next ∷ bounds) n card most up inside = rw (
+  later_columns (slice_range cards start next) next cards bounds n card,
+  earlier_range cards start next n card up.0 (up_to_end next bounds n most up.1),
+  columns_from-card next cards bounds n card most up.1 inside,
+)
 
-AscendTo-card : (start : ℕ) (bounds : List ℕ) (n most : ℕ) → n + 1 ≤ most → AscendTo start (bounds ++ n ∷ []) most → AscendTo start (bounds ++ (n + 1) ∷ []) most
+AscendTo-card : (start : ℕ) (bounds : List ℕ) (n most : ℕ) → n + 1 ≤ most → AscendTo start (bounds ++ n ∷ []) most
+    → AscendTo start (bounds ++ (n + 1) ∷ []) most
 AscendTo-card start [] n most room up = (omega (arith, up.0), room)
 AscendTo-card start (next ∷ bounds) n most room up = (up.0, AscendTo-card next bounds n most room up.1)
 
-pub AreBounds-card : (first : ℕ) (bounds : List ℕ) (n most : ℕ) → n + 1 ≤ most → AreBounds ((first ∷ bounds) ++ n ∷ []) most → AreBounds ((first ∷ bounds) ++ (n + 1) ∷ []) most
+pub AreBounds-card : (first : ℕ) (bounds : List ℕ) (n most : ℕ) → n + 1 ≤ most → AreBounds ((first ∷ bounds) ++ n ∷ []) most
+    → AreBounds ((first ∷ bounds) ++ (n + 1) ∷ []) most
 AreBounds-card first bounds n most room are = (are.0, AscendTo-card first bounds n most room are.1)
 
 -- ---- the columns that are not begun end where the last one does
@@ -77,11 +81,13 @@ none_begun : (cards : List ℕ) (n k : ℕ) → columns_from n cards (replicate 
 none_begun cards n zero = refl
 none_begun cards n (suc k) = λ i. nothing_between cards n i ∷ none_begun cards n k i
 
-from-filled : (start : ℕ) (cards bounds : List ℕ) (n k : ℕ) → columns_from start cards (bounds ++ n ∷ replicate k n) ≡ columns_from start cards (bounds ++ n ∷ []) ++ replicate k []
-from-filled start cards [] n k = ap (λ columns. slice_range cards start n ∷ columns) (none_begun cards n k)
-from-filled start cards (next ∷ bounds) n k = ap (λ columns. slice_range cards start next ∷ columns) (from-filled next cards bounds n k)
+from-filled : (start : ℕ) (cards bounds : List ℕ) (n k : ℕ)
+    → columns_from start cards (bounds ++ n ∷ replicate k n) ≡ columns_from start cards (bounds ++ n ∷ []) ++ replicate k []
+from-filled start cards [] n k = rw (none_begun cards n k)
+from-filled start cards (next ∷ bounds) n k = rw (from-filled next cards bounds n k)
 
-pub columns_between-filled : (cards bounds : List ℕ) (n k : ℕ) → columns_between cards (bounds ++ n ∷ replicate k n) ≡ columns_between cards (bounds ++ n ∷ []) ++ replicate k []
+pub columns_between-filled : (cards bounds : List ℕ) (n k : ℕ)
+    → columns_between cards (bounds ++ n ∷ replicate k n) ≡ columns_between cards (bounds ++ n ∷ []) ++ replicate k []
 columns_between-filled cards [] n k = none_begun cards n k
 columns_between-filled cards (first ∷ bounds) n k = from-filled first cards bounds n k
 
@@ -89,7 +95,8 @@ all_at_end : (n k most : ℕ) → n ≤ most → AscendTo n (replicate k n) most
 all_at_end n zero most few = few
 all_at_end n (suc k) most few = (omega arith, all_at_end n k most few)
 
-AscendTo-filled : (start : ℕ) (bounds : List ℕ) (n k most : ℕ) → AscendTo start (bounds ++ n ∷ []) most → AscendTo start (bounds ++ n ∷ replicate k n) most
+AscendTo-filled : (start : ℕ) (bounds : List ℕ) (n k most : ℕ) → AscendTo start (bounds ++ n ∷ []) most
+    → AscendTo start (bounds ++ n ∷ replicate k n) most
 AscendTo-filled start [] n k most up = (up.0, all_at_end n k most up.1)
 AscendTo-filled start (next ∷ bounds) n k most up = (up.0, AscendTo-filled next bounds n k most up.1)
 
@@ -100,23 +107,22 @@ AreBounds-filled (first ∷ bounds) n k most are = (are.0, AscendTo-filled first
 -- bounds begin with 0, and the others are the ends
 pub columns_by_ends : (cards bounds : List ℕ) (most : ℕ) → AreBounds bounds most → columns_from 0 cards (drop 1 bounds) ≡ columns_between cards bounds
 columns_by_ends cards [] most are = absurd are
-columns_by_ends cards (first ∷ bounds) most are = ap (λ start. columns_from start cards bounds) (sym are.0)
+columns_by_ends cards (first ∷ bounds) most are = rw are.0
 
 pub ends_ascend : (bounds : List ℕ) (most : ℕ) → AreBounds bounds most → AscendTo 0 (drop 1 bounds) most
 ends_ascend [] most are = absurd are
-ends_ascend (first ∷ bounds) most are = subst (λ start. AscendTo start bounds most) are.0 are.1
-
--- ---- places that are not used are empty
+ends_ascend (first ∷ bounds) most are = rw are.0 at are.1
 
 -- ---- the end of a text: the fields of a reader lie as the board that is known
-all_empty : {X Y : Type 0} (f : X → Y) (empty : Y) (xs : List X) (count : ℕ) → count ≤ length xs → All (λ x. f x ≡ empty) xs → map f (take count xs) ≡ replicate count empty
+all_empty : {X Y : Type 0} (f : X → Y) (empty : Y) (xs : List X) (count : ℕ) → count ≤ length xs → All (λ x. f x ≡ empty) xs
+    → map f (take count xs) ≡ replicate count empty
 all_empty f empty xs zero fit are = refl
 all_empty f empty [] (suc count) fit are = absurd (omega arith)
 all_empty f empty (x ∷ xs) (suc count) fit are =
-    ap (λ y. y ∷ map f (take count xs)) (All-head (λ x. f x ≡ empty) x xs are)
-    ∙ ap (λ ys. empty ∷ ys) (all_empty f empty xs count (omega arith) (All-tail (λ x. f x ≡ empty) x xs are))
+    rw (All-head (λ x. f x ≡ empty) x xs are, all_empty f empty xs count (omega arith) (All-tail (λ x. f x ≡ empty) x xs are))
 
-padded_array : {X Y : Type 0} (f : X → Y) (empty : Y) (xs : List X) (used count : ℕ) → used ≤ count → count ≤ length xs → All (λ x. f x ≡ empty) (drop used xs)
+padded_array : {X Y : Type 0} (f : X → Y) (empty : Y) (xs : List X) (used count : ℕ) → used ≤ count → count ≤ length xs
+    → All (λ x. f x ≡ empty) (drop used xs)
     → map f (take count xs) ≡ padded_with count empty (map f (take used xs))
 padded_array f empty xs zero count fit long are = all_empty f empty xs count long are ∙ ap (λ n. replicate n empty) (omega arith)
 padded_array f empty xs (suc used) zero fit long are = absurd (omega arith)
@@ -136,61 +142,55 @@ abbrev all_bounds : List ℕ → ℕ → ℕ → List ℕ
 all_bounds bounds lines count = take lines bounds ++ replicate (9 - lines) count
 
 one_more : (bounds : List ℕ) (lines count : ℕ) → lines ≤ 8 → all_bounds bounds lines count ≡ take lines bounds ++ count ∷ replicate (8 - lines) count
-one_more bounds lines count fit = ap (λ n. take lines bounds ++ replicate n count) (let e : 9 - lines ≡ suc (8 - lines) = omega arith in e)
+one_more bounds lines count fit = let e : 9 - lines ≡ suc (8 - lines) = omega arith in rw e
 
-all_are_bounds : (bounds : List ℕ) (lines count : ℕ) → lines ≤ 8 → AreBounds (bounds_known bounds lines count) 52 → AreBounds (all_bounds bounds lines count) 52
+all_are_bounds : (bounds : List ℕ) (lines count : ℕ) → lines ≤ 8 → AreBounds (bounds_known bounds lines count) 52
+    → AreBounds (all_bounds bounds lines count) 52
 all_are_bounds bounds lines count fit are =
-    subst (λ bounds. AreBounds bounds 52) (sym (one_more bounds lines count fit)) (AreBounds-filled (take lines bounds) count (8 - lines) 52 are)
+    rw (one_more bounds lines count fit) (AreBounds-filled (take lines bounds) count (8 - lines) 52 are)
 
 -- ---- the parts
 
-cells_lie : (count : ℕ) (cells : List (Option ℕ)) (words : ℕ) → words ≤ count → count ≤ length cells → All IsNone (drop words cells) → take count cells ≡ padded_with count None (take words cells)
+cells_lie : (count : ℕ) (cells : List (Option ℕ)) (words : ℕ) → words ≤ count → count ≤ length cells → All IsNone (drop words cells)
+    → take count cells ≡ padded_with count None (take words cells)
 cells_lie count cells words fit long are =
     sym (map-id (take count cells))
     ∙ padded_array (λ cell. cell) None cells words count fit long (λ k d h. is_none (get_or (drop words cells) k d) (are k d h))
     ∙ ap (padded_with count None) (map-id (take words cells))
 
-columns_lie : (cards : List ℕ) (count : ℕ) (bounds : List ℕ) (lines : ℕ) → length bounds ≡ 9 → lines ≤ 8 → AreBounds (bounds_known bounds lines count) 52
+columns_lie : (cards : List ℕ) (count : ℕ) (bounds : List ℕ) (lines : ℕ) → length bounds ≡ 9 → lines ≤ 8
+    → AreBounds (bounds_known bounds lines count) 52
     → columns_from 0 cards (ends_known bounds lines count) ≡ padded_with 8 [] (columns_between cards (bounds_known bounds lines count))
-columns_lie cards count bounds lines nine fit are =
-    columns_by_ends cards (all_bounds bounds lines count) 52 (all_are_bounds bounds lines count fit are)
-    ∙ ap (columns_between cards) (one_more bounds lines count fit)
-    ∙ columns_between-filled cards (take lines bounds) count (8 - lines)
-    ∙ ap (λ n. columns_between cards (bounds_known bounds lines count) ++ replicate (8 - n) [])
-    (sym (length-columns_between cards (take lines bounds) count ∙ length-take-le lines bounds (omega arith)))
-
-parts_lie : (game : Game) (heights other : List ℕ) (cells others : List (Option ℕ)) (columns further : List (List ℕ)) → heights ≡ other → cells ≡ others → columns ≡ further
-    → ◌≡◌ {A = Board} (record { heights = heights; cells = cells; columns = columns }) (record { heights = other; cells = others; columns = further })
-parts_lie game heights other cells others columns further p q r =
-    ap (λ heights. record { heights = heights; cells = cells; columns = columns }) p
-    ∙ ap (λ cells. record { heights = other; cells = cells; columns = columns }) q
-    ∙ ap (λ columns. record { heights = other; cells = others; columns = columns }) r
+columns_lie cards count bounds lines nine fit are = rw (
+  columns_by_ends cards (all_bounds bounds lines count) 52 (all_are_bounds bounds lines count fit are),
+  one_more bounds lines count fit,
+  columns_between-filled cards (take lines bounds) count (8 - lines),
+  length-columns_between cards (take lines bounds) count,
+  length-take-le lines bounds (omega arith),
+)
 
 -- ---- the whole board
 
-module _ (game : Game) (all : ℕ) (are : game.cells ≡ all) (few : all ≤ 8) (foundations_line cells_line : Bool) (heights cells : List (Option ℕ)) (words : ℕ) (cards : List ℕ) (count : ℕ) (bounds : List ℕ) (lines : ℕ) (seen : List Bool)
-    (kept : IsKept all heights cells words cards count bounds lines seen) (known : ReadState) (is : known_of foundations_line cells_line heights cells words cards count bounds lines seen ≡ known) where
-  pub lies_as_known : (high : List ℕ) → high ≡ map known_height heights → board_of_laid all high cells (columns_from 0 cards (ends_known bounds lines count)) ≡ board_known game known
-  lies_as_known high same =
-      subst (λ known. board_of_laid all high cells (columns_from 0 cards (ends_known bounds lines count)) ≡ board_known game known) is
-      (parts_lie game _ _ _ _ _ _ same
-      (cells_lie all cells words kept.cell_words_fit (omega (arith, kept.eight_cells, few)) kept.other_cells_empty ∙ ap (λ n. padded_with n None (take words cells)) (sym are))
-      (columns_lie cards count bounds lines kept.nine_bounds kept.column_lines_fit kept.are_bounds))
+module _ {cell_count : ℕ} (kept : Kept) (is : IsKept cell_count kept) where
+  pub lies_as_known : (game : Game) → game.cells ≡ cell_count → cell_count ≤ 8 → (high : List ℕ) → high ≡ map known_height kept.heights
+      → board_of_laid cell_count high kept.cells (columns_from 0 kept.cards (ends_known kept.bounds kept.column_lines kept.card_count)) ≡ board_known game (known_of kept)
+  lies_as_known game are few high same = rw (
+    same,
+    are,
+    cells_lie cell_count kept.cells kept.cell_words is.cell_words_fit (omega (arith, is.eight_cells, few)) is.other_cells_empty,
+    columns_lie kept.cards kept.card_count kept.bounds kept.column_lines is.nine_bounds is.column_lines_fit is.are_bounds,
+  )
 
--- the ends ascend
-pub ends_up : (all : ℕ) (heights cells : List (Option ℕ)) (words : ℕ) (cards : List ℕ) (count : ℕ) (bounds : List ℕ) (lines : ℕ) (seen : List Bool)
-    → IsKept all heights cells words cards count bounds lines seen → AscendTo 0 (ends_known bounds lines count) 52
-ends_up all heights cells words cards count bounds lines seen kept =
-    ends_ascend (all_bounds bounds lines count) 52 (all_are_bounds bounds lines count kept.column_lines_fit kept.are_bounds)
+  -- the ends ascend
+  pub ends_up : AscendTo 0 (ends_known kept.bounds kept.column_lines kept.card_count) 52
+  ends_up =
+      let are = all_are_bounds kept.bounds kept.column_lines kept.card_count is.column_lines_fit is.are_bounds in
+      ends_ascend (all_bounds kept.bounds kept.column_lines kept.card_count) 52 are
 
--- the cells past the game's are empty
-pub past_cells : (all : ℕ) (heights cells : List (Option ℕ)) (words : ℕ) (cards : List ℕ) (count : ℕ) (bounds : List ℕ) (lines : ℕ) (seen : List Bool)
-    → IsKept all heights cells words cards count bounds lines seen → All IsNone (drop all cells)
-past_cells all heights cells words cards count bounds lines seen kept =
-    subst (λ n. All IsNone (drop n cells)) more
-    (subst (All IsNone) (drop-drop (all - words) words cells) (All-drop IsNone (all - words) (drop words cells) kept.other_cells_empty))
-  where
-    more : words + (all - words) ≡ all
-    more = omega (arith, kept.cell_words_fit)
-
--- ---- the bounds are filled one by one
+  -- the cells past the game's are empty
+  pub past_cells : All IsNone (drop cell_count kept.cells)
+  past_cells =
+      let left = cell_count - kept.cell_words in
+      let whole : kept.cell_words + left ≡ cell_count = omega (arith, is.cell_words_fit) in
+      subst (λ n. All IsNone (drop n kept.cells)) whole
+      (rw (← drop-drop left kept.cell_words kept.cells) (All-drop IsNone left (drop kept.cell_words kept.cells) is.other_cells_empty))

@@ -7,10 +7,10 @@ use Rattle.std.proofs.lemmas.Bool.Decides.{eqb_tells}
 use Rattle.std.proofs.lemmas.List.Elements.{All-cons, All-nil, All-tail}
 use Rattle.std.specs.Option.{option_and_then, option_map}
 use Rattle.fc_card.specs.{card_of}
-use Rattle.fc_print.proofs.WordLemmas.{first_word}
-use Rattle.fc_print.specs.{blank, is_gap, words_from}
+use Rattle.fc_text.proofs.WordLemmas.{first_word}
+use Rattle.fc_text.specs.{Bytes.{blank, is_gap}, Lines.{words_from}}
+use Rattle.fc_text.specs.Spelling.{card_spelled, rank_spelled, suit_spelled}
 use Rattle.fc_text.proofs.TakingLemmas.{word_after_gap}
-use Rattle.fc_text.specs.{card_spelled, rank_spelled, suit_spelled}
 use Rattle.fc_text.specs.reader.{AfterBlank, BeginsWithCard}
 
 abbrev Gapless : List ℕ → Type 0

@@ -1,15 +1,17 @@
 -- The front of a line, which says what the line holds.
-use Rattle.std.proofs.Common.{◌&&◌, ◌+◌, ◌<◌, ◌||◌, ◌∙◌, ◌∷◌, ◌≡◌, ◌≢◌, ◌≤◌, [], ap, ap₂, arith}
-use Rattle.std.proofs.Common.{Bool, codes, cond, drop, eqb, false, get_or, length, List, not, refl}
-use Rattle.std.proofs.Common.{subst, suc, sym, take, true, ℕ}
+use Rattle.std.proofs.Common.{◌&&◌, ◌+◌, ◌<◌, ◌||◌, ◌∙◌, ◌∷◌, ◌≡◌, ◌≢◌, ◌≤◌, [], ap, arith}
+use Rattle.std.proofs.Common.{Bool, cond, drop, eqb, false, get_or, length, List, not, refl}
+use Rattle.std.proofs.Common.{suc, take, true, ℕ}
 use Rattle.std.proofs.lemmas.Bool.Decides.{nat_tests}
 use Rattle.std.proofs.lemmas.List.Folds.{list_any_at}
 use Rattle.std.proofs.lemmas.List.Sums.{passes_at_first}
 use Rattle.std.specs.Char.{to_ascii_lowercase}
 use Rattle.std.specs.List.{before_first, list_any, position_or_len}
-use Rattle.std.specs.Str.{bytes_eq, str_eq_ignore_ascii_case, str_to_ascii_lowercase}
-use Rattle.fc_print.specs.{cells_names, Column, column_row, Foundations, Freecells, heights_names}
-use Rattle.fc_print.specs.{is_colon, is_gap, is_named, named_row, Row, row_of, RowKind, words_from}
+use Rattle.std.specs.Str.{str_eq_ignore_ascii_case}
+use Rattle.fc_text.specs.{Bytes.{is_gap}, Lines.{words_from}, Rows.{cells_names, column_row}}
+use Rattle.fc_text.specs.Rows.{heights_names, is_colon, is_named, named_row, Row, row_of}
+use Rattle.fc_text.specs.declared.board.reader.Section.{Section}
+use Rattle.fc_text.specs.declared.board.reader.Section.TheVariants.{Column, Foundations, Freecells}
 use Rattle.fc_text.specs.reader.{begins_head, IsHead}
 
 -- ---- names
@@ -40,12 +42,12 @@ named names bytes b inside e =
     ∙ e
 
 not_named : (names : List (List ℕ)) (bytes : List ℕ) → position_or_len is_colon bytes ≡ length bytes → is_named names bytes ≡ false
-not_named names bytes e = ap (λ c. c && list_any (str_eq_ignore_ascii_case (before_first is_colon bytes)) names) (none_before_end is_colon bytes e)
+not_named names bytes e = rw (none_before_end is_colon bytes e)
 
-named_head : (section : RowKind) (start : ℕ) (bytes : List ℕ)
+named_head : (section : Section) (start : ℕ) (bytes : List ℕ)
     → named_row section start bytes ≡ record { section = section; start = start; words = words_from is_gap (start + (position_or_len is_colon bytes + 1)) (drop (position_or_len is_colon bytes + 1) bytes) }
 named_head section start bytes =
-    ap (λ n. record { section = section; start = start; words = words_from is_gap n (drop (position_or_len is_colon bytes + 1) bytes) }) (omega arith)
+    let place : start + position_or_len is_colon bytes + 1 ≡ start + (position_or_len is_colon bytes + 1) = omega arith in rw place
 
 heights_at : (start : ℕ) (bytes : List ℕ) → position_or_len is_colon bytes < length bytes
     → list_any (str_eq_ignore_ascii_case (take (position_or_len is_colon bytes) bytes)) heights_names ≡ true
@@ -62,33 +64,25 @@ cells_at start bytes inside eh ec =
 
 pub heights_head : (start : ℕ) (bytes : List ℕ) (place : ℕ) → place ≡ position_or_len is_colon bytes → place < length bytes
     → list_any (str_eq_ignore_ascii_case (take place bytes)) heights_names ≡ true → IsHead start bytes Foundations (place + 1)
-heights_head start bytes place e =
-    subst (λ n. n < length bytes → list_any (str_eq_ignore_ascii_case (take n bytes)) heights_names ≡ true → IsHead start bytes Foundations (n + 1)) (sym e) (heights_at start bytes)
+heights_head start bytes place e = rw e (heights_at start bytes)
 
 pub cells_head : (start : ℕ) (bytes : List ℕ) (place : ℕ) → place ≡ position_or_len is_colon bytes → place < length bytes
-    → list_any (str_eq_ignore_ascii_case (take place bytes)) heights_names ≡ false → list_any (str_eq_ignore_ascii_case (take place bytes)) cells_names ≡ true
+    → list_any (str_eq_ignore_ascii_case (take place bytes)) heights_names ≡ false
+    → list_any (str_eq_ignore_ascii_case (take place bytes)) cells_names ≡ true
     → IsHead start bytes Freecells (place + 1)
-cells_head start bytes place e =
-    subst (λ n. n < length bytes → list_any (str_eq_ignore_ascii_case (take n bytes)) heights_names ≡ false → list_any (str_eq_ignore_ascii_case (take n bytes)) cells_names ≡ true → IsHead start bytes Freecells (n + 1))
-    (sym e) (cells_at start bytes)
+cells_head start bytes place e = rw e (cells_at start bytes)
 
 -- ---- columns
 
-bare : (start byte : ℕ) (rest : List ℕ) → is_colon byte ≡ false → column_row start (byte ∷ rest) ≡ record { section = Column; start = start; words = words_from is_gap start (byte ∷ rest) }
-bare start byte rest e = ap (λ b. record { section = Column; start = start; words = cond b (words_from is_gap (start + 1) rest) (words_from is_gap start (byte ∷ rest)) }) e
+bare : (start byte : ℕ) (rest : List ℕ) → is_colon byte ≡ false
+    → column_row start (byte ∷ rest) ≡ record { section = Column; start = start; words = words_from is_gap start (byte ∷ rest) }
+bare start byte rest e = rw e
 
 abbrev column_from : ℕ → List ℕ → ℕ → Row
 column_from start bytes place = record { section = Column; start = start; words = words_from is_gap place bytes }
 
 from_start : (start : ℕ) (bytes : List ℕ) → column_from start bytes start ≡ column_from start bytes (start + 0)
 from_start start bytes = ap (column_from start bytes) (omega arith)
-
-first_is : (byte : ℕ) (rest : List ℕ) → position_or_len is_colon (byte ∷ rest) ≡ 0 → is_colon byte ≡ true
-first_is byte rest e = ensured (is_colon byte) e
-  where
-    ensured : (b : Bool) → cond (not b) (1 + position_or_len is_colon rest) 0 ≡ 0 → b ≡ true
-    ensured true e = refl
-    ensured false e = absurd (omega arith)
 
 first_is_not : (byte : ℕ) (rest : List ℕ) → 0 < position_or_len is_colon (byte ∷ rest) → is_colon byte ≡ false
 first_is_not byte rest h = ensured (is_colon byte) h
@@ -97,7 +91,8 @@ first_is_not byte rest h = ensured (is_colon byte) h
     ensured true h = absurd (omega arith)
     ensured false h = refl
 
-unnamed : (start : ℕ) (bytes : List ℕ) → is_named heights_names bytes ≡ false → is_named cells_names bytes ≡ false → row_of start bytes ≡ column_row start bytes
+unnamed : (start : ℕ) (bytes : List ℕ) → is_named heights_names bytes ≡ false → is_named cells_names bytes ≡ false
+    → row_of start bytes ≡ column_row start bytes
 unnamed start bytes eh ec = by_names start bytes false false eh ec
 
 bare_head : (start : ℕ) (bytes : List ℕ) → (length bytes ≢ 0 → 0 < position_or_len is_colon bytes)
@@ -119,12 +114,9 @@ no_name : (byte : ℕ) (rest : List ℕ) → begins_head byte ≡ false
     → (list_any (str_eq_ignore_ascii_case (byte ∷ rest)) heights_names ≡ false) × (list_any (str_eq_ignore_ascii_case (byte ∷ rest)) cells_names ≡ false)
 no_name byte rest e =
     let unlike = no_letter byte e in (
-      ap₂ (λ d f. same f (codes "oundations") || (same f (codes "oundation") || (same f (codes "ounds") || (same f (codes "ound") || (same d (codes "ecks") || (same d (codes "eck") || false)))))) unlike.0 unlike.1,
-      ap (λ f. same f (codes "reecells") || (same f (codes "reecell") || (same f (codes "c") || false))) unlike.1,
+      rw (unlike.0, unlike.1),
+      rw unlike.1,
     )
-  where
-    same : Bool → List ℕ → Bool
-    same b others = b && bytes_eq (str_to_ascii_lowercase rest) others
 
 not_colon : (byte : ℕ) → begins_head byte ≡ false → is_colon byte ≡ false
 not_colon byte e = grind (arith, nat_tests)

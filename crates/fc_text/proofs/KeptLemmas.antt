@@ -1,45 +1,44 @@
 -- Lemmas on what a reader keeps: its fields stay as they are to be when a line or a word is taken.
-use Rattle.std.proofs.Common.{◌++◌, ◌+◌, ◌<◌, ◌||◌, ◌∙◌, ◌∷◌, ◌≡◌, ◌≤◌, [], All, ap, arith, Bool}
-use Rattle.std.proofs.Common.{cond, count_by, drop, drop-drop, eqb, Err, false, get_or, inl, inr}
-use Rattle.std.proofs.Common.{leb, length, List, None, not, Ok, Option, refl, Result, set, Some}
-use Rattle.std.proofs.Common.{subst, suc, sym, take, true, zero, ℕ}
-use Rattle.std.proofs.lemmas.Bool.{cases_eq, eq-eqb, le-leb}
-use Rattle.std.proofs.lemmas.List.{drop-set-lt, get_or-set_other, length-set, length-take-le}
-use Rattle.std.proofs.lemmas.List.{take_more_set}
-use Rattle.std.proofs.lemmas.List.Elements.{All-drop}
-use Rattle.std.proofs.lemmas.List.Sums.{count_by-le-length, sum_by-cons, sum_by-set}
-use Rattle.std.specs.List.{list_any}
-use Rattle.std.specs.Option.{is_some, IsNone, option_to_list}
-use Rattle.fc_parts.specs.{Game}
-use Rattle.fc_parts.specs.inside.{AreBounds, columns_between}
-use Rattle.fc_print.specs.{Column}
-use Rattle.fc_text.proofs.CardLemmas.{card_spelled-IsCard}
+use Rattle.std.{
+  proofs.Common.{◌++◌, ◌+◌, ◌<◌, ◌||◌, ◌∙◌, ◌∷◌, ◌≡◌, ◌≤◌, [], All, ap, append-nil, arith, Bool},
+  proofs.Common.{cond, count_by, drop, drop-drop, eqb, Err, false, get_or, inl, inr, length, List},
+  proofs.Common.{None, Ok, Option, refl, Result, set, Some, suc, sym, take, true, zero, ℕ},
+  proofs.lemmas.{Bool.{cases_eq, eq-eqb, le-leb, lt-leb}, List.{drop-set-lt, Elements.{All-drop}}},
+  proofs.lemmas.List.{get_or-set_other, length-set, length-take-le},
+  proofs.lemmas.List.{Sums.{count_by-le-length, sum_by-cons, sum_by-set}, take_more_set},
+  specs.{List.{list_any}, Option.{IsNone, option_to_list}},
+}
+use Rattle.fc_board.specs.{Games.{Game}, inside.{AreBounds, columns_between}}
 use Rattle.fc_text.proofs.FinishLemmas.{AreBounds-begun, AreBounds-card, columns_between-begun}
 use Rattle.fc_text.proofs.FinishLemmas.{columns_from-card, length-columns_between}
-use Rattle.fc_text.proofs.SeeingLemmas.{also_seen_at, length-also_seen}
-use Rattle.fc_text.proofs.SoundLemmas.{below_to}
-use Rattle.fc_text.specs.{card_spelled}
-use Rattle.fc_text.specs.reader.{add_to_last, after_part, also_seen, bounds_known, is_seen, IsKept}
-use Rattle.fc_text.specs.reader.{known_of, known_part_fault, Lays, ReadState, Sees, with_card}
+use Rattle.fc_text.proofs.SeeingLemmas.{also_seen_at, length-also_seen, length-seen_of}
+use Rattle.fc_text.{proofs.SoundLemmas.{below_to}, specs.Faults.{cards_at_home}}
+use Rattle.fc_text.specs.reader.{add_to_last, after_part, also_seen, bounds_known, bounds_of}
+use Rattle.fc_text.specs.reader.{is_named_suit, is_seen, IsKept, known_of, known_part_fault, Lays}
+use Rattle.fc_text.specs.reader.{seen_of, Sees}
+use Rattle.fc_text.specs.Spelling.{card_spelled, cell_spelled, foundation_spelled}
+use Rattle.fc_text.specs.declared.board.reader.{Kept.{Kept}, Section.{Section}}
+use Rattle.fc_text.specs.declared.board.reader.Section.TheVariants.{Column, Foundations, Freecells}
+use Rattle.fc_text.specs.declared.board.spelling.Foundation.{Foundation}
 use Rattle.fc_text.specs.declared.fault.BoardFaultKind.{BoardFaultKind}
-use Rattle.fc_text.specs.declared.fault.BoardFaultKind.TheVariants.{BadCard, BadFoundation}
 use Rattle.fc_text.specs.declared.fault.BoardFaultKind.TheVariants.{RepeatedCard, TooManyColumns}
 
 -- ---- cards that were seen
 
-abbrev count_seen : List Bool → ℕ
-count_seen seen = count_by (λ was. was) seen
+abbrev count_true : List Bool → ℕ
+count_true seen = count_by (λ was. was) seen
+
+-- how many cards were counted
+abbrev count_seen : List ℕ → ℕ
+count_seen counts = count_true (seen_of counts)
 
 abbrev one_if : Bool → ℕ
 one_if was = cond was 1 0
 
--- as many cards, of which as many or more were seen
-pub record Grown (old new : List Bool) : Type 0 where
-  pub same : length new ≡ length old
-  pub more : count_seen old ≤ count_seen new
-
 -- each that was seen is seen among these too
-count_more : (old new : List Bool) → length new ≡ length old → ((card : ℕ) → card < length old → get_or old card false ≡ true → get_or new card false ≡ true) → count_seen old ≤ count_seen new
+count_more : (old new : List Bool) → length new ≡ length old
+    → ((card : ℕ) → card < length old → get_or old card false ≡ true → get_or new card false ≡ true)
+    → count_true old ≤ count_true new
 count_more [] new long each = omega arith
 count_more (was ∷ old) [] long each = absurd (omega (arith, long))
 count_more (was ∷ old) (is ∷ new) long each =
@@ -54,16 +53,19 @@ was_true : (a b : Bool) → a ≡ true → (a || b) ≡ true
 was_true true b e = refl
 was_true false b e = absurd (cc)
 
-pub Grown-sees : {X : Type 0} (old new : List Bool) (cards : List ℕ) (result : Result X BoardFaultKind) → length old ≡ 52 → Sees old cards new result → Grown old new
-Grown-sees old new cards (Ok taken) long h = subst (Grown old) (sym h.1) (record {
-  same = length-also_seen old cards ∙ sym long;
-  more = count_more old (also_seen old cards) (length-also_seen old cards ∙ sym long)
-      (λ card inside seen. also_seen_at old cards card (omega (arith, inside, long)) ∙ was_true (is_seen old card) (list_any (λ other. eqb other card) cards) seen);
-})
-Grown-sees old new cards (Err kind) long h = subst (Grown old) (sym h.2) (record { same = refl; more = omega arith })
+-- as many cards or more are seen
+pub count-grows : {X : Type 0} (old new cards : List ℕ) (result : Result X BoardFaultKind)
+    → Sees (seen_of old) cards (seen_of new) result → count_seen old ≤ count_seen new
+count-grows old new cards (Ok taken) h =
+    let seen = seen_of old in
+    let size = length-seen_of old in
+    rw h.1 (count_more seen (also_seen seen cards) (length-also_seen seen cards ∙ sym size)
+    (λ card inside was. also_seen_at seen cards card (omega (arith, inside, size)) ∙ was_true (is_seen seen card) (list_any (λ other. eqb other card) cards) was))
+count-grows old new cards (Err kind) h = rw h.2 (omega arith)
 
 -- a card that was not seen is one more
-one_more : (seen : List Bool) (card : ℕ) → length seen ≡ 52 → card < 52 → get_or seen card false ≡ false → count_seen seen + 1 ≤ count_seen (also_seen seen (card ∷ []))
+one_more : (seen : List Bool) (card : ℕ) → length seen ≡ 52 → card < 52 → get_or seen card false ≡ false
+    → count_true seen + 1 ≤ count_true (also_seen seen (card ∷ []))
 one_more seen card long inside unlike =
     let step = sum_by-set one_if seen card true false (omega (arith, inside, long)) in
     let none : one_if (get_or seen card false) ≡ 0 = ap one_if unlike in
@@ -86,93 +88,118 @@ one_more seen card long inside unlike =
 
 -- ---- what is kept
 
-module _ (all : ℕ) (heights cells : List (Option ℕ)) (words : ℕ) (cards : List ℕ) (count : ℕ) (bounds : List ℕ) (lines : ℕ) (seen : List Bool) (kept : IsKept all heights cells words cards count bounds lines seen) where
-  -- more cards are seen, and a height is named
-  pub IsKept-height : (suit : ℕ) (height : Option ℕ) (new : List Bool) → Grown seen new → IsKept all (set heights suit height) cells words cards count bounds lines new
-  IsKept-height suit height new grown = record {
-    four_heights = length-set heights suit height ∙ kept.four_heights;
-    eight_cells = kept.eight_cells;
-    cell_words_fit = kept.cell_words_fit;
-    other_cells_empty = kept.other_cells_empty;
-    room_for_deck = kept.room_for_deck;
-    nine_bounds = kept.nine_bounds;
-    column_lines_fit = kept.column_lines_fit;
-    are_bounds = kept.are_bounds;
-    deck_of_cards = grown.same ∙ kept.deck_of_cards;
-    cards_are_seen = omega (arith, grown.more, kept.cards_are_seen);
-  }
+-- the part is not at fault after what is kept, and then this is known
+abbrev pub Takes : Game → Kept → Section → Option (List ℕ) → Kept → Type 0
+Takes game old section part new = (known_part_fault game (known_of old) section part ≡ None) × (known_of new ≡ after_part (known_of old) section part)
 
-  -- more cards are seen, and the next cell is known
-  pub IsKept-cell : (cell : Option ℕ) (new : List Bool) → Grown seen new → words < all → all ≤ 8 → IsKept all heights (set cells words cell) (words + 1) cards count bounds lines new
-  IsKept-cell cell new grown room few = record {
-    four_heights = kept.four_heights;
-    eight_cells = length-set cells words cell ∙ kept.eight_cells;
-    cell_words_fit = omega arith;
-    other_cells_empty = subst (All IsNone) (sym (drop-set-lt (words + 1) cells words cell (omega arith)))
-        (subst (All IsNone) (drop-drop 1 words cells) (All-drop IsNone 1 (drop words cells) kept.other_cells_empty));
-    room_for_deck = kept.room_for_deck;
-    nine_bounds = kept.nine_bounds;
-    column_lines_fit = kept.column_lines_fit;
-    are_bounds = kept.are_bounds;
-    deck_of_cards = grown.same ∙ kept.deck_of_cards;
-    cards_are_seen = omega (arith, grown.more, kept.cards_are_seen);
-  }
+-- a height is named, and these cards are seen
+abbrev pub with_height : Kept → ℕ → ℕ → List ℕ → Kept
+with_height kept suit height seen = record kept { heights = set kept.heights suit (Some height); seen = seen }
+
+-- the next cell holds this, and these cards are seen
+abbrev pub with_cell : Kept → Option ℕ → List ℕ → Kept
+with_cell kept cell seen = record kept { cells = set kept.cells kept.cell_words cell; cell_words = kept.cell_words + 1; seen = seen }
+
+-- one more column begins
+abbrev pub with_column : Kept → Kept
+with_column kept = record kept { bounds = set kept.bounds kept.column_lines kept.card_count; column_lines = kept.column_lines + 1 }
+
+-- these cards lie, so many, and these are seen
+abbrev pub with_cards : Kept → List ℕ → ℕ → List ℕ → Kept
+with_cards kept cards count seen = record kept { cards = cards; card_count = count; seen = seen }
+
+abbrev begun : Kept → List ℕ
+begun kept = take kept.column_lines kept.bounds
+
+module _ {cell_count : ℕ} (kept : Kept) (is : IsKept cell_count kept) where
+  pub IsKept-height : (suit height : ℕ) (seen : List ℕ) → count_seen kept.seen ≤ count_seen seen
+      → IsKept cell_count (with_height kept suit height seen)
+  IsKept-height suit height seen more =
+      let four = length-set kept.heights suit (Some height) ∙ is.four_heights in
+      let few : kept.card_count ≤ count_seen seen = omega (arith, more, is.cards_are_seen) in
+      assumption (four, few)
+
+  pub IsKept-cell : (cell : Option ℕ) (seen : List ℕ) → count_seen kept.seen ≤ count_seen seen → kept.cell_words < cell_count
+      → IsKept cell_count (with_cell kept cell seen)
+  IsKept-cell cell seen more room =
+      let words = kept.cell_words in
+      let eight = length-set kept.cells words cell ∙ is.eight_cells in
+      let fit : words + 1 ≤ cell_count = omega (arith, room) in
+      let few : kept.card_count ≤ count_seen seen = omega (arith, more, is.cards_are_seen) in
+      let later = All-drop IsNone 1 (drop words kept.cells) is.other_cells_empty in
+      let empty : All IsNone (drop (words + 1) (set kept.cells words cell)) = rw (drop-set-lt (words + 1) kept.cells words cell (omega arith), ← drop-drop 1 words kept.cells) later in
+      assumption (eight, fit, empty, few)
 
   -- no more cards lie than the deck has
-  pub few_cards : count ≤ 52
-  few_cards = omega (arith, kept.cards_are_seen, count_by-le-length (λ was. was) seen, kept.deck_of_cards)
+  pub few_cards : kept.card_count ≤ 52
+  few_cards = omega (arith, is.cards_are_seen, count_by-le-length (λ was. was) (seen_of kept.seen), length-seen_of kept.seen)
 
   -- as many columns are known as were begun
-  pub length-known : length (columns_between cards (bounds_known bounds lines count)) ≡ lines
-  length-known = length-columns_between cards (take lines bounds) count ∙ length-take-le lines bounds (omega (arith, kept.nine_bounds, kept.column_lines_fit))
+  pub length-known : length (columns_between kept.cards (bounds_of kept)) ≡ kept.column_lines
+  length-known = rw (length-columns_between kept.cards (begun kept), length-take-le kept.column_lines kept.bounds (omega (arith, is.nine_bounds, is.column_lines_fit)))
 
-  bounds_next : lines < 8 → bounds_known (set bounds lines count) (lines + 1) count ≡ bounds_known bounds lines count ++ count ∷ []
-  bounds_next room = ap (λ front. front ++ count ∷ []) (take_more_set bounds lines count (omega (arith, kept.nine_bounds, room)))
+  bounds_next : kept.column_lines < 8 → bounds_of (with_column kept) ≡ bounds_of kept ++ kept.card_count ∷ []
+  bounds_next room = rw (take_more_set kept.bounds kept.column_lines kept.card_count (omega (arith, is.nine_bounds, room)))
 
-  -- one more column begins
-  pub IsKept-column : lines < 8 → IsKept all heights cells words cards count (set bounds lines count) (lines + 1) seen
-  IsKept-column room = record {
-    four_heights = kept.four_heights;
-    eight_cells = kept.eight_cells;
-    cell_words_fit = kept.cell_words_fit;
-    other_cells_empty = kept.other_cells_empty;
-    room_for_deck = kept.room_for_deck;
-    nine_bounds = length-set bounds lines count ∙ kept.nine_bounds;
-    column_lines_fit = omega arith;
-    are_bounds = subst (λ bounds. AreBounds bounds 52) (sym (bounds_next room)) (AreBounds-begun (take lines bounds) count 52 kept.are_bounds);
-    deck_of_cards = kept.deck_of_cards;
-    cards_are_seen = kept.cards_are_seen;
-  }
+  pub IsKept-column : kept.column_lines < 8 → IsKept cell_count (with_column kept)
+  IsKept-column room =
+      let nine = length-set kept.bounds kept.column_lines kept.card_count ∙ is.nine_bounds in
+      let fit : kept.column_lines + 1 ≤ 8 = omega (arith, room) in
+      let are : AreBounds (bounds_of (with_column kept)) 52 = rw (bounds_next room) (AreBounds-begun (begun kept) kept.card_count 52 is.are_bounds) in
+      assumption (nine, fit, are)
 
-  -- the next column holds nothing yet
-  pub column_begun : lines < 8 → columns_between cards (bounds_known (set bounds lines count) (lines + 1) count) ≡ columns_between cards (bounds_known bounds lines count) ++ [] ∷ []
-  column_begun room = ap (columns_between cards) (bounds_next room) ∙ columns_between-begun cards (take lines bounds) count
+  pub takes_column : (game : Game) → kept.column_lines < 8 → Takes game kept Column None (with_column kept)
+  takes_column game room = (
+    rw (length-known, below_to 8 kept.column_lines (omega (arith, room))),
+    rw (bounds_next room, columns_between-begun kept.cards (begun kept) kept.card_count),
+  )
 
--- ---- the beginning of a column
+  pub no_column : (game : Game) → 8 ≤ kept.column_lines → known_part_fault game (known_of kept) Column None ≡ Some TooManyColumns
+  no_column game full = rw (length-known, le-leb 8 kept.column_lines full)
 
-pub takes_column : (game : Game) (foundations_line cells_line : Bool) (all : ℕ) (heights cells : List (Option ℕ)) (words : ℕ) (cards : List ℕ) (count : ℕ) (bounds : List ℕ) (lines : ℕ) (seen : List Bool) (old : ReadState)
-    → IsKept all heights cells words cards count bounds lines seen → known_of foundations_line cells_line heights cells words cards count bounds lines seen ≡ old → lines < 8
-    → (known_part_fault game old Column None ≡ None) × (known_of foundations_line cells_line heights cells words cards count (set bounds lines count) (lines + 1) seen ≡ after_part old Column None)
-takes_column game foundations_line cells_line all heights cells words cards count bounds lines seen old kept is room =
-    subst (λ old. (known_part_fault game old Column None ≡ None) × (known_of foundations_line cells_line heights cells words cards count (set bounds lines count) (lines + 1) seen ≡ after_part old Column None)) is (none, same)
-  where
-    none : cond (leb 8 (length (columns_between cards (bounds_known bounds lines count)))) (Some TooManyColumns) None ≡ None
-    none = ap (λ b. cond b (Some TooManyColumns) None) (below_to 8 _ (omega (arith, length-known all heights cells words cards count bounds lines seen kept, room)))
+-- ---- a word of the cells
 
-    same : known_of foundations_line cells_line heights cells words cards count (set bounds lines count) (lines + 1) seen ≡ after_part (known_of foundations_line cells_line heights cells words cards count bounds lines seen) Column None
-    same = ap (λ columns. record { foundations_line = foundations_line; cells_line = cells_line; heights = heights; cells = take words cells; columns = columns; seen = seen })
-        (column_begun all heights cells words cards count bounds lines seen kept room)
+-- there is room for a cell
+module _ {cell_count : ℕ} (kept : Kept) (is : IsKept cell_count kept) (game : Game) (are : game.cells ≡ cell_count) (few : cell_count ≤ 8) (room : kept.cell_words < cell_count) where
+  known_room : length (take kept.cell_words kept.cells) < game.cells
+  known_room = let used = length-take-le kept.cell_words kept.cells (omega (arith, is.eight_cells, few, room)) in omega (arith, used, room, are)
 
-pub no_column : (game : Game) (foundations_line cells_line : Bool) (all : ℕ) (heights cells : List (Option ℕ)) (words : ℕ) (cards : List ℕ) (count : ℕ) (bounds : List ℕ) (lines : ℕ) (seen : List Bool) (old : ReadState)
-    → IsKept all heights cells words cards count bounds lines seen → known_of foundations_line cells_line heights cells words cards count bounds lines seen ≡ old → 8 ≤ lines
-    → known_part_fault game old Column None ≡ Some TooManyColumns
-no_column game foundations_line cells_line all heights cells words cards count bounds lines seen old kept is full =
-    subst (λ old. known_part_fault game old Column None ≡ Some TooManyColumns) is
-    (ap (λ b. cond b (Some TooManyColumns) None) (le-leb 8 _ (omega (arith, length-known all heights cells words cards count bounds lines seen kept, full))))
+  -- the word spells this one
+  module _ (word : List ℕ) (cell : Option ℕ) (spelled : cell_spelled word ≡ Some cell) where
+    cell_fault : (seen : Bool) → list_any (is_seen (seen_of kept.seen)) (option_to_list cell) ≡ seen
+        → known_part_fault game (known_of kept) Freecells (Some word) ≡ cond seen (Some RepeatedCard) None
+    cell_fault seen was = rw (lt-leb game.cells (length (take kept.cell_words kept.cells)) known_room, spelled, append-nil (option_to_list cell), was)
+
+    pub takes_cell : (seen : List ℕ) → Sees {X = Unit {0}} (seen_of kept.seen) (option_to_list cell) (seen_of seen) (Ok tt) → Takes game kept Freecells (Some word) (with_cell kept cell seen)
+    takes_cell seen (none, sees) = (
+      cell_fault false none,
+      rw (take_more_set kept.cells kept.cell_words cell (omega (arith, is.eight_cells, few, room)), spelled, append-nil (option_to_list cell), sees),
+    )
+
+    pub repeats_cell : list_any (is_seen (seen_of kept.seen)) (option_to_list cell) ≡ true
+        → known_part_fault game (known_of kept) Freecells (Some word) ≡ Some RepeatedCard
+    repeats_cell was = cell_fault true was
+
+-- ---- a word of the foundations
+
+-- the word spells this foundation, and its suit was not named before
+module _ (kept : Kept) (game : Game) (word : List ℕ) (foundation : Foundation) (spelled : foundation_spelled word ≡ Some foundation) (unnamed : is_named_suit kept.heights foundation.suit ≡ false) where
+  home_fault : (seen : Bool) → list_any (is_seen (seen_of kept.seen)) (cards_at_home foundation) ≡ seen
+      → known_part_fault game (known_of kept) Foundations (Some word) ≡ cond seen (Some RepeatedCard) None
+  home_fault seen was = rw (spelled, unnamed, append-nil (cards_at_home foundation), was)
+
+  pub takes_home : (seen : List ℕ) → Sees {X = Unit {0}} (seen_of kept.seen) (cards_at_home foundation) (seen_of seen) (Ok tt)
+      → Takes game kept Foundations (Some word) (with_height kept foundation.suit foundation.height seen)
+  takes_home seen (none, sees) = (home_fault false none, rw (spelled, append-nil (cards_at_home foundation), sees))
+
+  pub repeats_home : list_any (is_seen (seen_of kept.seen)) (cards_at_home foundation) ≡ true
+      → known_part_fault game (known_of kept) Foundations (Some word) ≡ Some RepeatedCard
+  repeats_home was = home_fault true was
 
 -- ---- a card at the end of the last column
 
-pub add-append : (columns : List (List ℕ)) (column : List ℕ) (card : ℕ) → add_to_last (columns ++ column ∷ []) card ≡ columns ++ (column ++ card ∷ []) ∷ []
+pub add-append : (columns : List (List ℕ)) (column : List ℕ) (card : ℕ)
+    → add_to_last (columns ++ column ∷ []) card ≡ columns ++ (column ++ card ∷ []) ∷ []
 add-append [] column card = refl
 add-append (first ∷ []) column card = refl
 add-append (first ∷ next ∷ columns) column card = ap (λ later. first ∷ later) (add-append (next ∷ columns) column card)
@@ -184,105 +211,48 @@ record KeepsCard (old : List ℕ) (count : ℕ) (bounds : List ℕ) (lines card 
   are_bounds : AreBounds (bounds_known bounds lines next) 52
   columns : columns_between new (bounds_known bounds lines next) ≡ add_to_last (columns_between old (bounds_known bounds lines count)) card
 
-keeps_card : (old : List ℕ) (count : ℕ) (bounds : List ℕ) (lines card : ℕ) (new : List ℕ) (next : ℕ) → length bounds ≡ 9 → count < length old → count < 52
-    → AreBounds (bounds_known bounds lines count) 52 → Lays old count lines card new next → KeepsCard old count bounds lines card new next
-keeps_card old count bounds zero card new next nine inside few are lays = record {
-  size = ap length lays.0 ∙ length-set old count card;
-  more = omega (arith, lays.1);
-  are_bounds = subst (λ n. AreBounds (n ∷ []) 52) (sym lays.1) are;
-  columns = refl;
-}
-keeps_card old count [] (suc last) card new next nine inside few are lays = absurd (omega arith)
-keeps_card old count (first ∷ bounds) (suc last) card new next nine inside few are lays =
-    subst (λ new. KeepsCard old count (first ∷ bounds) (suc last) card new next) (sym lays.0)
-    (subst (KeepsCard old count (first ∷ bounds) (suc last) card (set old count card)) (sym lays.1) record {
-      size = length-set old count card;
-      more = omega arith;
-      are_bounds = AreBounds-card first (take last bounds) count 52 (omega arith) are;
-      columns = columns_from-card first old (take last bounds) count card 52 are.1 inside;
-    })
-
--- a card that was not seen is put on the last column
-IsKept-card : (all : ℕ) (heights cells : List (Option ℕ)) (words : ℕ) (cards : List ℕ) (count : ℕ) (bounds : List ℕ) (lines : ℕ) (seen : List Bool) (card : ℕ) (new_cards : List ℕ) (new_count : ℕ)
-    → IsKept all heights cells words cards count bounds lines seen → card < 52 → get_or seen card false ≡ false → KeepsCard cards count bounds lines card new_cards new_count
-    → IsKept all heights cells words new_cards new_count bounds lines (also_seen seen (card ∷ []))
-IsKept-card all heights cells words cards count bounds lines seen card new_cards new_count kept inside unlike keeps = record {
-  four_heights = kept.four_heights;
-  eight_cells = kept.eight_cells;
-  cell_words_fit = kept.cell_words_fit;
-  other_cells_empty = kept.other_cells_empty;
-  room_for_deck = keeps.size ∙ kept.room_for_deck;
-  nine_bounds = kept.nine_bounds;
-  column_lines_fit = kept.column_lines_fit;
-  are_bounds = keeps.are_bounds;
-  deck_of_cards = length-also_seen seen (card ∷ []);
-  cards_are_seen = omega (arith, one_more seen card kept.deck_of_cards inside unlike, keeps.more, kept.cards_are_seen);
-}
-
-one_unseen : (seen : List Bool) (card : ℕ) → list_any (is_seen seen) (card ∷ []) ≡ false → get_or seen card false ≡ false
-one_unseen seen card none = sym (or_nothing (get_or seen card false)) ∙ none
-  where
-    or_nothing : (b : Bool) → (b || false) ≡ b
-    or_nothing true = refl
-    or_nothing false = refl
-
--- there is room for a card that was not seen
-pub room_for_card : (all : ℕ) (heights cells : List (Option ℕ)) (words : ℕ) (cards : List ℕ) (count : ℕ) (bounds : List ℕ) (lines : ℕ) (seen : List Bool) (card : ℕ)
-    → IsKept all heights cells words cards count bounds lines seen → card < 52 → list_any (is_seen seen) (card ∷ []) ≡ false
+keeps_card : (old : List ℕ) (count : ℕ) (bounds : List ℕ) (lines card : ℕ) (new : List ℕ) (next : ℕ) → length bounds ≡ 9 → count < length old
     → count < 52
-room_for_card all heights cells words cards count bounds lines seen card kept inside none =
-    let one = one_more seen card kept.deck_of_cards inside (one_unseen seen card none) in
-    let most = count_by-le-length (λ was. was) (also_seen seen (card ∷ [])) in
-    omega (arith, one, most, length-also_seen seen (card ∷ []), kept.cards_are_seen)
+    → AreBounds (bounds_known bounds lines count) 52 → Lays old count lines card new next → KeepsCard old count bounds lines card new next
+keeps_card old count bounds zero card new next nine inside few are lays =
+    rw (lays.0, lays.1) (record { size = length-set old count card; more = omega arith; are_bounds = are; columns = refl })
+keeps_card old count [] (suc last) card new next nine inside few are lays = absurd (omega arith)
+keeps_card old count (first ∷ bounds) (suc last) card new next nine inside few are lays = rw (lays.0, lays.1) (record {
+  size = length-set old count card;
+  more = omega arith;
+  are_bounds = AreBounds-card first (take last bounds) count 52 (omega arith) are;
+  columns = columns_from-card first old (take last bounds) count card 52 are.1 inside;
+})
 
--- what is kept and known where a card was taken from a word of a column
-pub record TakesCard (game : Game) (all : ℕ) (heights cells : List (Option ℕ)) (words : ℕ) (cards : List ℕ) (count : ℕ) (bounds : List ℕ) (lines : ℕ) (seen : List Bool) (word : List ℕ) (new_cards : List ℕ) (new_count : ℕ) (new_seen : List Bool) : Type 0 where
-  pub kept : IsKept all heights cells words new_cards new_count bounds lines new_seen
-  pub taken : (foundations_line cells_line : Bool) (old : ReadState) → known_of foundations_line cells_line heights cells words cards count bounds lines seen ≡ old
-      → (known_part_fault game old Column (Some word) ≡ None)
-      × (known_of foundations_line cells_line heights cells words new_cards new_count bounds lines new_seen ≡ after_part old Column (Some word))
+-- a card that was not seen
+module _ {cell_count : ℕ} (kept : Kept) (is : IsKept cell_count kept) (card : ℕ) (in_deck : card < 52) (none : list_any (is_seen (seen_of kept.seen)) (card ∷ []) ≡ false) where
+  abbrev later : List Bool
+  later = also_seen (seen_of kept.seen) (card ∷ [])
 
-pub takes_card : (game : Game) (all : ℕ) (heights cells : List (Option ℕ)) (words : ℕ) (cards : List ℕ) (count : ℕ) (bounds : List ℕ) (lines : ℕ) (seen : List Bool) (word : List ℕ) (card : ℕ) (new_cards : List ℕ) (new_count : ℕ) (new_seen : List Bool)
-    → IsKept all heights cells words cards count bounds lines seen → card_spelled word ≡ Some card → list_any (is_seen seen) (card ∷ []) ≡ false
-    → Lays cards count lines card new_cards new_count → new_seen ≡ also_seen seen (card ∷ [])
-    → TakesCard game all heights cells words cards count bounds lines seen word new_cards new_count new_seen
-takes_card game all heights cells words cards count bounds lines seen word card new_cards new_count new_seen kept spelled none lays seen_are =
-    subst (TakesCard game all heights cells words cards count bounds lines seen word new_cards new_count) (sym seen_are) at_once
-  where
-    inside : card < 52
-    inside = card_spelled-IsCard word card spelled
+  one_seen : count_seen kept.seen + 1 ≤ count_true later
+  one_seen = one_more (seen_of kept.seen) card (length-seen_of kept.seen) in_deck (sym (or_nothing (is_seen (seen_of kept.seen) card)) ∙ none)
+    where
+      or_nothing : (b : Bool) → (b || false) ≡ b
+      or_nothing true = refl
+      or_nothing false = refl
 
-    unlike : get_or seen card false ≡ false
-    unlike = one_unseen seen card none
+  -- there is room for it
+  pub room_for_card : kept.card_count < 52
+  room_for_card =
+      let most = count_by-le-length (λ was. was) later in
+      omega (arith, one_seen, most, length-also_seen (seen_of kept.seen) (card ∷ []), is.cards_are_seen)
 
-    few : count < 52
-    few = room_for_card all heights cells words cards count bounds lines seen card kept inside none
+  -- it is laid on the last column, and is seen
+  module _ (cards : List ℕ) (count : ℕ) (seen : List ℕ) (lays : Lays kept.cards kept.card_count kept.column_lines card cards count) (sees : seen_of seen ≡ later) where
+    keeps : KeepsCard kept.cards kept.card_count kept.bounds kept.column_lines card cards count
+    keeps = keeps_card _ _ _ _ _ _ _ is.nine_bounds (omega (arith, room_for_card, is.room_for_deck)) room_for_card is.are_bounds lays
 
-    keeps : KeepsCard cards count bounds lines card new_cards new_count
-    keeps = keeps_card cards count bounds lines card new_cards new_count kept.nine_bounds (omega (arith, few, kept.room_for_deck)) few kept.are_bounds lays
+    pub IsKept-card : IsKept cell_count (with_cards kept cards count seen)
+    IsKept-card =
+        let room = keeps.size ∙ is.room_for_deck in
+        let few : count ≤ count_seen seen = rw sees (omega (arith, one_seen, keeps.more, is.cards_are_seen)) in
+        assumption (room, keeps.are_bounds, few)
 
-    Takes : Bool → Bool → ReadState → Type 0
-    Takes foundations_line cells_line old =
-        (known_part_fault game old Column (Some word) ≡ None)
-        × (known_of foundations_line cells_line heights cells words new_cards new_count bounds lines (also_seen seen (card ∷ [])) ≡ after_part old Column (Some word))
-
-    first : (foundations_line cells_line : Bool) → Takes foundations_line cells_line (known_of foundations_line cells_line heights cells words cards count bounds lines seen)
-    first foundations_line cells_line = subst TakesSpelled (sym spelled) (ap (λ b. cond b (Some RepeatedCard) None) none, same)
-      where
-        known : ReadState
-        known = known_of foundations_line cells_line heights cells words cards count bounds lines seen
-
-        TakesSpelled : Option ℕ → Type 0
-        TakesSpelled o =
-            (cond (not (is_some o)) (Some BadCard) (cond false (Some BadFoundation) (cond (list_any (is_seen seen) (option_to_list o)) (Some RepeatedCard) None)) ≡ None)
-            × (known_of foundations_line cells_line heights cells words new_cards new_count bounds lines (also_seen seen (card ∷ [])) ≡ record known { columns = with_card known.columns o; seen = also_seen seen (option_to_list o) })
-
-        same : known_of foundations_line cells_line heights cells words new_cards new_count bounds lines (also_seen seen (card ∷ []))
-            ≡ record known { columns = add_to_last known.columns card; seen = also_seen seen (card ∷ []) }
-        same = ap (λ columns. record known { columns = columns; seen = also_seen seen (card ∷ []) }) keeps.columns
-
-    at_once : TakesCard game all heights cells words cards count bounds lines seen word new_cards new_count (also_seen seen (card ∷ []))
-    at_once = record {
-      kept = IsKept-card all heights cells words cards count bounds lines seen card new_cards new_count kept inside unlike keeps;
-      taken = λ foundations_line cells_line old is. subst (Takes foundations_line cells_line) is (first foundations_line cells_line);
-    }
+    pub takes_card : (game : Game) (word : List ℕ) → card_spelled word ≡ Some card
+        → Takes game kept Column (Some word) (with_cards kept cards count seen)
+    takes_card game word spelled = (rw (spelled, none), rw (spelled, sees, keeps.columns))

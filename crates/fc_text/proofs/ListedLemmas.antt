@@ -7,13 +7,14 @@ use Rattle.std.proofs.lemmas.List.Elements.{All-cons, All-head, All-nil, All-tai
 use Rattle.std.proofs.lemmas.Option.{same_Some}
 use Rattle.std.proofs.lemmas.Slice.Zip.{AllZip-long}
 use Rattle.std.specs.List.{AllZip}
-use Rattle.fc_parts.specs.{Fits, Game, RunFits}
-use Rattle.fc_parts.specs.declared.moves.Move.{Move}
-use Rattle.fc_parts.specs.declared.run_move.RunMove.{RunMove}
-use Rattle.fc_print.proofs.TokenLemmas.{one_move, Reads}
-use Rattle.fc_print.proofs.WordLemmas.{words_from-AreWords}
-use Rattle.fc_print.specs.{BadTokenAt, HasToken, IsRunToken, IsToken, IsWord, Listed, most_moves}
-use Rattle.fc_print.specs.{Piece, separates_tokens, TooManyAt, words, words_from}
+use Rattle.fc_board.specs.{Games.{Game}, Moves.{Fits, RunFits}}
+use Rattle.fc_text.specs.{Lines.{IsWord, Piece, words, words_from}, Notation.{BadTokenAt, HasToken}}
+use Rattle.fc_text.specs.Notation.{IsRunToken, IsToken, Listed, most_moves, separates_tokens}
+use Rattle.fc_text.specs.Notation.{TooManyAt}
+use Rattle.fc_board.specs.declared.moves.Move.{Move}
+use Rattle.fc_board.specs.declared.run_move.RunMove.{RunMove}
+use Rattle.fc_text.proofs.TokenLemmas.{one_move, Reads}
+use Rattle.fc_text.proofs.WordLemmas.{words_from-AreWords}
 
 -- ---- two lists place by place
 module _ {X A B : Type 0} (f : X → A) (R : A → B → Type 0) where

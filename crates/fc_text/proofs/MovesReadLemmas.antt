@@ -7,17 +7,17 @@ use Rattle.std.proofs.lemmas.List.Elements.{All-head, All-tail, All-weaker}
 use Rattle.std.proofs.lemmas.Option.{slice_get_past}
 use Rattle.std.specs.List.{AllZip, cons_option, filter_map, find}
 use Rattle.std.specs.Option.{is_none}
-use Rattle.fc_parts.specs.{Game}
-use Rattle.fc_parts.specs.declared.moves.Move.{Move}
-use Rattle.fc_parts.specs.declared.run_move.RunMove.{RunMove}
-use Rattle.fc_print.proofs.RunTokenLemmas.{runs-Reads}
-use Rattle.fc_print.proofs.TokenLemmas.{moves-Reads, Reads}
-use Rattle.fc_print.specs.{BadTokenAt, HasToken, IsRunToken, IsToken, Listed, most_moves, Piece}
-use Rattle.fc_print.specs.{separates_tokens, TooManyAt, words_from}
-use Rattle.fc_print.specs.reader.{move_named, run_named}
+use Rattle.fc_board.specs.Games.{Game}
+use Rattle.fc_text.specs.{Lines.{Piece, words_from}, Notation.{BadToken, BadTokenAt}}
+use Rattle.fc_text.specs.Notation.{fault_or_moves, HasToken, IsRunToken, IsToken, Listed, listed_by}
+use Rattle.fc_text.specs.Notation.{ListFault, most_moves, separates_tokens, TooMany, TooManyAt}
+use Rattle.fc_board.specs.declared.moves.Move.{Move}
+use Rattle.fc_board.specs.declared.run_move.RunMove.{RunMove}
+use Rattle.fc_text.proofs.RunTokenLemmas.{runs-Reads}
+use Rattle.fc_text.proofs.TokenLemmas.{moves-Reads, Reads}
+use Rattle.fc_text.specs.reader.{move_named, run_named}
 use Rattle.fc_text.proofs.ListedLemmas.{each_from_zip, items_as_words, one_of_three}
-use Rattle.fc_text.specs.{BadToken, fault_or_moves, listed_by, ListFault, moves_read, runs_read}
-use Rattle.fc_text.specs.{TooMany}
+use Rattle.fc_text.specs.Readings.{moves_read, runs_read}
 
 -- ---- what names nothing, among the first of a list
 module _ {X Y : Type 0} (name : X → Option Y) where

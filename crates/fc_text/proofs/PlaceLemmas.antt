@@ -10,22 +10,25 @@ use Rattle.std.proofs.lemmas.List.Sums.{prefix_len-le-length}
 use Rattle.std.proofs.lemmas.Option.{same_Some}
 use Rattle.std.specs.List.{after_first, flat_map, position_or_len, prefix_len}
 use Rattle.std.specs.Option.{option_map, option_or}
-use Rattle.fc_parts.specs.{Game}
-use Rattle.fc_print.proofs.LineLemmas.{lines_are_pieces}
-use Rattle.fc_print.proofs.NextLineLemmas.{piece_within}
-use Rattle.fc_print.proofs.WordLemmas.{words_from-AreWords}
-use Rattle.fc_print.specs.{Blank, cells_names, Column, column_row, columns_left, Comment, Content}
-use Rattle.fc_print.specs.{Foundations, Freecells, heights_names, is_colon, is_empty, is_gap}
-use Rattle.fc_print.specs.{is_named, IsPieceOf, IsWord, Line, line_of, line_of_front, lines_from}
-use Rattle.fc_print.specs.{named_row, number_sign, Piece, Row, row_of, RowKind, rows_within}
-use Rattle.fc_print.specs.{trim_carriage_return, words_from}
+use Rattle.fc_board.specs.Games.{Game}
+use Rattle.fc_text.specs.{Bytes.{is_gap, number_sign}, Faults.{bad_word, cards_of_item}}
+use Rattle.fc_text.specs.Faults.{cards_of_word, count_of_lines, fault_of_item, fault_of_line}
+use Rattle.fc_text.specs.Faults.{fault_of_part, first_fault, first_faulty, has_form, is_past_cells}
+use Rattle.fc_text.specs.Faults.{is_repeated, Item, items_of, items_of_row, lowest_missing}
+use Rattle.fc_text.specs.{Faults.{missing_card, suits_of_item, suits_of_word}, Lines.{IsPieceOf}}
+use Rattle.fc_text.specs.Lines.{IsWord, lines_from, Piece, trim_carriage_return, words_from}
+use Rattle.fc_text.specs.Rows.{Blank, cells_names, column_row, columns_left, Comment, Content}
+use Rattle.fc_text.specs.Rows.{heights_names, is_colon, is_empty, rows_within}
+use Rattle.fc_text.specs.Spelling.{is_section}
+use Rattle.fc_text.specs.declared.board.reader.Section.{Section}
+use Rattle.fc_text.specs.declared.board.reader.Section.TheVariants.{Column, Foundations, Freecells}
+use Rattle.fc_text.specs.Rows.{is_named, Line, line_of, line_of_front, named_row, Row, row_of}
+use Rattle.fc_text.proofs.LineLemmas.{lines_are_pieces}
+use Rattle.fc_text.proofs.NextLineLemmas.{piece_within}
+use Rattle.fc_text.proofs.WordLemmas.{words_from-AreWords}
 use Rattle.fc_text.proofs.RowLemmas.{items_of_words, no_lines}
 use Rattle.fc_text.proofs.SoundLemmas.{line_item, lines-append, lines-one}
 use Rattle.fc_text.proofs.TakingLemmas.{held_first}
-use Rattle.fc_text.specs.{bad_word, cards_of_item, cards_of_word, count_of_lines, fault_of_item}
-use Rattle.fc_text.specs.{fault_of_line, fault_of_part, first_fault, first_faulty, has_form}
-use Rattle.fc_text.specs.{is_past_cells, is_repeated, is_section, Item, items_of, items_of_row}
-use Rattle.fc_text.specs.{lowest_missing, missing_card, suits_of_item, suits_of_word}
 use Rattle.fc_text.specs.declared.fault.BoardFault.{BoardFault}
 use Rattle.fc_text.specs.declared.fault.BoardFaultKind.{BoardFaultKind}
 use Rattle.fc_text.specs.declared.fault.BoardFaultKind.TheVariants.{BadFoundation, MissingCard}
@@ -117,16 +120,18 @@ either : {X : Type 0} (a b : Option X) (x : X) → option_or a b ≡ Some x → 
 either None b x e = inr (refl, e)
 either (Some y) b x e = inl e
 
-placed : (place : ℕ) (kind : Option BoardFaultKind) (fault : BoardFault) → option_map (λ kind. record { place = place; kind = kind }) kind ≡ Some fault → fault.place ≡ place
+placed : (place : ℕ) (kind : Option BoardFaultKind) (fault : BoardFault)
+    → option_map (λ kind. record { place = place; kind = kind }) kind ≡ Some fault → fault.place ≡ place
 placed place None fault e = absurd (cc)
 placed place (Some kind) fault e = let same : Some (record { place = place; kind = kind }) ≡ Some fault = e in cc
 
-unfaulty : (place : ℕ) (kind : Option BoardFaultKind) → option_map {U = BoardFault} (λ kind. record { place = place; kind = kind }) kind ≡ None → kind ≡ None
+unfaulty : (place : ℕ) (kind : Option BoardFaultKind) → option_map {U = BoardFault} (λ kind. record { place = place; kind = kind }) kind ≡ None
+    → kind ≡ None
 unfaulty place None e = refl
 unfaulty place (Some kind) e = absurd (cc)
 
 module _ (game : Game) (end : ℕ) (fault : BoardFault) where
-  words_passed : (section : RowKind) (words : List Piece) (earlier rest : List Item) → WordsWithin end words
+  words_passed : (section : Section) (words : List Piece) (earlier rest : List Item) → WordsWithin end words
       → first_faulty game earlier (items_of_words section words ++ rest) ≡ Some fault
       → (fault.place < end) ⊎ (first_faulty game (earlier ++ items_of_words section words) rest ≡ Some fault)
   words_passed section [] earlier rest are e = inr (subst (λ items. first_faulty game items rest ≡ Some fault) (sym (append-nil earlier)) e)
@@ -159,17 +164,21 @@ module _ (game : Game) (end : ℕ) (fault : BoardFault) where
       ]
 
 -- the places for columns that are left after a row that is not at fault
-left_after : (section : RowKind) (earlier : List Item) (left : ℕ) → count_of_lines Column earlier + left ≡ 8 → fault_of_line section earlier ≡ None
+left_after : (section : Section) (earlier : List Item) (left : ℕ) → count_of_lines Column earlier + left ≡ 8 → fault_of_line section earlier ≡ None
     → count_of_lines Column earlier + cond (is_section Column section) 1 0 + columns_left section left ≡ 8
 left_after Foundations earlier left e none = omega arith
 left_after Freecells earlier left e none = omega arith
 left_after Column earlier left e none = some_left (count_of_lines Column earlier) left e none
   where
     some_left : (count left : ℕ) → count + left ≡ 8 → cond (leb 8 count) (Some TooManyColumns) None ≡ None → count + 1 + (left - 1) ≡ 8
-    some_left count zero e none = absurd (let full : leb 8 count ≡ true = grind (arith, nat_tests) in let some : Some TooManyColumns ≡ None = ap (λ b. cond b (Some TooManyColumns) None) (sym full) ∙ none in cc)
+    some_left count zero e none =
+        let full : leb 8 count ≡ true = grind (arith, nat_tests) in
+        let some : Some TooManyColumns ≡ None = rw full at none in
+        absurd (cc)
     some_left count (suc left) e none = omega arith
 
-count_row : (row : Row) (earlier : List Item) → count_of_lines Column (earlier ++ items_of_row row) ≡ count_of_lines Column earlier + cond (is_section Column row.section) 1 0
+count_row : (row : Row) (earlier : List Item)
+    → count_of_lines Column (earlier ++ items_of_row row) ≡ count_of_lines Column earlier + cond (is_section Column row.section) 1 0
 count_row row earlier =
     let whole = lines-append Column earlier (items_of_row row) in
     let parts = lines-append Column (line_item row.section row.start ∷ []) (items_of_words row.section row.words) in
@@ -178,13 +187,15 @@ count_row row earlier =
     omega arith
 
 -- a blank line that is an empty column is not at fault
-room_left : (game : Game) (earlier : List Item) (start left : ℕ) → count_of_lines Column earlier + suc left ≡ 8 → fault_of_item game earlier (line_item Column start) ≡ None
-room_left game earlier start left e = ap (λ b. option_map {U = BoardFault} (λ kind. record { place = start; kind = kind }) (cond b (Some TooManyColumns) None)) (some_room (count_of_lines Column earlier) left e)
+room_left : (game : Game) (earlier : List Item) (start left : ℕ) → count_of_lines Column earlier + suc left ≡ 8
+    → fault_of_item game earlier (line_item Column start) ≡ None
+room_left game earlier start left e = rw (some_room (count_of_lines Column earlier) left e)
   where
     some_room : (count left : ℕ) → count + suc left ≡ 8 → leb 8 count ≡ false
     some_room count left e = grind (arith, nat_tests)
 
-within_rows : (game : Game) (end : ℕ) (fault : BoardFault) (lines : List Line) (left : ℕ) (earlier : List Item) → count_of_lines Column earlier + left ≡ 8
+within_rows : (game : Game) (end : ℕ) (fault : BoardFault) (lines : List Line) (left : ℕ) (earlier : List Item)
+    → count_of_lines Column earlier + left ≡ 8
     → All (LineWithin end) lines → first_faulty game earlier (flat_map items_of_row (rows_within left lines)) ≡ Some fault → fault.place < end
 within_rows game end fault [] zero earlier places are e = absurd (cc)
 within_rows game end fault [] (suc left) earlier places are e = absurd (cc)
@@ -194,14 +205,15 @@ within_rows game end fault (Blank start ∷ lines) zero earlier places are e =
     within_rows game end fault lines zero earlier places (All-tail (LineWithin end) (Blank start) lines are) e
 within_rows game end fault (Blank start ∷ lines) (suc left) earlier places are e =
     within_rows game end fault lines left (earlier ++ line_item Column start ∷ []) (more places) (All-tail (LineWithin end) (Blank start) lines are)
-    (ap (λ first. option_or first (first_faulty game (earlier ++ line_item Column start ∷ []) (flat_map items_of_row (rows_within left lines)))) (sym (room_left game earlier start left places)) ∙ e)
+    (rw (room_left game earlier start left places) at e)
   where
     more : count_of_lines Column earlier + suc left ≡ 8 → count_of_lines Column (earlier ++ line_item Column start ∷ []) + left ≡ 8
     more places = let sum = lines-append Column earlier (line_item Column start ∷ []) in let one = lines-one Column Column start in omega arith
 within_rows game end fault (Content row ∷ lines) left earlier places are e =
-    let split : first_faulty game earlier (items_of_row row ++ flat_map items_of_row (rows_within (columns_left row.section left) lines)) ≡ Some fault =
+    let rest = flat_map items_of_row (rows_within (columns_left row.section left) lines) in
+    let split : first_faulty game earlier (items_of_row row ++ rest) ≡ Some fault =
     ap (λ rows. first_faulty game earlier (flat_map items_of_row rows)) (sym (held_first left row lines)) ∙ e in
-    elim (row_passed game end fault row earlier (flat_map items_of_row (rows_within (columns_left row.section left) lines)) (All-head (LineWithin end) (Content row) lines are) split) [
+    elim (row_passed game end fault row earlier rest (All-head (LineWithin end) (Content row) lines are) split) [
       | inl within ↦ within
       | inr (none, later) ↦
           within_rows game end fault lines (columns_left row.section left) (earlier ++ items_of_row row)
@@ -214,28 +226,22 @@ within_rows game end fault (Content row ∷ lines) left earlier places are e =
 abbrev NotMissing : Option BoardFaultKind → Type 0
 NotMissing kind = (card : ℕ) → kind ≡ Some (MissingCard card) → ⊥
 
-no_line_misses : (section : RowKind) (earlier : List Item) → NotMissing (fault_of_line section earlier)
-no_line_misses Foundations earlier = by_test (leb 1 (count_of_lines Foundations earlier))
-  where
-    by_test : (b : Bool) → NotMissing (cond b (Some RepeatedLine) None)
-    by_test true card e = cc
-    by_test false card e = cc
-no_line_misses Freecells earlier = by_test (leb 1 (count_of_lines Freecells earlier))
-  where
-    by_test : (b : Bool) → NotMissing (cond b (Some RepeatedLine) None)
-    by_test true card e = cc
-    by_test false card e = cc
-no_line_misses Column earlier = by_test (leb 8 (count_of_lines Column earlier))
-  where
-    by_test : (b : Bool) → NotMissing (cond b (Some TooManyColumns) None)
-    by_test true card e = cc
-    by_test false card e = cc
+if_not_missing : (b : Bool) (kind : BoardFaultKind) → NotMissing (Some kind) → NotMissing (cond b (Some kind) None)
+if_not_missing true kind other = other
+if_not_missing false kind other = λ card e. cc
 
-no_word_misses : (game : Game) (earlier : List Item) (section : RowKind) (word : List ℕ) → NotMissing (fault_of_part game earlier section (Some word))
+no_line_misses : (section : Section) (earlier : List Item) → NotMissing (fault_of_line section earlier)
+no_line_misses Foundations earlier = if_not_missing (leb 1 (count_of_lines Foundations earlier)) RepeatedLine (λ card e. cc)
+no_line_misses Freecells earlier = if_not_missing (leb 1 (count_of_lines Freecells earlier)) RepeatedLine (λ card e. cc)
+no_line_misses Column earlier = if_not_missing (leb 8 (count_of_lines Column earlier)) TooManyColumns (λ card e. cc)
+
+no_word_misses : (game : Game) (earlier : List Item) (section : Section) (word : List ℕ) → NotMissing (fault_of_part game earlier section (Some word))
 no_word_misses game earlier section word =
-    by_tests (is_past_cells game section earlier) (not (has_form section word)) (is_repeated suits_of_item earlier (suits_of_word section word)) (is_repeated cards_of_item earlier (cards_of_word section word)) section
+    let suits = is_repeated suits_of_item earlier (suits_of_word section word) in
+    let cards = is_repeated cards_of_item earlier (cards_of_word section word) in
+    by_tests (is_past_cells game section earlier) (not (has_form section word)) suits cards section
   where
-    by_tests : (past bad suits cards : Bool) (section : RowKind)
+    by_tests : (past bad suits cards : Bool) (section : Section)
         → NotMissing (cond past (Some TooManyCells) (cond bad (Some (bad_word section)) (cond suits (Some BadFoundation) (cond cards (Some RepeatedCard) None))))
     by_tests true bad suits cards section card e = cc
     by_tests false true suits cards Foundations card e = cc
@@ -245,11 +251,13 @@ no_word_misses game earlier section word =
     by_tests false false false true section card e = cc
     by_tests false false false false section card e = cc
 
-no_part_misses : (game : Game) (earlier : List Item) (section : RowKind) (part : Option (List ℕ)) → NotMissing (fault_of_part game earlier section part)
+no_part_misses : (game : Game) (earlier : List Item) (section : Section) (part : Option (List ℕ))
+    → NotMissing (fault_of_part game earlier section part)
 no_part_misses game earlier section None = no_line_misses section earlier
 no_part_misses game earlier section (Some word) = no_word_misses game earlier section word
 
-pub no_item_misses : (game : Game) (items earlier : List Item) (place card : ℕ) → first_faulty game earlier items ≡ Some (record { place = place; kind = MissingCard card }) → ⊥
+pub no_item_misses : (game : Game) (items earlier : List Item) (place card : ℕ)
+    → first_faulty game earlier items ≡ Some (record { place = place; kind = MissingCard card }) → ⊥
 no_item_misses game [] earlier place card e = absurd (cc)
 no_item_misses game (item ∷ items) earlier place card e =
     elim (either (fault_of_item game earlier item) (first_faulty game (earlier ++ item ∷ []) items) (record { place = place; kind = MissingCard card }) e) [
@@ -264,7 +272,8 @@ no_item_misses game (item ∷ items) earlier place card e =
 
 -- ---- the first fault of a text
 
-pub missing_at_end : (game : Game) (text : List ℕ) (place card : ℕ) → first_fault game text ≡ Some (record { place = place; kind = MissingCard card }) → place ≡ length text
+pub missing_at_end : (game : Game) (text : List ℕ) (place card : ℕ) → first_fault game text ≡ Some (record { place = place; kind = MissingCard card })
+    → place ≡ length text
 missing_at_end game text place card e =
     elim (either (first_faulty game [] (items_of text)) (missing_card text) (record { place = place; kind = MissingCard card }) e) [
       | inl item ↦ absurd (no_item_misses game (items_of text) [] place card item)
@@ -275,7 +284,8 @@ missing_at_end game text place card e =
     ensured None e = absurd (cc)
     ensured (Some other) e = sym (ap (λ (fault : BoardFault). fault.place) (same_Some _ _ e))
 
-pub others_within : (game : Game) (text : List ℕ) (fault : BoardFault) → first_fault game text ≡ Some fault → ((card : ℕ) → fault.kind ≢ MissingCard card) → fault.place < length text
+pub others_within : (game : Game) (text : List ℕ) (fault : BoardFault) → first_fault game text ≡ Some fault
+    → ((card : ℕ) → fault.kind ≢ MissingCard card) → fault.place < length text
 others_within game text fault e other =
     elim (either (first_faulty game [] (items_of text)) (missing_card text) fault e) [
       | inl item ↦
@@ -287,6 +297,7 @@ others_within game text fault e other =
     lines : List Line
     lines = map line_of (lines_from 0 text)
 
-    ensured : (lowest : Option ℕ) → option_map {U = BoardFault} (λ card. record { place = length text; kind = MissingCard card }) lowest ≡ Some fault → ⊥
+    ensured : (lowest : Option ℕ) → option_map {U = BoardFault} (λ card. record { place = length text; kind = MissingCard card }) lowest ≡ Some fault
+        → ⊥
     ensured None e = absurd (cc)
     ensured (Some card) e = other card (sym (ap (λ (fault : BoardFault). fault.kind) (same_Some _ _ e)))

@@ -6,16 +6,18 @@ use Rattle.std.proofs.lemmas.List.{take_more}
 use Rattle.std.proofs.lemmas.List.Elements.{All-head, All-tail}
 use Rattle.std.proofs.lemmas.List.Sums.{sum_by-cons}
 use Rattle.std.specs.List.{AllZip, join_with_byte, sum_by}
-use Rattle.fc_parts.proofs.BoardLemmas.{All-left}
-use Rattle.fc_parts.specs.{Fits, Game, RunFits}
-use Rattle.fc_parts.specs.declared.moves.Move.{Move}
-use Rattle.fc_parts.specs.declared.run_move.RunMove.{RunMove}
-use Rattle.fc_print.proofs.RunTokenLemmas.{one_run, run_token-IsRunToken, run_token-IsSolid}
-use Rattle.fc_print.proofs.TokenLemmas.{IsSolid, one_move, token-IsSolid, token-IsToken}
-use Rattle.fc_print.proofs.WordLemmas.{EndsWord, first_word}
-use Rattle.fc_print.specs.{blank, HasToken, IsRunToken, IsToken, Listed, most_moves, Piece}
-use Rattle.fc_print.specs.{run_token, separates_tokens, token, TooManyAt, words, words_from}
-use Rattle.fc_print.specs.reader.{print_moves, print_runs}
+use Rattle.fc_board.proofs.BoardLemmas.{All-left}
+use Rattle.fc_board.specs.{Games.{Game}, Moves.{Fits, RunFits}}
+use Rattle.fc_text.specs.{Bytes.{blank}, Lines.{Piece, words, words_from}, Notation.{HasToken}}
+use Rattle.fc_text.specs.Notation.{IsRunToken, IsToken, Listed, most_moves, run_token}
+use Rattle.fc_text.specs.Notation.{separates_tokens, token, TooManyAt}
+use Rattle.fc_board.specs.declared.moves.Move.{Move}
+use Rattle.fc_board.specs.declared.run_move.RunMove.{RunMove}
+use Rattle.fc_text.proofs.RunTokenLemmas.{one_run, run_token-IsRunToken}
+use Rattle.fc_text.proofs.RunTokenLemmas.{run_solid}
+use Rattle.fc_text.proofs.TokenLemmas.{IsSolid, one_move, token-IsSolid, token-IsToken}
+use Rattle.fc_text.proofs.WordLemmas.{EndsWord, first_word}
+use Rattle.fc_text.specs.reader.{print_moves, print_runs}
 use Rattle.fc_text.proofs.ListedLemmas.{each_from_zip, one_zip}
 
 module _ {Item : Type 0} (token_of : Item → List ℕ) where
@@ -182,7 +184,7 @@ print-TooManyAt game moves few fits more =
 
 -- ---- moves of several cards
 runs_are : (game : Game) → game.cells ≤ 8 → AreTokens (IsRunToken game) run_token (RunFits game)
-runs_are game few = record { solid = run_token-IsSolid game few; name = run_token-IsRunToken game few }
+runs_are game few = record { solid = run_solid game few; name = run_token-IsRunToken game few }
 
 pub print_runs-Listed : (game : Game) (moves : List RunMove) → game.cells ≤ 8 → All (RunFits game) moves → length moves ≤ most_moves
     → Listed (IsRunToken game) (print_runs moves) moves

@@ -14,19 +14,24 @@ use Rattle.std.specs.List.{flat_map, list_all, prefix_len}
 use Rattle.std.specs.Option.{option_map}
 use Rattle.fc_card.proofs.Letters.{answers, answers-true}
 use Rattle.fc_card.specs.{card_text, IsCard, rank_letter, rank_of, suit_letter, suit_of}
-use Rattle.fc_parts.proofs.BoardLemmas.{count_of-cons, in_cells, in_columns}
-use Rattle.fc_parts.specs.{Board, Game, IsHeight, IsWellFormed}
-use Rattle.fc_parts.specs.laws.ListWords.{IsCell}
-use Rattle.fc_print.proofs.LineLemmas.{first_line, InLine}
-use Rattle.fc_print.proofs.WordLemmas.{EndsWord, first_word}
-use Rattle.fc_print.specs.{blank, card_word, cell_word, cells_line, colon, Column, column_line}
-use Rattle.fc_print.specs.{columns_left, Content, dash, Foundations, foundations_line, Freecells}
-use Rattle.fc_print.specs.{height_letter, height_word, is_empty, is_gap, Line, line_feed, line_of}
-use Rattle.fc_print.specs.{line_of_front, lines_from, printed_suits, Row, RowKind, rows_of}
-use Rattle.fc_print.specs.{rows_within, text_of, trim_carriage_return, words_from}
+use Rattle.fc_board.proofs.BoardLemmas.{count_of-cons, in_cells, in_columns}
+use Rattle.fc_board.specs.{Boards.{Board, IsHeight, IsWellFormed}, Games.{Game}}
+use Rattle.fc_text.specs.Bytes.{blank, colon, dash, is_gap, line_feed}
+use Rattle.fc_text.specs.{Lines.{lines_from, trim_carriage_return, words_from}, Printed.{card_word}}
+use Rattle.fc_text.specs.Printed.{cell_word, cells_line, column_line, foundations_line}
+use Rattle.fc_text.specs.Printed.{height_letter, height_word, printed_suits, text_of}
+use Rattle.fc_text.specs.Rows.{columns_left, Content, is_empty, Line, line_of, line_of_front, Row}
+use Rattle.fc_text.specs.Rows.{rows_of, rows_within}
+use Rattle.fc_text.specs.Spelling.{card_spelled, cell_spelled, count_of_suit}
+use Rattle.fc_text.specs.declared.board.reader.Section.{Section}
+use Rattle.fc_text.specs.declared.board.reader.Section.TheVariants.{Column, Foundations, Freecells}
+use Rattle.fc_text.specs.declared.board.spelling.Foundation.{Foundation}
+use Rattle.fc_text.specs.Spelling.{foundation_spelled, height_spelled, is_empty_mark, lines_of}
+use Rattle.fc_text.specs.Spelling.{padded_with, Spells, words_of}
+use Rattle.fc_board.specs.laws.ListWords.{IsCell}
+use Rattle.fc_text.proofs.LineLemmas.{first_line, InLine}
+use Rattle.fc_text.proofs.WordLemmas.{EndsWord, first_word}
 use Rattle.fc_text.proofs.SpelledLemmas.{count_of_suits}
-use Rattle.fc_text.specs.{card_spelled, cell_spelled, count_of_suit, Foundation, foundation_spelled}
-use Rattle.fc_text.specs.{height_spelled, is_empty_mark, lines_of, padded_with, Spells, words_of}
 
 -- ---- bytes of printed text: no control characters, and within words no blanks
 
@@ -248,7 +253,7 @@ from_front start bytes are first =
     ∙ ap (λ n. line_of_front (start + n) (drop n bytes)) first
     ∙ ap (λ s. line_of_front s bytes) (omega arith)
 
-row_at : (section : RowKind) (start first then : ℕ) (rest : List ℕ) → first ≡ then
+row_at : (section : Section) (start first then : ℕ) (rest : List ℕ) → first ≡ then
     → Content (record { section = section; start = start; words = words_from is_gap first rest }) ≡ Content (record { section = section; start = start; words = words_from is_gap then rest })
 row_at section start first then rest e = ap (λ place. Content (record { section = section; start = start; words = words_from is_gap place rest })) e
 
@@ -462,7 +467,7 @@ module _ (game : Game) (board : Board) (well : IsWellFormed game board) where
       nothing_left : (places taken : ℕ) → taken ≡ places → places - taken ≡ 0
       nothing_left places taken e = omega arith
 
-  abbrev at_most_one : RowKind → List Row → Type 0
+  abbrev at_most_one : Section → List Row → Type 0
   at_most_one section rows = length (lines_of section rows) ≤ 1
 
   pub text_spells : Spells game (text_of board) board

@@ -7,21 +7,21 @@ use Rattle.std.proofs.lemmas.List.{append_assoc, length-drop, length-map}
 use Rattle.std.proofs.lemmas.List.Elements.{All-weaker}
 use Rattle.std.proofs.lemmas.Slice.Zip.{AllZip-long}
 use Rattle.std.specs.List.{AllZip}
-use Rattle.fc_parts.specs.{eight_off, Fits, Game, ListFits, MoveList, OneCard, PlaceFits, RunFits}
-use Rattle.fc_parts.specs.{Runs, SourceFits}
-use Rattle.fc_parts.specs.declared.moves.Move.{Move}
-use Rattle.fc_parts.specs.declared.moves.Place.{Place}
-use Rattle.fc_parts.specs.declared.moves.Place.TheVariants.{Cell as ToCell, Column as ToColumn}
-use Rattle.fc_parts.specs.declared.moves.Place.TheVariants.{Home}
-use Rattle.fc_parts.specs.declared.moves.Source.{Source}
-use Rattle.fc_parts.specs.declared.moves.Source.TheVariants.{Cell as FromCell, Column as FromColumn}
-use Rattle.fc_parts.specs.declared.run_move.RunMove.{RunMove}
-use Rattle.fc_parts.specs.declared.run_move.RunMove.TheVariants.{One, Run}
-use Rattle.fc_print.proofs.WordLemmas.{after_separator, first_word}
-use Rattle.fc_print.specs.{BadTokenAt, blank, HasToken, Listed, most_moves, Piece, separates_tokens}
-use Rattle.fc_print.specs.{TooManyAt, with_end, words_from}
-use Rattle.fc_print.specs.reader.{BeginsWithPair, BeginsWithToken, IsInOnePiece, IsReadTo}
-use Rattle.fc_print.specs.reader.{ReadSoFar}
+use Rattle.fc_board.specs.{Games.{eight_off, Game}, Moves.{Fits, ListFits, MoveList, OneCard}}
+use Rattle.fc_board.specs.Moves.{PlaceFits, RunFits, Runs, SourceFits}
+use Rattle.fc_text.specs.{Bytes.{blank}, Lines.{Piece, with_end, words_from}, Notation.{BadTokenAt}}
+use Rattle.fc_text.specs.Notation.{HasToken, Listed, most_moves, separates_tokens, TooManyAt}
+use Rattle.fc_board.specs.declared.moves.Move.{Move}
+use Rattle.fc_board.specs.declared.moves.Place.{Place}
+use Rattle.fc_board.specs.declared.moves.Place.TheVariants.{Cell as ToCell, Column as ToColumn}
+use Rattle.fc_board.specs.declared.moves.Place.TheVariants.{Home}
+use Rattle.fc_board.specs.declared.moves.Source.{Source}
+use Rattle.fc_board.specs.declared.moves.Source.TheVariants.{Cell as FromCell, Column as FromColumn}
+use Rattle.fc_board.specs.declared.run_move.RunMove.{RunMove}
+use Rattle.fc_board.specs.declared.run_move.RunMove.TheVariants.{One, Run}
+use Rattle.fc_text.proofs.WordLemmas.{after_separator, first_word}
+use Rattle.fc_text.specs.reader.{BeginsWithPair, BeginsWithToken, IsInOnePiece, IsReadTo}
+use Rattle.fc_text.specs.reader.{ReadSoFar}
 use Rattle.fc_text.proofs.ListedLemmas.{each_from_zip}
 
 abbrev pieces : List (Piece × ℕ) → List Piece

@@ -12,10 +12,20 @@ use Rattle.std.proofs.lemmas.List.FromFn.{get_or-range_with_len, length-range_wi
 use Rattle.std.specs.List.{find, flat_map, list_any, range_with_len}
 use Rattle.std.specs.Option.{option_map, option_or, option_to_list}
 use Rattle.fc_card.specs.{IsCard, rank_of, suit_of}
-use Rattle.fc_parts.proofs.BoardLemmas.{count_of-append, parts_same}
-use Rattle.fc_parts.specs.{Board, cards_in_play, count_of, count_of_places, Game, is_home, IsHeight}
-use Rattle.fc_parts.specs.{IsWellFormed}
-use Rattle.fc_print.specs.{Column, Foundations, Freecells, Piece, Row, RowKind, rows_of}
+use Rattle.fc_board.proofs.BoardLemmas.{count_of-append, parts_same}
+use Rattle.fc_card.specs.{count_of}
+use Rattle.fc_board.specs.Boards.{Board, cards_in_play, count_of_places, is_home, IsHeight}
+use Rattle.fc_board.specs.{Boards.{IsWellFormed}, Games.{Game}}
+use Rattle.fc_text.specs.Faults.{cards_at_home, cards_of_item, cards_of_word, first_fault}
+use Rattle.fc_text.specs.Faults.{first_faulty, Item, items_of, items_of_row, lowest_missing}
+use Rattle.fc_text.specs.{Faults.{missing_card, suits_of_item, suits_of_word}, Lines.{Piece}}
+use Rattle.fc_text.specs.Rows.{Row, rows_of}
+use Rattle.fc_text.specs.Spelling.{all_spelled, board_of, cell_spelled, count_of_suit}
+use Rattle.fc_text.specs.declared.board.reader.Section.{Section}
+use Rattle.fc_text.specs.declared.board.reader.Section.TheVariants.{Column, Foundations, Freecells}
+use Rattle.fc_text.specs.declared.board.spelling.Foundation.{Foundation}
+use Rattle.fc_text.specs.Spelling.{foundation_spelled, height_in, heights_of, lines_of, OneByOne}
+use Rattle.fc_text.specs.Spelling.{padded_with, Spells, words_of}
 use Rattle.fc_text.proofs.CardLemmas.{cards_held, count_first}
 use Rattle.fc_text.proofs.RowLemmas.{count_lines, count_numbers, count_words, formed_from, forms_of}
 use Rattle.fc_text.proofs.RowLemmas.{in_section, WordsFormed}
@@ -26,11 +36,6 @@ use Rattle.fc_text.proofs.SpelledLemmas.{empty_columns, flat_spelled, height_at,
 use Rattle.fc_text.proofs.SpelledLemmas.{line_cards, lines_all, lines_cards, lines_one_by_one}
 use Rattle.fc_text.proofs.SpelledLemmas.{one_by_one, OneByOne-all, spelled-AreFoundations}
 use Rattle.fc_text.proofs.SpelledLemmas.{suits_spelled}
-use Rattle.fc_text.specs.{all_spelled, board_of, cards_at_home, cards_of_item, cards_of_word}
-use Rattle.fc_text.specs.{cell_spelled, count_of_suit, first_fault, first_faulty, Foundation}
-use Rattle.fc_text.specs.{foundation_spelled, height_in, heights_of, Item, items_of, items_of_row}
-use Rattle.fc_text.specs.{lines_of, lowest_missing, missing_card, OneByOne, padded_with, Spells}
-use Rattle.fc_text.specs.{suits_of_item, suits_of_word, words_of}
 
 -- ---- what the words of a text give, by its rows
 
@@ -123,7 +128,7 @@ all_present cards there =
 
 -- ---- the cards of words are cards
 
-section_cards : (section : RowKind) (words : List Piece) → All IsCard (in_section cards_of_word section words)
+section_cards : (section : Section) (words : List Piece) → All IsCard (in_section cards_of_word section words)
 section_cards section [] = All-nil IsCard
 section_cards section (word ∷ words) =
     All-append IsCard (cards_of_word section word.bytes) (in_section cards_of_word section words) (cards_held section word.bytes).0 (section_cards section words)
@@ -132,7 +137,7 @@ item_cards : (items : List Item) → All IsCard (flat_map cards_of_item items)
 item_cards [] = All-nil IsCard
 item_cards (item ∷ items) = All-append IsCard (cards_of_item item) (flat_map cards_of_item items) (own item.section item.word) (item_cards items)
   where
-    own : (section : RowKind) (word : Option (List ℕ)) → All IsCard (flat_map (cards_of_word section) (option_to_list word))
+    own : (section : Section) (word : Option (List ℕ)) → All IsCard (flat_map (cards_of_word section) (option_to_list word))
     own section None = All-nil IsCard
     own section (Some word) = subst (All IsCard) (sym (append-nil (cards_of_word section word))) (cards_held section word).0
 
@@ -268,7 +273,7 @@ module _ (game : Game) (text : List ℕ) where
       (s.cells_given ∙ ap (padded_with game.cells None) cells.1)
       (s.columns_given ∙ ap (padded_with 8 []) columns.1)
 
-  words_formed : (board : Board) → Spells game text board → (section : RowKind) → WordsFormed section (words_of section rows)
+  words_formed : (board : Board) → Spells game text board → (section : Section) → WordsFormed section (words_of section rows)
   words_formed board s Foundations = (OneByOne-all foundation_spelled (words_of Foundations rows) s.foundations s.foundations_spelled).0
   words_formed board s Freecells = (OneByOne-all cell_spelled (words_of Freecells rows) s.cells s.cells_spelled).0
   words_formed board s Column = (lines_all (lines_of Column rows) s.columns s.columns_spelled).0

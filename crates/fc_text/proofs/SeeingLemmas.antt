@@ -21,7 +21,8 @@ pub length-also_seen : (seen : List Bool) (cards : List ℕ) → length (also_se
 unfolding also_seen
 length-also_seen seen cards = length-map-range_with_len (λ card. is_seen seen card || list_any (λ other. other == card) cards) 0 52
 
-pub also_seen_at : (seen : List Bool) (cards : List ℕ) (card : ℕ) → IsCard card → is_seen (also_seen seen cards) card ≡ (is_seen seen card || list_any (λ other. other == card) cards)
+pub also_seen_at : (seen : List Bool) (cards : List ℕ) (card : ℕ) → IsCard card
+    → is_seen (also_seen seen cards) card ≡ (is_seen seen card || list_any (λ other. other == card) cards)
 unfolding also_seen
 also_seen_at seen cards card in_deck = get_or-map-range_with_len (λ card. is_seen seen card || list_any (λ other. other == card) cards) 0 52 card card false in_deck (omega arith)
 
@@ -33,7 +34,8 @@ pub seen_at : (counts : List ℕ) (card : ℕ) → IsCard card → is_seen (seen
 unfolding seen_of
 seen_at counts card in_deck = get_or-map-range_with_len (λ card. nat_le 1 (slice_index counts card)) 0 52 card card false in_deck (omega arith)
 
-seen_from : (counts : List ℕ) (seen : List Bool) → length seen ≡ 52 → ((card : ℕ) → IsCard card → get_or seen card false ≡ nat_le 1 (slice_index counts card)) → seen_of counts ≡ seen
+seen_from : (counts : List ℕ) (seen : List Bool) → length seen ≡ 52
+    → ((card : ℕ) → IsCard card → get_or seen card false ≡ nat_le 1 (slice_index counts card)) → seen_of counts ≡ seen
 unfolding seen_of
 seen_from counts seen long each = sym (fill_by_all (λ card. nat_le 1 (slice_index counts card)) seen 52 false long each)
 
@@ -59,7 +61,8 @@ counted_seen old new cards counted =
     ∙ counted_test (slice_index old card) (slice_index new card) (count_of card cards) (list_any (λ other. other == card) cards) (counted card in_deck) (among_counted cards card))
 
 -- ---- one card
-pub not_seen : (counts : List ℕ) (card : ℕ) → IsCard card → (1 ≤ slice_index counts card → ⊥) → list_any (is_seen (seen_of counts)) (card ∷ []) ≡ false
+pub not_seen : (counts : List ℕ) (card : ℕ) → IsCard card → (1 ≤ slice_index counts card → ⊥)
+    → list_any (is_seen (seen_of counts)) (card ∷ []) ≡ false
 not_seen counts card is none = ap (λ test. test || false) (seen_at counts card is ∙ lt-leb 1 (slice_index counts card) (omega (arith, none)))
 
 pub was_seen : (counts : List ℕ) (card : ℕ) → IsCard card → 1 ≤ slice_index counts card → list_any (is_seen (seen_of counts)) (card ∷ []) ≡ true
@@ -80,7 +83,8 @@ unseen counts card in_deck e = elim (cases_eq (slice_index counts card) 0) [
   | inr some ↦ absurd (both_ways _ e (seen_at counts card in_deck ∙ le-leb 1 (slice_index counts card) (omega (arith, some))))
 ]
 
-pub missing_seen : (counts : List ℕ) (found : Option ℕ) → MatchOption found (NoCard (λ card. slice_index counts card ≡ 0)) (IsLowest (λ card. slice_index counts card ≡ 0))
+pub missing_seen : (counts : List ℕ) (found : Option ℕ)
+    → MatchOption found (NoCard (λ card. slice_index counts card ≡ 0)) (IsLowest (λ card. slice_index counts card ≡ 0))
     → MatchOption found (NoCard (λ card. is_seen (seen_of counts) card ≡ false)) (IsLowest (λ card. is_seen (seen_of counts) card ≡ false))
 missing_seen counts None none = λ card in_deck e. none card in_deck (unseen counts card in_deck e)
 missing_seen counts (Some card) is = record {
@@ -90,7 +94,8 @@ missing_seen counts (Some card) is = record {
 }
 
 -- ---- cards of a foundation
-none_of : (seen : List Bool) (cards : List ℕ) → All IsCard cards → ((card : ℕ) → IsCard card → 1 ≤ count_of card cards → is_seen seen card ≡ false) → list_any (is_seen seen) cards ≡ false
+none_of : (seen : List Bool) (cards : List ℕ) → All IsCard cards → ((card : ℕ) → IsCard card → 1 ≤ count_of card cards → is_seen seen card ≡ false)
+    → list_any (is_seen seen) cards ≡ false
 none_of seen [] are none = refl
 none_of seen (first ∷ cards) are none =
     ap₂ (λ a b. a || b) (none first (All-head IsCard first cards are) (elim (count_first first first cards) [
@@ -120,13 +125,15 @@ up_to_one : (test : Bool) → 1 ≤ cond {A = ℕ} test 1 0 → test ≡ true
 up_to_one true some = refl
 up_to_one false some = absurd (omega (arith, some))
 
-pub home_not_seen : (counts : List ℕ) (suit height : ℕ) → suit < 4 → height ≤ 13 → CountsNoneUpTo counts suit height → list_any (is_seen (seen_of counts)) (cards_from suit 1 height) ≡ false
+pub home_not_seen : (counts : List ℕ) (suit height : ℕ) → suit < 4 → height ≤ 13 → CountsNoneUpTo counts suit height
+    → list_any (is_seen (seen_of counts)) (cards_from suit 1 height) ≡ false
 home_not_seen counts suit height below high none =
     none_of (seen_of counts) (cards_from suit 1 height) (cards_at_home-IsCard (record { suit = suit; height = height }) (record { suit = below; height = high }))
     (λ card in_deck some. seen_at counts card in_deck ∙ lt-leb 1 (slice_index counts card)
     (omega (arith, none card in_deck (up_to_one (is_up_to suit height card) (omega (arith, some, count_home suit height card below))))))
 
-pub home_was_seen : (counts : List ℕ) (suit height : ℕ) → suit < 4 → height ≤ 13 → (CountsNoneUpTo counts suit height → ⊥) → list_any (is_seen (seen_of counts)) (cards_from suit 1 height) ≡ true
+pub home_was_seen : (counts : List ℕ) (suit height : ℕ) → suit < 4 → height ≤ 13 → (CountsNoneUpTo counts suit height → ⊥)
+    → list_any (is_seen (seen_of counts)) (cards_from suit 1 height) ≡ true
 home_was_seen counts suit height below high some = elim (cases_Bool (list_any (is_seen (seen_of counts)) (cards_from suit 1 height))) [
   | inl seen ↦ seen
   | inr unseen ↦ absurd (some (λ card in_deck up. elim (cases_eq (slice_index counts card) 0) [

@@ -11,14 +11,16 @@ use Rattle.std.proofs.lemmas.List.Sums.{sum_by-append}
 use Rattle.std.specs.List.{flat_map, list_any}
 use Rattle.std.specs.Option.{is_some, option_map, option_or}
 use Rattle.fc_card.specs.{IsCard}
-use Rattle.fc_parts.proofs.BoardLemmas.{All-left, All-right, count_of-append, count_of-cons}
-use Rattle.fc_parts.specs.{count_of, Game}
-use Rattle.fc_print.specs.{Column, Foundations, Freecells, RowKind}
+use Rattle.fc_board.proofs.BoardLemmas.{All-left, All-right, count_of-append, count_of-cons}
+use Rattle.{fc_board.specs.Games.{Game}, fc_card.specs.{count_of}}
+use Rattle.fc_text.specs.Faults.{cards_of_item, cards_of_word, count_of_lines, count_of_words}
+use Rattle.fc_text.specs.Faults.{fault_of_line, fault_of_part, fault_of_word, first_faulty}
+use Rattle.fc_text.specs.Faults.{has_form, is_past_cells, is_repeated, Item, suits_of_item}
+use Rattle.fc_text.specs.Faults.{suits_of_word}
+use Rattle.fc_text.specs.declared.board.reader.Section.{Section}
+use Rattle.fc_text.specs.declared.board.reader.Section.TheVariants.{Column, Foundations, Freecells}
+use Rattle.fc_text.specs.Spelling.{is_section}
 use Rattle.fc_text.proofs.CardLemmas.{among_counted, cards_held, suits_held}
-use Rattle.fc_text.specs.{cards_of_item, cards_of_word, count_of_lines, count_of_words}
-use Rattle.fc_text.specs.{fault_of_line, fault_of_part, fault_of_word, first_faulty, has_form}
-use Rattle.fc_text.specs.{is_past_cells, is_repeated, is_section, Item, suits_of_item}
-use Rattle.fc_text.specs.{suits_of_word}
 
 -- ---- numbers that are in a list
 
@@ -33,7 +35,8 @@ absent number numbers h = elim (cases_eq (count_of number numbers) 0) [
 
 -- ---- numbers that name earlier items too
 
-apart_step : (here : Bool) (x number count rest later earlier : ℕ) → here ≡ eqb x number → count ≡ cond here 1 0 + rest → rest + earlier ≤ 1 → count ≤ 1
+apart_step : (here : Bool) (x number count rest later earlier : ℕ) → here ≡ eqb x number → count ≡ cond here 1 0 + rest → rest + earlier ≤ 1
+    → count ≤ 1
     → (x ≡ number → earlier ≡ 0) → count + earlier ≤ 1
 apart_step true x number count rest later earlier is e together once none =
     let same : x ≡ number = grind (arith, nat_tests) in
@@ -43,7 +46,8 @@ apart_step false x number count rest later earlier is e together once none = ome
 
 -- where none of these numbers is repeated, each is once among all
 pub not_repeated : (numbers : Item → List ℕ) (earlier : List Item) (these : List ℕ) (number : ℕ) → is_repeated numbers earlier these ≡ false
-    → count_of number these ≤ 1 → count_of number (flat_map numbers earlier) ≤ 1 → count_of number these + count_of number (flat_map numbers earlier) ≤ 1
+    → count_of number these ≤ 1 → count_of number (flat_map numbers earlier) ≤ 1
+    → count_of number these + count_of number (flat_map numbers earlier) ≤ 1
 not_repeated numbers earlier [] number h once before = omega arith
 not_repeated numbers earlier (x ∷ these) number h once before =
     let here = list_any (λ other. eqb other x) (flat_map numbers earlier) in
@@ -77,7 +81,7 @@ no_repeat numbers earlier (x ∷ these) P are once =
 -- ---- soundness
 
 -- a line has a form, and a word has the form of its section's words
-abbrev pub is_formed : RowKind → Option (List ℕ) → Bool
+abbrev pub is_formed : Section → Option (List ℕ) → Bool
 is_formed section None = true
 is_formed section (Some word) = has_form section word
 
@@ -90,10 +94,10 @@ pub record Sound (game : Game) (items : List Item) : Type 0 where
   pub suits : (suit : ℕ) → count_of suit (flat_map suits_of_item items) ≤ 1
   pub cards : (card : ℕ) → count_of card (flat_map cards_of_item items) ≤ 1
 
-pub lines-append : (section : RowKind) (xs ys : List Item) → count_of_lines section (xs ++ ys) ≡ count_of_lines section xs + count_of_lines section ys
+pub lines-append : (section : Section) (xs ys : List Item) → count_of_lines section (xs ++ ys) ≡ count_of_lines section xs + count_of_lines section ys
 lines-append section xs ys = sum_by-append (λ item. cond (is_section section item.section && not (is_some item.word)) 1 0) xs ys
 
-pub words-append : (section : RowKind) (xs ys : List Item) → count_of_words section (xs ++ ys) ≡ count_of_words section xs + count_of_words section ys
+pub words-append : (section : Section) (xs ys : List Item) → count_of_words section (xs ++ ys) ≡ count_of_words section xs + count_of_words section ys
 words-append section xs ys = sum_by-append (λ item. cond (is_section section item.section && is_some item.word) 1 0) xs ys
 
 numbers-append : (numbers : Item → List ℕ) (number : ℕ) (xs ys : List Item)
@@ -125,19 +129,19 @@ Sound-nil game = record {
 
 -- ---- what one item adds
 
-abbrev pub line_item : RowKind → ℕ → Item
+abbrev pub line_item : Section → ℕ → Item
 line_item section place = record { section = section; place = place; word = None }
 
-abbrev pub word_item : RowKind → ℕ → List ℕ → Item
+abbrev pub word_item : Section → ℕ → List ℕ → Item
 word_item section place word = record { section = section; place = place; word = Some word }
 
 -- ---- a line
 
 -- a line counts once in its own section
-abbrev pub adds_line : RowKind → RowKind → ℕ
+abbrev pub adds_line : Section → Section → ℕ
 adds_line counted section = cond (is_section counted section) 1 0
 
-pub lines-one : (counted section : RowKind) (place : ℕ) → count_of_lines counted (line_item section place ∷ []) ≡ adds_line counted section
+pub lines-one : (counted section : Section) (place : ℕ) → count_of_lines counted (line_item section place ∷ []) ≡ adds_line counted section
 lines-one Foundations Foundations place = refl
 lines-one Foundations Freecells place = refl
 lines-one Foundations Column place = refl
@@ -148,19 +152,20 @@ lines-one Column Foundations place = refl
 lines-one Column Freecells place = refl
 lines-one Column Column place = refl
 
-pub words-none : (section : RowKind) (place : ℕ) → count_of_words Freecells (line_item section place ∷ []) ≡ 0
+pub words-none : (section : Section) (place : ℕ) → count_of_words Freecells (line_item section place ∷ []) ≡ 0
 words-none Foundations place = refl
 words-none Freecells place = refl
 words-none Column place = refl
 
 -- what stays within a bound after one more line
-abbrev LinesFit : List Item → RowKind → Type 0
+abbrev LinesFit : List Item → Section → Type 0
 LinesFit earlier section =
     (count_of_lines Foundations earlier + adds_line Foundations section ≤ 1)
     × (count_of_lines Freecells earlier + adds_line Freecells section ≤ 1)
     × (count_of_lines Column earlier + adds_line Column section ≤ 8)
 
-line_sound : (game : Game) (earlier : List Item) (section : RowKind) (place : ℕ) → Sound game earlier → LinesFit earlier section → Sound game (earlier ++ line_item section place ∷ [])
+line_sound : (game : Game) (earlier : List Item) (section : Section) (place : ℕ) → Sound game earlier → LinesFit earlier section
+    → Sound game (earlier ++ line_item section place ∷ [])
 line_sound game earlier section place sound (first, second, third) =
     let item = line_item section place in record {
       foundations_lines = let sum = lines-append Foundations earlier (item ∷ []) in let one = lines-one Foundations section place in omega arith;
@@ -176,7 +181,8 @@ line_sound game earlier section place sound (first, second, third) =
 add_nothing : (n limit : ℕ) → n ≤ limit → n + 0 ≤ limit
 add_nothing n limit h = omega arith
 
-lines_fit : (game : Game) (earlier : List Item) (section : RowKind) (place : ℕ) → Sound game (earlier ++ line_item section place ∷ []) → LinesFit earlier section
+lines_fit : (game : Game) (earlier : List Item) (section : Section) (place : ℕ) → Sound game (earlier ++ line_item section place ∷ [])
+    → LinesFit earlier section
 lines_fit game earlier section place sound =
     let item = line_item section place in (
       let sum = lines-append Foundations earlier (item ∷ []) in let one = lines-one Foundations section place in let bound = sound.foundations_lines in omega arith,
@@ -198,7 +204,8 @@ below_from limit n h = grind (arith, nat_tests)
 pub below_to : (limit n : ℕ) → n + 1 ≤ limit → leb limit n ≡ false
 below_to limit n h = grind (arith, nat_tests)
 
-fit_from : (game : Game) (earlier : List Item) (section : RowKind) → Sound game earlier → fault_of_line section earlier ≡ None → LinesFit earlier section
+fit_from : (game : Game) (earlier : List Item) (section : Section) → Sound game earlier → fault_of_line section earlier ≡ None
+    → LinesFit earlier section
 fit_from game earlier Foundations sound e =
     let few = below_from 1 (count_of_lines Foundations earlier) (none_from _ _ _ e).0 in
     (few, add_nothing _ _ sound.cells_lines, add_nothing _ _ sound.column_lines)
@@ -209,7 +216,7 @@ fit_from game earlier Column sound e =
     let few = below_from 8 (count_of_lines Column earlier) (none_from _ _ _ e).0 in
     (add_nothing _ _ sound.foundations_lines, add_nothing _ _ sound.cells_lines, few)
 
-fit_to : (earlier : List Item) (section : RowKind) → LinesFit earlier section → fault_of_line section earlier ≡ None
+fit_to : (earlier : List Item) (section : Section) → LinesFit earlier section → fault_of_line section earlier ≡ None
 fit_to earlier Foundations fit = none_to _ _ _ (below_to 1 (count_of_lines Foundations earlier) fit.0) refl
 fit_to earlier Freecells fit = none_to _ _ _ (below_to 1 (count_of_lines Freecells earlier) fit.1) refl
 fit_to earlier Column fit = none_to _ _ _ (below_to 8 (count_of_lines Column earlier) fit.2) refl
@@ -220,15 +227,15 @@ item_numbers : (f : List ℕ → List ℕ) (word : List ℕ) → flat_map f (wor
 item_numbers f word = append-nil (flat_map f (word ∷ [])) ∙ append-nil (f word)
 
 -- a word of the cells counts once among these
-abbrev pub adds_word : RowKind → ℕ
+abbrev pub adds_word : Section → ℕ
 adds_word section = cond (is_section Freecells section) 1 0
 
-pub words-one : (section : RowKind) (place : ℕ) (word : List ℕ) → count_of_words Freecells (word_item section place word ∷ []) ≡ adds_word section
+pub words-one : (section : Section) (place : ℕ) (word : List ℕ) → count_of_words Freecells (word_item section place word ∷ []) ≡ adds_word section
 words-one Foundations place word = refl
 words-one Freecells place word = refl
 words-one Column place word = refl
 
-pub lines-none : (counted section : RowKind) (place : ℕ) (word : List ℕ) → count_of_lines counted (word_item section place word ∷ []) ≡ 0
+pub lines-none : (counted section : Section) (place : ℕ) (word : List ℕ) → count_of_lines counted (word_item section place word ∷ []) ≡ 0
 lines-none Foundations Foundations place word = refl
 lines-none Foundations Freecells place word = refl
 lines-none Foundations Column place word = refl
@@ -240,13 +247,14 @@ lines-none Column Freecells place word = refl
 lines-none Column Column place word = refl
 
 -- what a word must be after earlier items
-pub record WordFits (game : Game) (earlier : List Item) (section : RowKind) (word : List ℕ) : Type 0 where
+pub record WordFits (game : Game) (earlier : List Item) (section : Section) (word : List ℕ) : Type 0 where
   pub cells : count_of_words Freecells earlier + adds_word section ≤ game.cells
   pub form : has_form section word ≡ true
   pub suits : (suit : ℕ) → count_of suit (suits_of_word section word) + count_of suit (flat_map suits_of_item earlier) ≤ 1
   pub cards : (card : ℕ) → count_of card (cards_of_word section word) + count_of card (flat_map cards_of_item earlier) ≤ 1
 
-word_sound : (game : Game) (earlier : List Item) (section : RowKind) (place : ℕ) (word : List ℕ) → Sound game earlier → WordFits game earlier section word
+word_sound : (game : Game) (earlier : List Item) (section : Section) (place : ℕ) (word : List ℕ) → Sound game earlier
+    → WordFits game earlier section word
     → Sound game (earlier ++ word_item section place word ∷ [])
 word_sound game earlier section place word sound fits =
     let item = word_item section place word in record {
@@ -266,7 +274,8 @@ word_sound game earlier section place word sound fits =
           let bound = fits.cards card in omega arith;
     }
 
-word_fits : (game : Game) (earlier : List Item) (section : RowKind) (place : ℕ) (word : List ℕ) → Sound game (earlier ++ word_item section place word ∷ [])
+word_fits : (game : Game) (earlier : List Item) (section : Section) (place : ℕ) (word : List ℕ)
+    → Sound game (earlier ++ word_item section place word ∷ [])
     → WordFits game earlier section word
 word_fits game earlier section place word sound =
     let item = word_item section place word in record {
@@ -283,18 +292,21 @@ word_fits game earlier section place word sound =
     }
 
 -- the cells have a place for the word exactly where it is not past them
-place_from : (game : Game) (earlier : List Item) (section : RowKind) → count_of_words Freecells earlier ≤ game.cells → is_past_cells game section earlier ≡ false
+place_from : (game : Game) (earlier : List Item) (section : Section) → count_of_words Freecells earlier ≤ game.cells
+    → is_past_cells game section earlier ≡ false
     → count_of_words Freecells earlier + adds_word section ≤ game.cells
 place_from game earlier Foundations bound e = omega arith
 place_from game earlier Freecells bound e = below_from game.cells (count_of_words Freecells earlier) e
 place_from game earlier Column bound e = omega arith
 
-place_to : (game : Game) (earlier : List Item) (section : RowKind) → count_of_words Freecells earlier + adds_word section ≤ game.cells → is_past_cells game section earlier ≡ false
+place_to : (game : Game) (earlier : List Item) (section : Section) → count_of_words Freecells earlier + adds_word section ≤ game.cells
+    → is_past_cells game section earlier ≡ false
 place_to game earlier Foundations bound = refl
 place_to game earlier Freecells bound = below_to game.cells (count_of_words Freecells earlier) bound
 place_to game earlier Column bound = refl
 
-word_fit_from : (game : Game) (earlier : List Item) (section : RowKind) (word : List ℕ) → Sound game earlier → fault_of_word game earlier section word ≡ None
+word_fit_from : (game : Game) (earlier : List Item) (section : Section) (word : List ℕ) → Sound game earlier
+    → fault_of_word game earlier section word ≡ None
     → WordFits game earlier section word
 word_fit_from game earlier section word sound e =
     let (room, formed) = none_from (is_past_cells game section earlier) _ _ e in
@@ -308,12 +320,17 @@ word_fit_from game earlier section word sound e =
       cards = λ card. not_repeated cards_of_item earlier (cards_of_word section word) card cards ((cards_held section word).1 card) (sound.cards card);
     }
 
-word_fit_to : (game : Game) (earlier : List Item) (section : RowKind) (word : List ℕ) → WordFits game earlier section word → fault_of_word game earlier section word ≡ None
+word_fit_to : (game : Game) (earlier : List Item) (section : Section) (word : List ℕ) → WordFits game earlier section word
+    → fault_of_word game earlier section word ≡ None
 word_fit_to game earlier section word fits =
+    let suits = suits_of_word section word in
+    let cards = cards_of_word section word in
+    let other_suits = no_repeat suits_of_item earlier suits (λ suit. suit ≡ suit) (all_same suits) (λ suit same. fits.suits suit) in
+    let other_cards = no_repeat cards_of_item earlier cards IsCard (cards_held section word).0 (λ card is. fits.cards card) in
     none_to (is_past_cells game section earlier) _ _ (place_to game earlier section fits.cells)
     (none_to (not (has_form section word)) _ _ (ap not fits.form)
-    (none_to (is_repeated suits_of_item earlier (suits_of_word section word)) _ _ (no_repeat suits_of_item earlier (suits_of_word section word) (λ suit. suit ≡ suit) (all_same (suits_of_word section word)) (λ suit same. fits.suits suit))
-    (none_to (is_repeated cards_of_item earlier (cards_of_word section word)) _ _ (no_repeat cards_of_item earlier (cards_of_word section word) IsCard (cards_held section word).0 (λ card is. fits.cards card)) refl)))
+    (none_to (is_repeated suits_of_item earlier suits) _ _ other_suits
+    (none_to (is_repeated cards_of_item earlier cards) _ _ other_cards refl)))
   where
     all_same : (xs : List ℕ) → All (λ x. x ≡ x) xs
     all_same [] = All-nil (λ x. x ≡ x)
@@ -321,18 +338,21 @@ word_fit_to game earlier section word fits =
 
 -- ---- one item, and all
 
-pub item_sound : (game : Game) (earlier : List Item) (item : Item) → Sound game earlier → fault_of_part game earlier item.section item.word ≡ None → Sound game (earlier ++ item ∷ [])
+pub item_sound : (game : Game) (earlier : List Item) (item : Item) → Sound game earlier → fault_of_part game earlier item.section item.word ≡ None
+    → Sound game (earlier ++ item ∷ [])
 item_sound game earlier item sound e = part item.section item.place item.word sound e
   where
-    part : (section : RowKind) (place : ℕ) (word : Option (List ℕ)) → Sound game earlier → fault_of_part game earlier section word ≡ None
+    part : (section : Section) (place : ℕ) (word : Option (List ℕ)) → Sound game earlier → fault_of_part game earlier section word ≡ None
         → Sound game (earlier ++ record { section = section; place = place; word = word } ∷ [])
     part section place None sound e = line_sound game earlier section place sound (fit_from game earlier section sound e)
     part section place (Some word) sound e = word_sound game earlier section place word sound (word_fit_from game earlier section word sound e)
 
-item_faultless : (game : Game) (earlier : List Item) (item : Item) → Sound game (earlier ++ item ∷ []) → fault_of_part game earlier item.section item.word ≡ None
+item_faultless : (game : Game) (earlier : List Item) (item : Item) → Sound game (earlier ++ item ∷ [])
+    → fault_of_part game earlier item.section item.word ≡ None
 item_faultless game earlier item sound = part item.section item.place item.word sound
   where
-    part : (section : RowKind) (place : ℕ) (word : Option (List ℕ)) → Sound game (earlier ++ record { section = section; place = place; word = word } ∷ [])
+    part : (section : Section) (place : ℕ) (word : Option (List ℕ))
+        → Sound game (earlier ++ record { section = section; place = place; word = word } ∷ [])
         → fault_of_part game earlier section word ≡ None
     part section place None sound = fit_to earlier section (lines_fit game earlier section place sound)
     part section place (Some word) sound = word_fit_to game earlier section word (word_fits game earlier section place word sound)
@@ -345,7 +365,8 @@ both_none : {X Y : Type 0} (f : X → Y) (o : Option X) (rest : Option Y) → o 
 both_none f None rest e r = r
 both_none f (Some x) rest e r = absurd (cc)
 
-pub Sound-from_faultless : (game : Game) (earlier items : List Item) → Sound game earlier → first_faulty game earlier items ≡ None → Sound game (earlier ++ items)
+pub Sound-from_faultless : (game : Game) (earlier items : List Item) → Sound game earlier → first_faulty game earlier items ≡ None
+    → Sound game (earlier ++ items)
 Sound-from_faultless game earlier [] sound e = subst (Sound game) (sym (append-nil earlier)) sound
 Sound-from_faultless game earlier (item ∷ items) sound e =
     let (here, later) = no_fault _ (fault_of_part game earlier item.section item.word) _ e in

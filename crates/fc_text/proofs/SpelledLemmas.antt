@@ -10,13 +10,16 @@ use Rattle.std.proofs.lemmas.List.Sums.{sum_by-cons}
 use Rattle.std.specs.List.{cons_option, flat_map}
 use Rattle.std.specs.Option.{is_some, option_to_list}
 use Rattle.fc_card.specs.{rank_of, suit_of}
-use Rattle.fc_parts.proofs.BoardLemmas.{All-left, All-right, count_of-append, count_of-cons}
-use Rattle.fc_parts.specs.{count_of}
-use Rattle.fc_print.specs.{Foundations, Piece, Row}
+use Rattle.fc_board.proofs.BoardLemmas.{All-left, All-right, count_of-append, count_of-cons}
+use Rattle.fc_card.specs.{count_of}
+use Rattle.fc_text.specs.{Faults.{cards_at_home, suits_of_word}, Lines.{Piece}}
+use Rattle.fc_text.specs.{Rows.{Row}, Spelling.{all_spelled, card_spelled, count_of_suit}}
+use Rattle.fc_text.specs.Spelling.{foundation_spelled, height_in}
+use Rattle.fc_text.specs.declared.board.reader.Section.TheVariants.{Foundations}
+use Rattle.fc_text.specs.declared.board.spelling.Foundation.{Foundation}
+use Rattle.fc_text.specs.Spelling.{heights_of, OneByOne}
 use Rattle.fc_text.proofs.CardLemmas.{foundation_spelled-IsFoundation, IsFoundation, none_from_run}
 use Rattle.fc_text.proofs.CardLemmas.{one_of_run}
-use Rattle.fc_text.specs.{all_spelled, card_spelled, cards_at_home, count_of_suit, Foundation}
-use Rattle.fc_text.specs.{foundation_spelled, height_in, heights_of, OneByOne, suits_of_word}
 
 -- ---- words that spell items one by one
 
@@ -28,7 +31,8 @@ one_more : {X : Type 0} (first : Option X) (rest : List (Option X)) (items : Lis
 one_more None rest items some e = absurd (cc)
 one_more (Some x) rest items some e = ap (λ os. Some x ∷ os) e
 
-pub one_by_one : {X : Type 0} (spelled : List ℕ → Option X) (words : List Piece) → AllSpelled spelled words → OneByOne spelled words (all_spelled spelled words)
+pub one_by_one : {X : Type 0} (spelled : List ℕ → Option X) (words : List Piece) → AllSpelled spelled words
+    → OneByOne spelled words (all_spelled spelled words)
 one_by_one spelled [] are = refl
 one_by_one spelled (word ∷ words) are =
     one_more (spelled word.bytes) (map (λ word. spelled word.bytes) words) (all_spelled spelled words)
@@ -94,7 +98,8 @@ flat_one None items_of items rest e = e
 flat_one (Some x) items_of items rest e = ap (λ front. front ++ rest) (append-nil (items_of x)) ∙ ap (λ more. items_of x ++ more) e
 
 -- words name what the items that they spell name
-pub flat_spelled : {X : Type 0} (spelled : List ℕ → Option X) (items_of : X → List ℕ) (words : List Piece) → Flat spelled items_of words ≡ flat_map items_of (all_spelled spelled words)
+pub flat_spelled : {X : Type 0} (spelled : List ℕ → Option X) (items_of : X → List ℕ) (words : List Piece)
+    → Flat spelled items_of words ≡ flat_map items_of (all_spelled spelled words)
 flat_spelled spelled items_of [] = refl
 flat_spelled spelled items_of (word ∷ words) = flat_one (spelled word.bytes) items_of (all_spelled spelled words) (Flat spelled items_of words) (flat_spelled spelled items_of words)
 
@@ -151,7 +156,8 @@ suit_count-cons : (suit : ℕ) (foundation : Foundation) (rest : List Foundation
     → count_of_suit suit (foundation ∷ rest) ≡ cond (eqb foundation.suit suit) 1 0 + count_of_suit suit rest
 suit_count-cons suit foundation rest = sum_by-cons (λ foundation. cond (eqb foundation.suit suit) 1 0) foundation rest
 
-pub count_of_suits : (suit : ℕ) (foundations : List Foundation) → count_of suit (map (λ foundation. foundation.suit) foundations) ≡ count_of_suit suit foundations
+pub count_of_suits : (suit : ℕ) (foundations : List Foundation)
+    → count_of suit (map (λ foundation. foundation.suit) foundations) ≡ count_of_suit suit foundations
 count_of_suits suit [] = refl
 count_of_suits suit (foundation ∷ rest) =
     count_of-cons suit foundation.suit (map (λ foundation. foundation.suit) rest)
@@ -167,7 +173,8 @@ home_in_suit foundation card is same =
       | inr (test, high) ↦ none_from_run foundation.suit 1 foundation.height card is.suit (omega arith) (λ a low below. omega arith) ∙ ap (λ b. cond b 1 0) (sym test)
     ]
 
-home_elsewhere : (foundation : Foundation) (card : ℕ) → IsFoundation foundation → suit_of card ≢ foundation.suit → count_of card (cards_at_home foundation) ≡ 0
+home_elsewhere : (foundation : Foundation) (card : ℕ) → IsFoundation foundation → suit_of card ≢ foundation.suit
+    → count_of card (cards_at_home foundation) ≡ 0
 home_elsewhere foundation card is other = none_from_run foundation.suit 1 foundation.height card is.suit (omega arith) (λ same low high. other same)
 
 -- a suit that is not named has none of its cards at home
@@ -195,7 +202,8 @@ pub count_home : (foundations : List Foundation) (card : ℕ) → AreFoundations
     → count_of card (flat_map cards_at_home foundations) ≡ cond (leb (rank_of card) (height_in foundations (suit_of card))) 1 0
 count_home [] card are once = nothing (leb_tells (rank_of card) 0)
   where
-    nothing : ((leb (rank_of card) 0 ≡ true) × (rank_of card ≤ 0)) ⊎ ((leb (rank_of card) 0 ≡ false) × (0 < rank_of card)) → ◌≡◌ {A = ℕ} 0 (cond (leb (rank_of card) 0) 1 0)
+    nothing : ((leb (rank_of card) 0 ≡ true) × (rank_of card ≤ 0)) ⊎ ((leb (rank_of card) 0 ≡ false) × (0 < rank_of card))
+        → ◌≡◌ {A = ℕ} 0 (cond (leb (rank_of card) 0) 1 0)
     nothing (inl (test, low)) = absurd (omega arith)
     nothing (inr (test, high)) = ap (λ b. cond b 1 0) (sym test)
 count_home (foundation ∷ rest) card are once =
@@ -255,7 +263,8 @@ height_at foundations (suc (suc (suc (suc suit)))) small = absurd (omega arith)
 pub height_of-bound : (foundations : List Foundation) (suit : ℕ) → AreFoundations foundations → height_in foundations suit ≤ 13
 height_of-bound [] suit are = omega arith
 height_of-bound (foundation ∷ rest) suit are =
-    either (eqb foundation.suit suit) foundation.height (height_in rest suit) (All-head IsFoundation foundation rest are).height (height_of-bound rest suit (All-tail IsFoundation foundation rest are))
+    let later = height_of-bound rest suit (All-tail IsFoundation foundation rest are) in
+    either (eqb foundation.suit suit) foundation.height (height_in rest suit) (All-head IsFoundation foundation rest are).height later
   where
     either : (b : Bool) (x y : ℕ) → x ≤ 13 → y ≤ 13 → cond b x y ≤ 13
     either true x y p q = p
@@ -264,15 +273,16 @@ height_of-bound (foundation ∷ rest) suit are =
 -- ---- places that are left empty
 
 pub empty_cells : (cells : List (Option ℕ)) (count : ℕ) → flat_map option_to_list (cells ++ replicate count None) ≡ flat_map option_to_list cells
-empty_cells cells count = flat_map-append option_to_list cells (replicate count None) ∙ ap (λ rest. flat_map option_to_list cells ++ rest) (nothing count) ∙ append-nil (flat_map option_to_list cells)
+empty_cells cells count = rw (flat_map-append option_to_list cells (replicate count None), nothing count, append-nil (flat_map option_to_list cells))
   where
     nothing : (count : ℕ) → flat_map {X = Option ℕ} option_to_list (replicate count None) ≡ []
     nothing zero = refl
     nothing (suc count) = nothing count
 
-pub empty_columns : (columns : List (List ℕ)) (count : ℕ) → flat_map (λ column. column) (columns ++ replicate count []) ≡ flat_map (λ column. column) columns
+pub empty_columns : (columns : List (List ℕ)) (count : ℕ)
+    → flat_map (λ column. column) (columns ++ replicate count []) ≡ flat_map (λ column. column) columns
 empty_columns columns count =
-    flat_map-append (λ column. column) columns (replicate count []) ∙ ap (λ rest. flat_map (λ column. column) columns ++ rest) (nothing count) ∙ append-nil (flat_map (λ column. column) columns)
+    rw (flat_map-append (λ column. column) columns (replicate count []), nothing count, append-nil (flat_map (λ column. column) columns))
   where
     nothing : (count : ℕ) → flat_map {X = List ℕ} {A = ℕ} (λ column. column) (replicate count []) ≡ []
     nothing zero = refl

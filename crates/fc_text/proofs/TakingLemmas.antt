@@ -2,24 +2,27 @@
 use Rattle.std.proofs.Common.{◌&&◌, ◌++◌, ◌+◌, ◌-◌, ◌<◌, ◌||◌, ◌∙◌, ◌∷◌, ◌≡◌, ◌≤◌, ◌⊎◌, [], All, ap}
 use Rattle.std.proofs.Common.{append-nil, arith, Bool, cond, drop, drop-drop, false, get_or, inl}
 use Rattle.std.proofs.Common.{inr, leb, length, length-append, List, ltb, map, min, None, not}
-use Rattle.std.proofs.Common.{Option, refl, Some, subst, suc, sym, take, true, zero, ℕ}
+use Rattle.std.proofs.Common.{Option, refl, Some, suc, sym, take, true, zero, ℕ}
 use Rattle.std.proofs.lemmas.Bool.{both_ways}
 use Rattle.std.proofs.lemmas.Bool.Decides.{leb_tells, nat_tests}
 use Rattle.std.proofs.lemmas.List.{drop_more, length-drop, length-take, take-append-drop}
 use Rattle.std.proofs.lemmas.List.Elements.{All-cons, All-nil}
 use Rattle.std.proofs.lemmas.List.Sums.{prefix_len-le-length}
 use Rattle.std.specs.List.{flat_map, prefix_len}
-use Rattle.std.specs.Option.{option_map, option_or}
-use Rattle.fc_parts.specs.{Game}
-use Rattle.fc_print.proofs.WordLemmas.{EndsWord, first_word}
-use Rattle.fc_print.specs.{Blank, Column, column_row, columns_left, Comment, Content, Foundations}
-use Rattle.fc_print.specs.{Freecells, in_word, is_empty, is_gap, Line, line_of, lines_from, Piece}
-use Rattle.fc_print.specs.{Row, RowKind, rows_of, rows_within, words_from}
-use Rattle.fc_text.proofs.ReadStateLemmas.{length-with_card}
-use Rattle.fc_text.specs.{card_spelled, Item, items_of_row}
+use Rattle.std.specs.Option.{option_or}
+use Rattle.fc_board.specs.Games.{Game}
+use Rattle.fc_text.specs.{Bytes.{is_gap}, Faults.{Item, items_of_row}}
+use Rattle.fc_text.specs.{Lines.{lines_from, Piece, words_from}, Rows.{Blank, column_row}}
+use Rattle.fc_text.specs.Rows.{columns_left, Comment, Content, is_empty, Line, line_of, Row}
+use Rattle.fc_text.specs.Rows.{rows_of, rows_within}
+use Rattle.fc_text.specs.declared.board.reader.Section.{Section}
+use Rattle.fc_text.specs.declared.board.reader.Section.TheVariants.{Column, Foundations, Freecells}
+use Rattle.fc_text.specs.Spelling.{card_spelled}
+use Rattle.fc_text.proofs.WordLemmas.{EndsWord, first_word}
+use Rattle.fc_text.proofs.KnownLemmas.{length-with_card}
 use Rattle.fc_text.specs.reader.{after_item, after_items, after_part, first_known_fault, has_room}
-use Rattle.fc_text.specs.reader.{is_begun, items_of_words, known_part_fault, ReadState, rows_after}
-use Rattle.fc_text.specs.reader.{rows_left, rows_of_line, start_state}
+use Rattle.fc_text.specs.reader.{is_begun, items_of_words, known_fault, Known, rows_after}
+use Rattle.fc_text.specs.reader.{rows_left, rows_of_line, nothing_known}
 
 -- ---- one list of items after another
 
@@ -27,21 +30,24 @@ or_assoc : {X : Type 0} (a b c : Option X) → option_or (option_or a b) c ≡ o
 or_assoc None b c = refl
 or_assoc (Some x) b c = refl
 
-pub fault-append : (game : Game) (known : ReadState) (xs ys : List Item)
+pub fault-append : (game : Game) (known : Known) (xs ys : List Item)
     → first_known_fault game known (xs ++ ys) ≡ option_or (first_known_fault game known xs) (first_known_fault game (after_items known xs) ys)
 fault-append game known [] ys = refl
 fault-append game known (item ∷ xs) ys =
-    ap (option_or (option_map (λ kind. record { place = item.place; kind = kind }) (known_part_fault game known item.section item.word))) (fault-append game (after_item known item) xs ys)
-    ∙ sym (or_assoc (option_map (λ kind. record { place = item.place; kind = kind }) (known_part_fault game known item.section item.word)) (first_known_fault game (after_item known item) xs)
-    (first_known_fault game (after_items (after_item known item) xs) ys))
+    let next = after_item known item in
+    rw (fault-append game next xs ys, or_assoc (known_fault game known item) (first_known_fault game next xs) (first_known_fault game (after_items next xs) ys))
 
 -- ---- the words of a line, from the front
+
+one_suc : (n : ℕ) → 1 + n ≡ suc n
+one_suc n = omega arith
 
 abbrev in_word_byte : ℕ → Bool
 in_word_byte byte = not (is_gap byte)
 
-pub word_after_gap : (place byte : ℕ) (rest : List ℕ) → is_gap byte ≡ true → words_from is_gap place (byte ∷ rest) ≡ words_from is_gap (place + 1) rest
-word_after_gap place byte rest e = ap (λ b. cond b (words_from is_gap (place + 1) rest) (in_word place byte (words_from is_gap (place + 1) rest))) e
+pub word_after_gap : (place byte : ℕ) (rest : List ℕ) → is_gap byte ≡ true
+    → words_from is_gap place (byte ∷ rest) ≡ words_from is_gap (place + 1) rest
+word_after_gap place byte rest e = rw e
 
 solid_front : (bytes : List ℕ) → All (λ byte. is_gap byte ≡ false) (take (prefix_len in_word_byte bytes) bytes)
 solid_front [] = All-nil (λ byte. is_gap byte ≡ false)
@@ -51,11 +57,7 @@ solid_front (byte ∷ rest) = by_gap (is_gap byte) refl (solid_front rest)
         → All (λ byte. is_gap byte ≡ false) (take (cond (not b) (1 + prefix_len in_word_byte rest) 0) (byte ∷ rest))
     by_gap true e are = All-nil (λ byte. is_gap byte ≡ false)
     by_gap false e are =
-        subst (λ n. All (λ byte. is_gap byte ≡ false) (take n (byte ∷ rest))) (suc_one (prefix_len in_word_byte rest))
-        (All-cons (λ byte. is_gap byte ≡ false) byte (take (prefix_len in_word_byte rest) rest) e are)
-      where
-        suc_one : (k : ℕ) → suc k ≡ 1 + k
-        suc_one k = omega arith
+        rw (one_suc (prefix_len in_word_byte rest)) (All-cons (λ byte. is_gap byte ≡ false) byte (take (prefix_len in_word_byte rest) rest) e are)
 
 gap_follows : (bytes : List ℕ) → EndsWord is_gap (drop (prefix_len in_word_byte bytes) bytes)
 gap_follows [] = tt
@@ -64,10 +66,7 @@ gap_follows (byte ∷ rest) = by_gap (is_gap byte) refl (gap_follows rest)
     by_gap : (b : Bool) → is_gap byte ≡ b → EndsWord is_gap (drop (prefix_len in_word_byte rest) rest)
         → EndsWord is_gap (drop (cond (not b) (1 + prefix_len in_word_byte rest) 0) (byte ∷ rest))
     by_gap true e ends = e
-    by_gap false e ends = subst (λ n. EndsWord is_gap (drop n (byte ∷ rest))) (suc_one (prefix_len in_word_byte rest)) ends
-      where
-        suc_one : (k : ℕ) → suc k ≡ 1 + k
-        suc_one k = omega arith
+    by_gap false e ends = rw (one_suc (prefix_len in_word_byte rest)) ends
 
 -- a word that begins with this byte ends before the next gap
 word_here : (place byte : ℕ) (rest : List ℕ) → is_gap byte ≡ false → (let k = prefix_len in_word_byte rest in
@@ -83,9 +82,10 @@ pub record WordAt (start : ℕ) (bytes : List ℕ) (at k : ℕ) : Type 0 where
   pub within : at + k ≤ length bytes
   pub words : words_from is_gap (start + at) (drop at bytes) ≡ record { start = start + at; bytes = take k (drop at bytes) } ∷ words_from is_gap (start + (at + k)) (drop (at + k) bytes)
 
-pub word_at : (start : ℕ) (bytes : List ℕ) (at : ℕ) → at < length bytes → is_gap (get_or bytes at 0) ≡ false → WordAt start bytes at (prefix_len in_word_byte (drop at bytes))
+pub word_at : (start : ℕ) (bytes : List ℕ) (at : ℕ) → at < length bytes → is_gap (get_or bytes at 0) ≡ false
+    → WordAt start bytes at (prefix_len in_word_byte (drop at bytes))
 word_at start bytes at inside e =
-    subst (WordAt start bytes at) (sym (ap (prefix_len in_word_byte) split ∙ ap (λ b. cond (not b) (1 + k) 0) e)) found
+    rw (split, e) found
   where
     byte : ℕ
     byte = get_or bytes at 0
@@ -106,10 +106,7 @@ word_at start bytes at inside e =
     long = length-drop (at + 1) bytes
 
     front : take (1 + k) (drop at bytes) ≡ byte ∷ take k rest
-    front = ap (take (1 + k)) split ∙ ap (λ n. take n (byte ∷ rest)) (one_suc k)
-      where
-        one_suc : (n : ℕ) → 1 + n ≡ suc n
-        one_suc n = omega arith
+    front = rw (split, one_suc k)
 
     follows : drop (at + (1 + k)) bytes ≡ drop k rest
     follows = ap (λ n. drop n bytes) (shuffle at k) ∙ sym (drop-drop k (at + 1) bytes)
@@ -127,11 +124,7 @@ word_at start bytes at inside e =
     found = record {
       some = omega arith;
       within = omega (arith, short, long, inside);
-      words = ap (words_from is_gap (start + at)) split ∙ word_here (start + at) byte rest e
-          ∙ ap (λ n. record { start = start + at; bytes = byte ∷ take k rest } ∷ words_from is_gap (start + at + n) (drop k rest)) size
-          ∙ ap (λ bytes. record { start = start + at; bytes = bytes } ∷ words_from is_gap (start + at + (1 + k)) (drop k rest)) (sym front)
-          ∙ ap (λ more. record { start = start + at; bytes = take (1 + k) (drop at bytes) } ∷ words_from is_gap (start + at + (1 + k)) more) (sym follows)
-          ∙ ap (λ p. record { start = start + at; bytes = take (1 + k) (drop at bytes) } ∷ words_from is_gap p (drop (at + (1 + k)) bytes)) (omega arith);
+      words = let place : start + (at + (1 + k)) ≡ start + at + (1 + k) = omega arith in rw (front, follows, split, word_here (start + at) byte rest e, size, place);
     }
 
 -- ---- rows, line by line, by what is known
@@ -139,19 +132,20 @@ word_at start bytes at inside e =
 pub ltb_tells : (a b : ℕ) → ((ltb a b ≡ true) × (a < b)) ⊎ ((ltb a b ≡ false) × (b ≤ a))
 ltb_tells a b = again (leb_tells (suc a) b)
   where
-    again : ((leb (suc a) b ≡ true) × (suc a ≤ b)) ⊎ ((leb (suc a) b ≡ false) × (b < suc a)) → ((ltb a b ≡ true) × (a < b)) ⊎ ((ltb a b ≡ false) × (b ≤ a))
+    again : ((leb (suc a) b ≡ true) × (suc a ≤ b)) ⊎ ((leb (suc a) b ≡ false) × (b < suc a))
+        → ((ltb a b ≡ true) × (a < b)) ⊎ ((ltb a b ≡ false) × (b ≤ a))
     again (inl (test, h)) = inl (test, omega arith)
     again (inr (test, h)) = inr (test, omega arith)
 
-pub rows_at_first : (text : List ℕ) → rows_of text ≡ rows_left start_state (map line_of (lines_from 0 text))
+pub rows_at_first : (text : List ℕ) → rows_of text ≡ rows_left nothing_known (map line_of (lines_from 0 text))
 rows_at_first text = refl
 
 -- words change neither what was begun nor how many columns there are
-pub record SameLines (old new : ReadState) : Type 0 where
+pub record SameLines (old new : Known) : Type 0 where
   pub begun : is_begun new ≡ is_begun old
   pub columns : length new.columns ≡ length old.columns
 
-SameLines-word : (known : ReadState) (section : RowKind) (word : List ℕ) → SameLines known (after_part known section (Some word))
+SameLines-word : (known : Known) (section : Section) (word : List ℕ) → SameLines known (after_part known section (Some word))
 SameLines-word known Foundations word = record { begun = refl; columns = refl }
 SameLines-word known Freecells word = record { begun = refl; columns = refl }
 SameLines-word known Column word = record {
@@ -159,7 +153,7 @@ SameLines-word known Column word = record {
   columns = length-with_card known.columns (card_spelled word);
 }
 
-SameLines-words : (known : ReadState) (section : RowKind) (words : List Piece) → SameLines known (after_items known (items_of_words section words))
+SameLines-words : (known : Known) (section : Section) (words : List Piece) → SameLines known (after_items known (items_of_words section words))
 SameLines-words known section [] = record { begun = refl; columns = refl }
 SameLines-words known section (word ∷ words) =
     let first = SameLines-word known section word.bytes in
@@ -167,7 +161,7 @@ SameLines-words known section (word ∷ words) =
     record { begun = rest.begun ∙ first.begun; columns = rest.columns ∙ first.columns }
 
 -- a row begins, and takes a place if it is a column's
-begun_after : (known : ReadState) (section : RowKind) → is_begun (after_part known section None) ≡ true
+begun_after : (known : Known) (section : Section) → is_begun (after_part known section None) ≡ true
 begun_after known Foundations = refl
 begun_after known Freecells = any known.foundations_line (ltb 0 (length known.columns))
   where
@@ -181,7 +175,8 @@ begun_after known Column = by_length known.foundations_line known.cells_line (le
     by_length false true n e = refl
     by_length false false n e = grind (arith, nat_tests)
 
-places_after_line : (known : ReadState) (section : RowKind) → columns_left section (8 - length known.columns) ≡ 8 - length (after_part known section None).columns
+places_after_line : (known : Known) (section : Section)
+    → columns_left section (8 - length known.columns) ≡ 8 - length (after_part known section None).columns
 places_after_line known Foundations = refl
 places_after_line known Freecells = refl
 places_after_line known Column =
@@ -190,19 +185,21 @@ places_after_line known Column =
     one_less : (n : ℕ) → 8 - n - 1 ≡ 8 - (n + 1)
     one_less n = omega arith
 
-rows_begun : (known : ReadState) (lines : List Line) → is_begun known ≡ true → rows_left known lines ≡ rows_within (8 - length known.columns) lines
-rows_begun known lines e = ap (λ b. rows_after b (8 - length known.columns) lines) e
+rows_begun : (known : Known) (lines : List Line) → is_begun known ≡ true → rows_left known lines ≡ rows_within (8 - length known.columns) lines
+rows_begun known lines e = rw e
 
-pub held_first : (left : ℕ) (row : Row) (lines : List Line) → rows_within left (Content row ∷ lines) ≡ row ∷ rows_within (columns_left row.section left) lines
+pub held_first : (left : ℕ) (row : Row) (lines : List Line)
+    → rows_within left (Content row ∷ lines) ≡ row ∷ rows_within (columns_left row.section left) lines
 held_first zero row lines = refl
 held_first (suc left) row lines = refl
 
-rows_held : (begun : Bool) (left : ℕ) (row : Row) (lines : List Line) → rows_after begun left (Content row ∷ lines) ≡ row ∷ rows_within (columns_left row.section left) lines
+rows_held : (begun : Bool) (left : ℕ) (row : Row) (lines : List Line)
+    → rows_after begun left (Content row ∷ lines) ≡ row ∷ rows_within (columns_left row.section left) lines
 rows_held true left row lines = held_first left row lines
 rows_held false left row lines = held_first left row lines
 
 -- the rows of a line and of what follows it
-pub rows_first : (known : ReadState) (line : Line) (lines : List Line) → (let rows = rows_of_line (is_begun known) (has_room known) line in
+pub rows_first : (known : Known) (line : Line) (lines : List Line) → (let rows = rows_of_line (is_begun known) (has_room known) line in
     rows_left known (line ∷ lines) ≡ rows ++ rows_left (after_items known (flat_map items_of_row rows)) lines)
 rows_first known Comment lines = by_begun (is_begun known)
   where
@@ -212,43 +209,35 @@ rows_first known Comment lines = by_begun (is_begun known)
         comment_first : (left : ℕ) → rows_within left (Comment ∷ lines) ≡ rows_within left lines
         comment_first zero = refl
         comment_first (suc left) = refl
-    by_begun false = ap (rows_within (8 - length known.columns)) (skipped (prefix_len is_empty lines))
-      where
-        skipped : (n : ℕ) → drop (1 + n) (Comment ∷ lines) ≡ drop n lines
-        skipped n = ap (λ m. drop m (Comment ∷ lines)) (one_suc n)
-          where
-            one_suc : (n : ℕ) → 1 + n ≡ suc n
-            one_suc n = omega arith
+    by_begun false = rw (one_suc (prefix_len is_empty lines))
 rows_first known (Content row) lines =
     rows_held (is_begun known) (8 - length known.columns) row lines
     ∙ ap (λ rest. row ∷ rest) (sym later)
   where
-    words : SameLines (after_part known row.section None) (after_items (after_part known row.section None) (items_of_words row.section row.words))
-    words = SameLines-words (after_part known row.section None) row.section row.words
+    line : Known
+    line = after_part known row.section None
 
-    taken : after_items known (items_of_row row ++ []) ≡ after_items (after_part known row.section None) (items_of_words row.section row.words)
-    taken = ap (after_items known) (append-nil (items_of_row row))
+    held : Known
+    held = after_items line (items_of_words row.section row.words)
+
+    words : SameLines line held
+    words = SameLines-words line row.section row.words
 
     later : rows_left (after_items known (items_of_row row ++ [])) lines ≡ rows_within (columns_left row.section (8 - length known.columns)) lines
     later =
-        ap (λ known. rows_left known lines) taken
-        ∙ rows_begun (after_items (after_part known row.section None) (items_of_words row.section row.words)) lines (words.begun ∙ begun_after known row.section)
-        ∙ ap (λ n. rows_within (8 - n) lines) words.columns
-        ∙ ap (λ left. rows_within left lines) (sym (places_after_line known row.section))
+        let begun = words.begun ∙ begun_after known row.section in
+        rw (append-nil (items_of_row row), rows_begun held lines begun, words.columns, places_after_line known row.section)
 rows_first known (Blank start) lines = by_begun (is_begun known) refl (has_room known) refl
   where
     by_begun : (b : Bool) → is_begun known ≡ b → (p : Bool) → has_room known ≡ p
         → rows_after b (8 - length known.columns) (Blank start ∷ lines)
         ≡ cond (b && p) (column_row start [] ∷ []) [] ++ rows_left (after_items known (flat_map items_of_row (cond (b && p) (column_row start [] ∷ []) []))) lines
-    by_begun true begun true place = blank_column (8 - length known.columns) (8 - length (known.columns ++ [] ∷ [])) (one_less (ltb_tells (length known.columns) 8)) ∙ ap (λ rest. column_row start [] ∷ rest) (sym later)
+    by_begun true begun true place = rw (one_less (ltb_tells (length known.columns) 8), later)
       where
         one_less : (((ltb (length known.columns) 8) ≡ true) × (length known.columns < 8)) ⊎ ((ltb (length known.columns) 8 ≡ false) × (8 ≤ length known.columns))
             → 8 - length known.columns ≡ suc (8 - length (known.columns ++ [] ∷ []))
         one_less (inl (test, small)) = omega (arith, length-append known.columns ([] ∷ []))
         one_less (inr (test, high)) = absurd (both_ways (has_room known) test place)
-
-        blank_column : (left next : ℕ) → left ≡ suc next → rows_within left (Blank start ∷ lines) ≡ column_row start [] ∷ rows_within next lines
-        blank_column left next e = ap (λ n. rows_within n (Blank start ∷ lines)) e
 
         later : rows_left (after_part known Column None) lines ≡ rows_within (8 - length (known.columns ++ [] ∷ [])) lines
         later = rows_begun (after_part known Column None) lines (begun_after known Column)
@@ -262,11 +251,4 @@ rows_first known (Blank start) lines = by_begun (is_begun known) refl (has_room 
         blank_skipped : (left : ℕ) → left ≡ 0 → rows_within left (Blank start ∷ lines) ≡ rows_within left lines
         blank_skipped zero e = refl
         blank_skipped (suc left) e = absurd (omega arith)
-    by_begun false begun p place =
-        ap (rows_within (8 - length known.columns)) (skipped (prefix_len is_empty lines)) ∙ ap (λ b. rows_after b (8 - length known.columns) lines) (sym begun)
-      where
-        skipped : (n : ℕ) → drop (1 + n) (Blank start ∷ lines) ≡ drop n lines
-        skipped n = ap (λ m. drop m (Blank start ∷ lines)) (one_suc n)
-          where
-            one_suc : (n : ℕ) → 1 + n ≡ suc n
-            one_suc n = omega arith
+    by_begun false begun p place = rw (one_suc (prefix_len is_empty lines), begun)

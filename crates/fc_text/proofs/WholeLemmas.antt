@@ -13,32 +13,36 @@ use Rattle.std.specs.List.{cons_option, flat_map, list_any, position_or_len, ran
 use Rattle.std.specs.List.{slice_get}
 use Rattle.std.specs.Option.{option_map, option_or, option_to_list}
 use Rattle.fc_card.specs.{IsLowest, NoCard, suit_of}
-use Rattle.fc_parts.proofs.BoardLemmas.{parts_same}
-use Rattle.fc_parts.specs.{Board, count_of, count_of_places, Game, HasEachCardOnce}
-use Rattle.fc_print.specs.{Column, Foundations, Freecells, line_of, lines_from, Piece, Row, RowKind}
-use Rattle.fc_print.specs.{rows_of}
+use Rattle.fc_board.proofs.BoardLemmas.{parts_same}
+use Rattle.fc_card.specs.{count_of}
+use Rattle.fc_board.specs.{Boards.{Board, count_of_places, HasEachCardOnce}, Games.{Game}}
+use Rattle.fc_text.specs.Faults.{cards_of_item, first_fault, Item, items_of, items_of_row}
+use Rattle.fc_text.specs.{Faults.{lowest_missing, missing_card}, Lines.{lines_from, Piece}}
+use Rattle.fc_text.specs.Rows.{line_of, Row, rows_of}
+use Rattle.fc_text.specs.Spelling.{all_spelled, board_of, card_spelled, cell_spelled}
+use Rattle.fc_text.specs.declared.board.reader.Section.{Section}
+use Rattle.fc_text.specs.declared.board.reader.Section.TheVariants.{Column, Foundations, Freecells}
+use Rattle.fc_text.specs.declared.board.spelling.Foundation.{Foundation}
+use Rattle.fc_text.specs.Spelling.{foundation_spelled, height_in, heights_of, is_section, lines_of}
+use Rattle.fc_text.specs.Spelling.{padded_with, Spells, words_of}
 use Rattle.fc_text.proofs.KeptLemmas.{add-append}
-use Rattle.fc_text.proofs.ReadStateLemmas.{cells_known, cells_of_word, columns_from, columns_known}
-use Rattle.fc_text.proofs.ReadStateLemmas.{foundations_of_word, heights_known, length-heights}
-use Rattle.fc_text.proofs.ReadStateLemmas.{same_first_fault, seen_known}
+use Rattle.fc_text.proofs.KnownLemmas.{cells_known, cells_of_word, columns_from, columns_known}
+use Rattle.fc_text.proofs.KnownLemmas.{foundations_of_word, heights_known, length-heights}
+use Rattle.fc_text.proofs.KnownLemmas.{same_first_fault, seen_known}
 use Rattle.fc_text.proofs.ReadingLemmas.{all_present, count_of_board, Spells-from_faultless}
 use Rattle.fc_text.proofs.ReadingLemmas.{suits_once}
 use Rattle.fc_text.proofs.RowLemmas.{words_of-cons}
 use Rattle.fc_text.proofs.SoundLemmas.{present, Sound, Sound-from_faultless, Sound-nil}
 use Rattle.fc_text.proofs.SpelledLemmas.{line_cards}
-use Rattle.fc_text.specs.{all_spelled, board_of, card_spelled, cards_of_item, cell_spelled}
-use Rattle.fc_text.specs.{first_fault, Foundation, foundation_spelled, height_in, heights_of}
-use Rattle.fc_text.specs.{is_section, Item, items_of, items_of_row, lines_of, lowest_missing}
-use Rattle.fc_text.specs.{missing_card, padded_with, Spells, words_of}
 use Rattle.fc_text.specs.reader.{after_items, board_known, first_known_fault, is_seen, items_left}
-use Rattle.fc_text.specs.reader.{items_of_words, known_height, ReadState, start_state, with_card}
+use Rattle.fc_text.specs.reader.{items_of_words, known_height, Known, nothing_known, with_card}
 use Rattle.fc_text.specs.declared.fault.BoardFault.{BoardFault}
 use Rattle.fc_text.specs.declared.fault.BoardFaultKind.TheVariants.{MissingCard}
 
 -- ---- the foundations and the cells that the items name are those that the words of their lines spell
 
-module _ {X : Type 0} (ensured : RowKind → List ℕ → List X) (section : RowKind) (spelled : List ℕ → Option X)
-    (of_section : (held : RowKind) (word : List ℕ) → ensured held word ≡ cond (is_section section held) (option_to_list (spelled word)) []) where
+module _ {X : Type 0} (ensured : Section → List ℕ → List X) (section : Section) (spelled : List ℕ → Option X)
+    (of_section : (held : Section) (word : List ℕ) → ensured held word ≡ cond (is_section section held) (option_to_list (spelled word)) []) where
   abbrev kept_of : List Item → List X
   kept_of items = flat_map (λ item. flat_map (ensured item.section) (option_to_list item.word)) items
 
@@ -46,7 +50,7 @@ module _ {X : Type 0} (ensured : RowKind → List ℕ → List X) (section : Row
   one_more None items = refl
   one_more (Some x) items = refl
 
-  row_kept : (held : RowKind) (b : Bool) → is_section section held ≡ b → (words : List Piece)
+  row_kept : (held : Section) (b : Bool) → is_section section held ≡ b → (words : List Piece)
       → kept_of (items_of_words held words) ≡ all_spelled spelled (cond b words [])
   row_kept held true e [] = refl
   row_kept held false e [] = refl
@@ -67,12 +71,12 @@ module _ {X : Type 0} (ensured : RowKind → List ℕ → List X) (section : Row
       ∙ sym (filter_map-append (λ word. spelled word.bytes) (cond (is_section section row.section) row.words []) (words_of section rows))
       ∙ ap (all_spelled spelled) (sym (words_of-cons section row rows))
 
-foundations_kept : (held : RowKind) (word : List ℕ) → foundations_of_word held word ≡ cond (is_section Foundations held) (option_to_list (foundation_spelled word)) []
+foundations_kept : (held : Section) (word : List ℕ) → foundations_of_word held word ≡ cond (is_section Foundations held) (option_to_list (foundation_spelled word)) []
 foundations_kept Foundations word = refl
 foundations_kept Freecells word = refl
 foundations_kept Column word = refl
 
-cells_kept : (held : RowKind) (word : List ℕ) → cells_of_word held word ≡ cond (is_section Freecells held) (option_to_list (cell_spelled word)) []
+cells_kept : (held : Section) (word : List ℕ) → cells_of_word held word ≡ cond (is_section Freecells held) (option_to_list (cell_spelled word)) []
 cells_kept Foundations word = refl
 cells_kept Freecells word = refl
 cells_kept Column word = refl
@@ -105,7 +109,7 @@ columns_kept : (columns : List (List ℕ)) (rows : List Row) → columns_from co
 columns_kept columns [] = sym (append-nil columns)
 columns_kept columns (row ∷ rows) = by_section row.section row.start row.words (λ columns. columns_kept columns rows)
   where
-    by_section : (section : RowKind) (start : ℕ) (words : List Piece)
+    by_section : (section : Section) (start : ℕ) (words : List Piece)
         → ((columns : List (List ℕ)) → columns_from columns (flat_map items_of_row rows) ≡ columns ++ map line_cards (lines_of Column rows))
         → (let row : Row = record { section = section; start = start; words = words } in
         columns_from columns (items_of_row row ++ flat_map items_of_row rows) ≡ columns ++ map line_cards (lines_of Column (row ∷ rows)))
@@ -133,38 +137,38 @@ heights_kept foundations (a ∷ b ∷ c ∷ d ∷ e ∷ rest) four height = absu
 
 -- ---- the board
 
-sound_items : (game : Game) (text : List ℕ) → first_known_fault game start_state (items_of text) ≡ None → Sound game (items_of text)
+sound_items : (game : Game) (text : List ℕ) → first_known_fault game nothing_known (items_of text) ≡ None → Sound game (items_of text)
 sound_items game text none = Sound-from_faultless game [] (items_of text) (Sound-nil game) (sym (same_first_fault game [] (items_of text) (Sound-nil game)) ∙ none)
 
-pub known_board : (game : Game) (text : List ℕ) → first_known_fault game start_state (items_of text) ≡ None
-    → board_known game (after_items start_state (items_of text)) ≡ board_of game text
+pub known_board : (game : Game) (text : List ℕ) → first_known_fault game nothing_known (items_of text) ≡ None
+    → board_known game (after_items nothing_known (items_of text)) ≡ board_of game text
 known_board game text none =
     parts_same (board_known game known) (board_of game text)
-    (heights_kept (all_spelled foundation_spelled (words_of Foundations rows)) known.heights (length-heights start_state (items_of text))
+    (heights_kept (all_spelled foundation_spelled (words_of Foundations rows)) known.heights (length-heights nothing_known (items_of text))
     (λ suit small. heights_known game (items_of text) (sound_items game text none) suit small
     ∙ ap (λ foundations. height_in foundations suit) (spelled_kept foundations_of_word Foundations foundation_spelled foundations_kept rows)))
-    (ap (padded_with game.cells None) (cells_known start_state (items_of text) ∙ spelled_kept cells_of_word Freecells cell_spelled cells_kept rows))
-    (ap (padded_with 8 []) (columns_known start_state (items_of text) ∙ columns_kept [] rows))
+    (ap (padded_with game.cells None) (cells_known nothing_known (items_of text) ∙ spelled_kept cells_of_word Freecells cell_spelled cells_kept rows))
+    (ap (padded_with 8 []) (columns_known nothing_known (items_of text) ∙ columns_kept [] rows))
   where
     rows : List Row
     rows = rows_of text
 
-    known : ReadState
-    known = after_items start_state (items_of text)
+    known : Known
+    known = after_items nothing_known (items_of text)
 
 -- ---- the deck
 
 -- in how many places of the board a card is
-places : (game : Game) (text : List ℕ) → first_known_fault game start_state (items_of text) ≡ None → (card : ℕ)
+places : (game : Game) (text : List ℕ) → first_known_fault game nothing_known (items_of text) ≡ None → (card : ℕ)
     → count_of_places (board_of game text) card ≡ count_of card (flat_map cards_of_item (items_of text))
 places game text none card = count_of_board game text card (suits_once game text (sound_items game text none) (suit_of card))
 
 -- the first fault is what the deck misses
-last_fault : (game : Game) (text : List ℕ) → first_known_fault game start_state (items_of text) ≡ None → first_fault game text ≡ missing_card text
+last_fault : (game : Game) (text : List ℕ) → first_known_fault game nothing_known (items_of text) ≡ None → first_fault game text ≡ missing_card text
 last_fault game text none =
     ap (λ o. option_or o (missing_card text)) (sym (same_first_fault game [] (items_of text) (Sound-nil game)) ∙ none)
 
-pub read_whole : (game : Game) (text : List ℕ) → first_known_fault game start_state (items_of text) ≡ None
+pub read_whole : (game : Game) (text : List ℕ) → first_known_fault game nothing_known (items_of text) ≡ None
     → HasEachCardOnce (board_of game text) → Spells game text (board_of game text)
 read_whole game text none once =
     Spells-from_faultless game text
@@ -204,7 +208,7 @@ lowest_is cards seen card ensured is =
 
 -- ---- what the reader says, from where nothing was known
 
-pub read_to_fault : (game : Game) (text : List ℕ) (first : ReadState) (fault : BoardFault) → first ≡ start_state
+pub read_to_fault : (game : Game) (text : List ℕ) (first : Known) (fault : BoardFault) → first ≡ nothing_known
     → first_known_fault game first (items_left first (map line_of (lines_from 0 text))) ≡ Some fault → first_fault game text ≡ Some fault
 read_to_fault game text first fault start found =
     ap (λ o. option_or o (missing_card text))
@@ -212,13 +216,13 @@ read_to_fault game text first fault start found =
     ∙ subst (λ first. first_known_fault game first (items_left first (map line_of (lines_from 0 text))) ≡ Some fault) start found)
 
 -- the text is read to its end with this knowledge
-pub record ReadWhole (game : Game) (text : List ℕ) (first known : ReadState) : Type 0 where
-  pub start : first ≡ start_state
+pub record ReadWhole (game : Game) (text : List ℕ) (first known : Known) : Type 0 where
+  pub start : first ≡ nothing_known
   pub faultless : first_known_fault game first (items_left first (map line_of (lines_from 0 text))) ≡ None
   pub all : known ≡ after_items first (items_left first (map line_of (lines_from 0 text)))
 
-module _ (game : Game) (text : List ℕ) (first known : ReadState) (read : ReadWhole game text first known) where
-  no_fault : first_known_fault game start_state (items_of text) ≡ None
+module _ (game : Game) (text : List ℕ) (first known : Known) (read : ReadWhole game text first known) where
+  no_fault : first_known_fault game nothing_known (items_of text) ≡ None
   no_fault = subst (λ first. first_known_fault game first (items_left first (map line_of (lines_from 0 text))) ≡ None) read.start read.faultless
 
   board_is : board_known game known ≡ board_of game text

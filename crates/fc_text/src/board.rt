@@ -2,25 +2,26 @@
 ghost use Rattle.std.specs.{List.{list_any, position_or_len}, Prelude.{◌+◌, ◌==◌, ◌^◌, ◌∷◌, ◌≡◌}};
 ghost use Rattle.std.specs.Prelude.{◌≤◌, [], IfErr, IfOk, IfSome, length, map, None, Some, ℕ};
 ghost use Rattle.std.specs.Str.{str_eq_ignore_ascii_case};
-ghost use Rattle.fc_print.specs.{Blank, cells_names, Column, heights_names, is_colon, is_gap};
-ghost use Rattle.fc_print.specs.{line_of, lines_from, piece_of, row_of, words_from};
-ghost use Rattle.fc_text.specs.{first_fault, items_of_row, reader.{AfterBlank, begins_head}};
-ghost use Rattle.fc_text.specs.reader.{BeginsWithCard, IsHead, items_left, items_of_line};
-ghost use Rattle.fc_text.specs.reader.{items_of_words, LeavesWords, section_of, TakesItems};
-ghost use Rattle.fc_text.specs.{Spells};
+ghost use Rattle.fc_text.specs.{Bytes.{is_gap}, Faults.{first_fault, items_of_row}};
+ghost use Rattle.fc_text.specs.{Lines.{lines_from, piece_of, words_from}, reader.{AfterBlank}};
+ghost use Rattle.fc_text.specs.reader.{begins_head, BeginsWithCard, IsHead, items_left};
+ghost use Rattle.fc_text.specs.reader.{items_of_line, items_of_words, LeavesWords, TakesItems};
+ghost use Rattle.fc_text.specs.Rows.{Blank, cells_names, heights_names, is_colon, line_of, row_of};
+ghost use Rattle.fc_text.specs.Spelling.{Spells};
+ghost use Rattle.fc_text.specs.declared.board.reader.Section.TheVariants.{Column};
 
-use crate::{BoardFault, BoardFaultKind};
+use crate::{
+    BoardFault, BoardFaultKind, Line, Lines, gap_len, is_gap, read_printed, strip_prefix,
+    trim_carriage_return, word_len,
+};
 use fc_board::{Board, Rule};
 use fc_card::Card;
-use fc_print::{
-    Line, Lines, gap_len, is_gap, read_printed, strip_prefix, trim_carriage_return, word_len,
-};
 use memchr::memchr;
 
 mod reader;
 mod spelling;
 
-use reader::{Reader, RowKind};
+use reader::{Reader, Section};
 pub use spelling::card_spelled;
 use spelling::spelled_card;
 
@@ -88,7 +89,7 @@ fn read_blank<R: Rule>(reader: &mut Reader<R>, start: usize) -> Result<(), Board
         (items_of_line reader.old (Blank start)) reader.new result }
 {
     if reader.is_begun() && reader.has_room() {
-        read_start(reader, RowKind::Column, start)
+        read_start(reader, Section::Column, start)
     } else {
         Ok(())
     }
@@ -107,12 +108,12 @@ fn read_row<R: Rule>(reader: &mut Reader<R>, start: usize, bytes: &[u8]) -> Resu
 
 /// Takes the words at the front of a line that are cards of a column as most texts have them, and
 /// returns what is left of the line.
-fn read_front<'a, R: Rule>(reader: &mut Reader<R>, section: RowKind, words: &'a [u8]) -> &'a [u8]
-    ensures { LeavesWords R.game (section_of section) reader.old words.now reader.new result.now }
+fn read_front<'a, R: Rule>(reader: &mut Reader<R>, section: Section, words: &'a [u8]) -> &'a [u8]
+    ensures { LeavesWords R.game section reader.old words.now reader.new result.now }
 {
     match section {
-        RowKind::Column => read_cards(reader, words),
-        RowKind::Foundations | RowKind::Freecells => words,
+        Section::Column => read_cards(reader, words),
+        Section::Foundations | Section::Freecells => words,
     }
 }
 
@@ -175,50 +176,50 @@ fn after_blank<'a>(bytes: &'a [u8]) -> Option<&'a [u8]>
 }
 
 /// What a line holds, and how many bytes come before its words: a name and its colon, or a colon.
-fn row_head(bytes: &[u8]) -> (RowKind, usize)
-    ensures row { (start : ℕ) → IsHead start bytes.now (section_of result.0) result.1 }
+fn row_head(bytes: &[u8]) -> (Section, usize)
+    ensures row { (start : ℕ) → IsHead start bytes.now result.0 result.1 }
     ensures within { result.1 ≤ length bytes.now }
 {
     match bytes {
-        [b':', b' ', ..] => (RowKind::Column, 2),
-        [first, ..] if !begins_head(*first) => (RowKind::Column, 0),
+        [b':', b' ', ..] => (Section::Column, 2),
+        [first, ..] if !begins_head(*first) => (Section::Column, 0),
         _ => head_by_name(bytes),
     }
 }
 
 /// The same of a line with a name, which most texts spell in these letters.
-fn head_by_name(bytes: &[u8]) -> (RowKind, usize)
-    ensures row { (start : ℕ) → IsHead start bytes.now (section_of result.0) result.1 }
+fn head_by_name(bytes: &[u8]) -> (Section, usize)
+    ensures row { (start : ℕ) → IsHead start bytes.now result.0 result.1 }
     ensures within { result.1 ≤ length bytes.now }
 {
     let mut heights = bytes;
     let mut cells = bytes;
     if strip_prefix(&mut heights, b"Foundations:").is_some() {
-        (RowKind::Foundations, 12)
+        (Section::Foundations, 12)
     } else if strip_prefix(&mut cells, b"Freecells:").is_some() {
-        (RowKind::Freecells, 10)
+        (Section::Freecells, 10)
     } else {
         head_before_words(bytes)
     }
 }
 
 /// The same of any line, by what comes before its first colon.
-fn head_before_words(bytes: &[u8]) -> (RowKind, usize)
-    ensures row { (start : ℕ) → IsHead start bytes.now (section_of result.0) result.1 }
+fn head_before_words(bytes: &[u8]) -> (Section, usize)
+    ensures row { (start : ℕ) → IsHead start bytes.now result.0 result.1 }
     ensures within { result.1 ≤ length bytes.now }
 {
     let colon = colon_place(bytes);
     let name = &bytes[..colon];
     if colon == bytes.len() {
-        (RowKind::Column, 0)
+        (Section::Column, 0)
     } else if is_heights_name(name) {
-        (RowKind::Foundations, colon + 1)
+        (Section::Foundations, colon + 1)
     } else if is_cells_name(name) {
-        (RowKind::Freecells, colon + 1)
+        (Section::Freecells, colon + 1)
     } else if colon == 0 {
-        (RowKind::Column, 1)
+        (Section::Column, 1)
     } else {
-        (RowKind::Column, 0)
+        (Section::Column, 0)
     }
 }
 
@@ -250,13 +251,13 @@ fn is_cells_name(name: &[u8]) -> bool
 
 fn read_words<R: Rule>(
     reader: &mut Reader<R>,
-    section: RowKind,
+    section: Section,
     start: usize,
     bytes: &[u8],
 ) -> Result<(), BoardFault>
     requires { start + length bytes.now ≤ 2 ^ 63 }
     ensures { TakesItems R.game reader.old
-        (items_of_words (section_of section) (words_from is_gap start bytes.now))
+        (items_of_words section (words_from is_gap start bytes.now))
         reader.new result }
 {
     let mut at = 0;
@@ -274,11 +275,11 @@ fn read_words<R: Rule>(
 
 fn read_start<R: Rule>(
     reader: &mut Reader<R>,
-    section: RowKind,
+    section: Section,
     start: usize,
 ) -> Result<(), BoardFault>
     ensures { TakesItems R.game reader.old
-        (record { section = section_of section; place = start; word = None } ∷ [])
+        (record { section = section; place = start; word = None } ∷ [])
         reader.new result }
 {
     match reader.take_line(section) {
@@ -289,12 +290,12 @@ fn read_start<R: Rule>(
 
 fn read_word<R: Rule>(
     reader: &mut Reader<R>,
-    section: RowKind,
+    section: Section,
     start: usize,
     word: &[u8],
 ) -> Result<(), BoardFault>
     ensures { TakesItems R.game reader.old
-        (record { section = section_of section; place = start; word = Some word.now } ∷ [])
+        (record { section = section; place = start; word = Some word.now } ∷ [])
         reader.new result }
 {
     match reader.take_word(section, word) {

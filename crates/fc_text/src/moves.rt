@@ -1,16 +1,16 @@
 //! Moves in standard FreeCell notation, of one card and of several.
 ghost use Rattle.std.specs.Prelude.{◌++◌, ◌<◌, ◌∷◌, ◌≡◌, [], All, Err, IfOk, IfSome, IsOk, IsOkAnd};
 ghost use Rattle.std.specs.Prelude.{List, None, OnOk, ℕ};
-ghost use Rattle.fc_parts.specs.{eight_off, Fits, Game, OneCard, RunFits, Runs};
-ghost use Rattle.fc_print.specs.{BadTokenAt, blank, IsRunToken, IsToken, Listed, print};
-ghost use Rattle.fc_print.specs.{reader.{IsInOnePiece, move_named, run_named}, run_token};
-ghost use Rattle.fc_print.specs.{separates_tokens, source_character, target_character, token};
-ghost use Rattle.fc_print.specs.{TooManyAt, words_from};
+ghost use Rattle.fc_board.specs.{Games.{eight_off, Game}, Moves.{Fits, OneCard, RunFits, Runs}};
+ghost use Rattle.fc_text.specs.{Bytes.{blank}, Lines.{words_from}, Notation.{BadTokenAt}};
+ghost use Rattle.fc_text.specs.Notation.{IsRunToken, IsToken, Listed, print, run_token};
+ghost use Rattle.fc_text.specs.Notation.{separates_tokens, source_character, target_character};
+ghost use Rattle.fc_text.specs.Notation.{token, TooManyAt};
+ghost use Rattle.fc_text.specs.reader.{IsInOnePiece, move_named, run_named};
 ghost use Rattle.fc_text.specs.declared.fault.MovesFault.TheVariants.{BadToken, TooMany};
 
-use crate::MovesFault;
+use crate::{MovesFault, move_named, run_named};
 use fc_board::{Move, Rule, RunMove};
-use fc_print::{move_named, run_named};
 use std::alloc::{AllocError, Global};
 
 mod read;

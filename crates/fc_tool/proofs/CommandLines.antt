@@ -15,19 +15,18 @@ use Rattle.clap.specs.declared.error.kind.ErrorKind.TheVariants.{DisplayHelpOnMi
 use Rattle.clap.specs.declared.error.kind.ErrorKind.TheVariants.{InvalidValue}
 use Rattle.clap.specs.declared.error.kind.ErrorKind.TheVariants.{MissingRequiredArgument}
 use Rattle.clap.specs.declared.error.kind.ErrorKind.TheVariants.{UnknownArgument, ValueValidation}
-use Rattle.fc_parts.specs.declared.rule.Variant.{Variant}
-use Rattle.fc_parts.specs.declared.rule.Variant.TheVariants.{BakersGame, EightOff, FreeCell}
-use Rattle.fc_run.specs.{largest}
+use Rattle.fc_board.specs.declared.rule.Variant.{Variant}
+use Rattle.fc_board.specs.declared.rule.Variant.TheVariants.{BakersGame, EightOff, FreeCell}
+use Rattle.fc_collect.specs.Limits.{largest}
 use Rattle.fc_collect.specs.declared.commands.Format.TheVariants.{Header, Json}
-use Rattle.fc_collect.specs.declared.commands.RunKind.TheVariants.{Canon, Check, Count, Expand}
-use Rattle.fc_collect.specs.declared.commands.RunKind.TheVariants.{Group, Same, Share, Show}
-use Rattle.fc_collect.specs.declared.commands.RunKind.TheVariants.{Symmetries, Table, Unique}
 use Rattle.fc_import.specs.declared.layout.LinesAre.{LinesAre, TheVariants.{Columns, Rows}}
 use Rattle.fc_tool.specs.{command_of, deal_request, dealt_names, limits_from, plain_options}
 use Rattle.fc_tool.specs.{plain_request, program, reading_request, request_of, TakesAlone, variant_names}
 use Rattle.fc_tool.specs.declared.request.Request.{Request}
 use Rattle.fc_tool.specs.declared.request.Task.{Task}
-use Rattle.fc_tool.specs.declared.request.Task.TheVariants.{Deal, Import, Run}
+use Rattle.fc_tool.specs.declared.request.Task.TheVariants.{Canon, Check, Count, Deal, Expand, Group}
+use Rattle.fc_tool.specs.declared.request.Task.TheVariants.{Import, Same, Share, Show, Symmetries}
+use Rattle.fc_tool.specs.declared.request.Task.TheVariants.{Table, Unique}
 
 -- the request of the command that the words name
 abbrev pub asked_by : ValueParser → ValueParser → List Text → Option Request
@@ -47,56 +46,56 @@ variant_name EightOff = codes "eight_off"
 pub by_default : (task : Task) → task ≢ Deal → (choices dealt : ValueParser) (called : Text)
     → asked_by choices dealt (called ∷ command_of task ∷ []) ≡ Some (plain_request task FreeCell)
 unfolding clap_on_literals
-by_default (Run Show) reads choices dealt called = refl
-by_default (Run Canon) reads choices dealt called = refl
-by_default (Run Check) reads choices dealt called = refl
-by_default (Run Group) reads choices dealt called = refl
-by_default (Run Share) reads choices dealt called = refl
-by_default (Run Expand) reads choices dealt called = refl
-by_default (Run Unique) reads choices dealt called = refl
-by_default (Run Table) reads choices dealt called = refl
-by_default (Run Count) reads choices dealt called = refl
-by_default (Run Symmetries) reads choices dealt called = refl
-by_default (Run Same) reads choices dealt called = refl
+by_default Show reads choices dealt called = refl
+by_default Canon reads choices dealt called = refl
+by_default Check reads choices dealt called = refl
+by_default Group reads choices dealt called = refl
+by_default Share reads choices dealt called = refl
+by_default Expand reads choices dealt called = refl
+by_default Unique reads choices dealt called = refl
+by_default Table reads choices dealt called = refl
+by_default Count reads choices dealt called = refl
+by_default Symmetries reads choices dealt called = refl
+by_default Same reads choices dealt called = refl
 by_default Import reads choices dealt called = refl
 by_default Deal reads choices dealt called = absurd (reads refl)
 
 pub by_variant : (task : Task) → task ≢ Deal → (variant : Variant) (choices dealt : ValueParser) (called : Text)
     → asked_by choices dealt (called ∷ command_of task ∷ variant_word variant ∷ []) ≡ Some (plain_request task variant)
 unfolding clap_on_literals
-by_variant (Run Show) reads FreeCell choices dealt called = refl
-by_variant (Run Show) reads BakersGame choices dealt called = refl
-by_variant (Run Show) reads EightOff choices dealt called = refl
-by_variant (Run Canon) reads FreeCell choices dealt called = refl
-by_variant (Run Canon) reads BakersGame choices dealt called = refl
-by_variant (Run Canon) reads EightOff choices dealt called = refl
-by_variant (Run Check) reads FreeCell choices dealt called = refl
-by_variant (Run Check) reads BakersGame choices dealt called = refl
-by_variant (Run Check) reads EightOff choices dealt called = refl
-by_variant (Run Group) reads FreeCell choices dealt called = refl
-by_variant (Run Group) reads BakersGame choices dealt called = refl
-by_variant (Run Group) reads EightOff choices dealt called = refl
-by_variant (Run Share) reads FreeCell choices dealt called = refl
-by_variant (Run Expand) reads FreeCell choices dealt called = refl
-by_variant (Run Share) reads BakersGame choices dealt called = refl
-by_variant (Run Expand) reads BakersGame choices dealt called = refl
-by_variant (Run Share) reads EightOff choices dealt called = refl
-by_variant (Run Expand) reads EightOff choices dealt called = refl
-by_variant (Run Unique) reads FreeCell choices dealt called = refl
-by_variant (Run Unique) reads BakersGame choices dealt called = refl
-by_variant (Run Unique) reads EightOff choices dealt called = refl
-by_variant (Run Table) reads FreeCell choices dealt called = refl
-by_variant (Run Count) reads FreeCell choices dealt called = refl
-by_variant (Run Symmetries) reads FreeCell choices dealt called = refl
-by_variant (Run Same) reads FreeCell choices dealt called = refl
-by_variant (Run Table) reads BakersGame choices dealt called = refl
-by_variant (Run Count) reads BakersGame choices dealt called = refl
-by_variant (Run Symmetries) reads BakersGame choices dealt called = refl
-by_variant (Run Same) reads BakersGame choices dealt called = refl
-by_variant (Run Table) reads EightOff choices dealt called = refl
-by_variant (Run Count) reads EightOff choices dealt called = refl
-by_variant (Run Symmetries) reads EightOff choices dealt called = refl
-by_variant (Run Same) reads EightOff choices dealt called = refl
+by_variant Show reads FreeCell choices dealt called = refl
+by_variant Show reads BakersGame choices dealt called = refl
+by_variant Show reads EightOff choices dealt called = refl
+by_variant Canon reads FreeCell choices dealt called = refl
+by_variant Canon reads BakersGame choices dealt called = refl
+by_variant Canon reads EightOff choices dealt called = refl
+by_variant Check reads FreeCell choices dealt called = refl
+by_variant Check reads BakersGame choices dealt called = refl
+by_variant Check reads EightOff choices dealt called = refl
+by_variant Group reads FreeCell choices dealt called = refl
+by_variant Group reads BakersGame choices dealt called = refl
+by_variant Group reads EightOff choices dealt called = refl
+by_variant Share reads FreeCell choices dealt called = refl
+by_variant Expand reads FreeCell choices dealt called = refl
+by_variant Share reads BakersGame choices dealt called = refl
+by_variant Expand reads BakersGame choices dealt called = refl
+by_variant Share reads EightOff choices dealt called = refl
+by_variant Expand reads EightOff choices dealt called = refl
+by_variant Unique reads FreeCell choices dealt called = refl
+by_variant Unique reads BakersGame choices dealt called = refl
+by_variant Unique reads EightOff choices dealt called = refl
+by_variant Table reads FreeCell choices dealt called = refl
+by_variant Count reads FreeCell choices dealt called = refl
+by_variant Symmetries reads FreeCell choices dealt called = refl
+by_variant Same reads FreeCell choices dealt called = refl
+by_variant Table reads BakersGame choices dealt called = refl
+by_variant Count reads BakersGame choices dealt called = refl
+by_variant Symmetries reads BakersGame choices dealt called = refl
+by_variant Same reads BakersGame choices dealt called = refl
+by_variant Table reads EightOff choices dealt called = refl
+by_variant Count reads EightOff choices dealt called = refl
+by_variant Symmetries reads EightOff choices dealt called = refl
+by_variant Same reads EightOff choices dealt called = refl
 by_variant Import reads FreeCell choices dealt called = refl
 by_variant Import reads BakersGame choices dealt called = refl
 by_variant Import reads EightOff choices dealt called = refl
@@ -105,85 +104,85 @@ by_variant Deal reads variant choices dealt called = absurd (reads refl)
 pub by_any_size : (task : Task) → task ≢ Deal → task ≢ Import → (choices dealt : ValueParser) (called : Text)
     → asked_by choices dealt (called ∷ command_of task ∷ codes "--any-size" ∷ []) ≡ Some (reading_request task FreeCell largest)
 unfolding clap_on_literals
-by_any_size (Run Show) reads collects choices dealt called = refl
-by_any_size (Run Canon) reads collects choices dealt called = refl
-by_any_size (Run Check) reads collects choices dealt called = refl
-by_any_size (Run Group) reads collects choices dealt called = refl
-by_any_size (Run Share) reads collects choices dealt called = refl
-by_any_size (Run Expand) reads collects choices dealt called = refl
-by_any_size (Run Unique) reads collects choices dealt called = refl
-by_any_size (Run Table) reads collects choices dealt called = refl
-by_any_size (Run Count) reads collects choices dealt called = refl
-by_any_size (Run Symmetries) reads collects choices dealt called = refl
-by_any_size (Run Same) reads collects choices dealt called = refl
+by_any_size Show reads collects choices dealt called = refl
+by_any_size Canon reads collects choices dealt called = refl
+by_any_size Check reads collects choices dealt called = refl
+by_any_size Group reads collects choices dealt called = refl
+by_any_size Share reads collects choices dealt called = refl
+by_any_size Expand reads collects choices dealt called = refl
+by_any_size Unique reads collects choices dealt called = refl
+by_any_size Table reads collects choices dealt called = refl
+by_any_size Count reads collects choices dealt called = refl
+by_any_size Symmetries reads collects choices dealt called = refl
+by_any_size Same reads collects choices dealt called = refl
 by_any_size Import reads collects choices dealt called = absurd (collects refl)
 by_any_size Deal reads collects choices dealt called = absurd (reads refl)
 
 pub by_any_size_for : (task : Task) → task ≢ Deal → task ≢ Import → (choices dealt : ValueParser) (called : Text)
     → asked_by choices dealt (called ∷ command_of task ∷ codes "--any-size" ∷ codes "--variant=eight_off" ∷ []) ≡ Some (reading_request task EightOff largest)
 unfolding clap_on_literals
-by_any_size_for (Run Show) reads collects choices dealt called = refl
-by_any_size_for (Run Canon) reads collects choices dealt called = refl
-by_any_size_for (Run Check) reads collects choices dealt called = refl
-by_any_size_for (Run Group) reads collects choices dealt called = refl
-by_any_size_for (Run Share) reads collects choices dealt called = refl
-by_any_size_for (Run Expand) reads collects choices dealt called = refl
-by_any_size_for (Run Unique) reads collects choices dealt called = refl
-by_any_size_for (Run Table) reads collects choices dealt called = refl
-by_any_size_for (Run Count) reads collects choices dealt called = refl
-by_any_size_for (Run Symmetries) reads collects choices dealt called = refl
-by_any_size_for (Run Same) reads collects choices dealt called = refl
+by_any_size_for Show reads collects choices dealt called = refl
+by_any_size_for Canon reads collects choices dealt called = refl
+by_any_size_for Check reads collects choices dealt called = refl
+by_any_size_for Group reads collects choices dealt called = refl
+by_any_size_for Share reads collects choices dealt called = refl
+by_any_size_for Expand reads collects choices dealt called = refl
+by_any_size_for Unique reads collects choices dealt called = refl
+by_any_size_for Table reads collects choices dealt called = refl
+by_any_size_for Count reads collects choices dealt called = refl
+by_any_size_for Symmetries reads collects choices dealt called = refl
+by_any_size_for Same reads collects choices dealt called = refl
 by_any_size_for Import reads collects choices dealt called = absurd (collects refl)
 by_any_size_for Deal reads collects choices dealt called = absurd (reads refl)
 
-pub by_start : (task : Task) → task ≢ Deal → task ≢ Import → task ≢ Run Same → task ≢ Run Count → (choices dealt : ValueParser) (called : Text)
+pub by_start : (task : Task) → task ≢ Deal → task ≢ Import → task ≢ Same → task ≢ Count → (choices dealt : ValueParser) (called : Text)
     → asked_by choices dealt (called ∷ command_of task ∷ codes "--from-record=3" ∷ codes "--from-byte=100" ∷ []) ≡ Some (reading_request task FreeCell (limits_from 3 100))
 unfolding clap_on_literals
-by_start (Run Show) reads collects whole all choices dealt called = refl
-by_start (Run Canon) reads collects whole all choices dealt called = refl
-by_start (Run Check) reads collects whole all choices dealt called = refl
-by_start (Run Group) reads collects whole all choices dealt called = refl
-by_start (Run Share) reads collects whole all choices dealt called = refl
-by_start (Run Expand) reads collects whole all choices dealt called = refl
-by_start (Run Unique) reads collects whole all choices dealt called = refl
-by_start (Run Table) reads collects whole all choices dealt called = refl
-by_start (Run Count) reads collects whole all choices dealt called = absurd (all refl)
-by_start (Run Symmetries) reads collects whole all choices dealt called = refl
-by_start (Run Same) reads collects whole all choices dealt called = absurd (whole refl)
+by_start Show reads collects whole all choices dealt called = refl
+by_start Canon reads collects whole all choices dealt called = refl
+by_start Check reads collects whole all choices dealt called = refl
+by_start Group reads collects whole all choices dealt called = refl
+by_start Share reads collects whole all choices dealt called = refl
+by_start Expand reads collects whole all choices dealt called = refl
+by_start Unique reads collects whole all choices dealt called = refl
+by_start Table reads collects whole all choices dealt called = refl
+by_start Count reads collects whole all choices dealt called = absurd (all refl)
+by_start Symmetries reads collects whole all choices dealt called = refl
+by_start Same reads collects whole all choices dealt called = absurd (whole refl)
 by_start Import reads collects whole all choices dealt called = absurd (collects refl)
 by_start Deal reads collects whole all choices dealt called = absurd (reads refl)
 
-pub by_first_record : (task : Task) → task ≢ Deal → task ≢ Import → task ≢ Run Same → task ≢ Run Count → (choices dealt : ValueParser) (called : Text)
+pub by_first_record : (task : Task) → task ≢ Deal → task ≢ Import → task ≢ Same → task ≢ Count → (choices dealt : ValueParser) (called : Text)
     → asked_by choices dealt (called ∷ command_of task ∷ codes "--from-record" ∷ codes "65537" ∷ []) ≡ Some (reading_request task FreeCell (limits_from 65537 0))
 unfolding clap_on_literals
-by_first_record (Run Show) reads collects whole all choices dealt called = refl
-by_first_record (Run Canon) reads collects whole all choices dealt called = refl
-by_first_record (Run Check) reads collects whole all choices dealt called = refl
-by_first_record (Run Group) reads collects whole all choices dealt called = refl
-by_first_record (Run Share) reads collects whole all choices dealt called = refl
-by_first_record (Run Expand) reads collects whole all choices dealt called = refl
-by_first_record (Run Unique) reads collects whole all choices dealt called = refl
-by_first_record (Run Table) reads collects whole all choices dealt called = refl
-by_first_record (Run Count) reads collects whole all choices dealt called = absurd (all refl)
-by_first_record (Run Symmetries) reads collects whole all choices dealt called = refl
-by_first_record (Run Same) reads collects whole all choices dealt called = absurd (whole refl)
+by_first_record Show reads collects whole all choices dealt called = refl
+by_first_record Canon reads collects whole all choices dealt called = refl
+by_first_record Check reads collects whole all choices dealt called = refl
+by_first_record Group reads collects whole all choices dealt called = refl
+by_first_record Share reads collects whole all choices dealt called = refl
+by_first_record Expand reads collects whole all choices dealt called = refl
+by_first_record Unique reads collects whole all choices dealt called = refl
+by_first_record Table reads collects whole all choices dealt called = refl
+by_first_record Count reads collects whole all choices dealt called = absurd (all refl)
+by_first_record Symmetries reads collects whole all choices dealt called = refl
+by_first_record Same reads collects whole all choices dealt called = absurd (whole refl)
 by_first_record Import reads collects whole all choices dealt called = absurd (collects refl)
 by_first_record Deal reads collects whole all choices dealt called = absurd (reads refl)
 
 pub by_two_words : (task : Task) → task ≢ Deal → (choices dealt : ValueParser) (called : Text)
     → asked_by choices dealt (called ∷ command_of task ∷ codes "--variant" ∷ codes "eight_off" ∷ []) ≡ Some (plain_request task EightOff)
 unfolding clap_on_literals
-by_two_words (Run Show) reads choices dealt called = refl
-by_two_words (Run Canon) reads choices dealt called = refl
-by_two_words (Run Check) reads choices dealt called = refl
-by_two_words (Run Group) reads choices dealt called = refl
-by_two_words (Run Share) reads choices dealt called = refl
-by_two_words (Run Expand) reads choices dealt called = refl
-by_two_words (Run Unique) reads choices dealt called = refl
-by_two_words (Run Table) reads choices dealt called = refl
-by_two_words (Run Count) reads choices dealt called = refl
-by_two_words (Run Symmetries) reads choices dealt called = refl
-by_two_words (Run Same) reads choices dealt called = refl
+by_two_words Show reads choices dealt called = refl
+by_two_words Canon reads choices dealt called = refl
+by_two_words Check reads choices dealt called = refl
+by_two_words Group reads choices dealt called = refl
+by_two_words Share reads choices dealt called = refl
+by_two_words Expand reads choices dealt called = refl
+by_two_words Unique reads choices dealt called = refl
+by_two_words Table reads choices dealt called = refl
+by_two_words Count reads choices dealt called = refl
+by_two_words Symmetries reads choices dealt called = refl
+by_two_words Same reads choices dealt called = refl
 by_two_words Import reads choices dealt called = refl
 by_two_words Deal reads choices dealt called = absurd (reads refl)
 
@@ -208,22 +207,22 @@ unfolding clap_on_literals
 fault_of_counted_piece choices dealt called = refl
 
 pub by_json : (choices dealt : ValueParser) (called : Text)
-    → asked_by choices dealt (called ∷ codes "count" ∷ codes "--json" ∷ []) ≡ Some (record (plain_request (Run Count) FreeCell) { options = record plain_options { format = Json } })
+    → asked_by choices dealt (called ∷ codes "count" ∷ codes "--json" ∷ []) ≡ Some (record (plain_request Count FreeCell) { options = record plain_options { format = Json } })
 unfolding clap_on_literals
 by_json choices dealt called = refl
 
 pub by_table_json : (choices dealt : ValueParser) (called : Text)
-    → asked_by choices dealt (called ∷ codes "table" ∷ codes "--json" ∷ []) ≡ Some (record (plain_request (Run Table) FreeCell) { options = record plain_options { format = Json } })
+    → asked_by choices dealt (called ∷ codes "table" ∷ codes "--json" ∷ []) ≡ Some (record (plain_request Table FreeCell) { options = record plain_options { format = Json } })
 unfolding clap_on_literals
 by_table_json choices dealt called = refl
 
 pub by_header : (choices dealt : ValueParser) (called : Text)
-    → asked_by choices dealt (called ∷ codes "table" ∷ codes "--header" ∷ []) ≡ Some (record (plain_request (Run Table) FreeCell) { options = record plain_options { format = Header } })
+    → asked_by choices dealt (called ∷ codes "table" ∷ codes "--header" ∷ []) ≡ Some (record (plain_request Table FreeCell) { options = record plain_options { format = Header } })
 unfolding clap_on_literals
 by_header choices dealt called = refl
 
 pub by_header_json : (choices dealt : ValueParser) (called : Text)
-    → asked_by choices dealt (called ∷ codes "table" ∷ codes "--header" ∷ codes "--json" ∷ []) ≡ Some (record (plain_request (Run Table) FreeCell) { options = record plain_options { format = Json } })
+    → asked_by choices dealt (called ∷ codes "table" ∷ codes "--header" ∷ codes "--json" ∷ []) ≡ Some (record (plain_request Table FreeCell) { options = record plain_options { format = Json } })
 unfolding clap_on_literals
 by_header_json choices dealt called = refl
 
@@ -346,17 +345,17 @@ fault_of_task : (task : Task) → task ≢ Deal → (given : Bor (List (Bor Text
     → fault_of (program (parser.Names given) dealt) (called ∷ command_of task ∷ [])
     ≡ named (list_any (λ other. bytes_eq other.now (codes "freecell")) given.now)
 unfolding clap_on_literals
-fault_of_task (Run Show) reads given dealt called = refl
-fault_of_task (Run Canon) reads given dealt called = refl
-fault_of_task (Run Check) reads given dealt called = refl
-fault_of_task (Run Group) reads given dealt called = refl
-fault_of_task (Run Share) reads given dealt called = refl
-fault_of_task (Run Expand) reads given dealt called = refl
-fault_of_task (Run Unique) reads given dealt called = refl
-fault_of_task (Run Table) reads given dealt called = refl
-fault_of_task (Run Count) reads given dealt called = refl
-fault_of_task (Run Symmetries) reads given dealt called = refl
-fault_of_task (Run Same) reads given dealt called = refl
+fault_of_task Show reads given dealt called = refl
+fault_of_task Canon reads given dealt called = refl
+fault_of_task Check reads given dealt called = refl
+fault_of_task Group reads given dealt called = refl
+fault_of_task Share reads given dealt called = refl
+fault_of_task Expand reads given dealt called = refl
+fault_of_task Unique reads given dealt called = refl
+fault_of_task Table reads given dealt called = refl
+fault_of_task Count reads given dealt called = refl
+fault_of_task Symmetries reads given dealt called = refl
+fault_of_task Same reads given dealt called = refl
 fault_of_task Import reads given dealt called = refl
 fault_of_task Deal reads given dealt called = absurd (reads refl)
 
@@ -369,39 +368,39 @@ fault_of_task_for : (task : Task) → task ≢ Deal → (variant : Variant) (giv
     → fault_of (program (parser.Names given) dealt) (called ∷ command_of task ∷ variant_word variant ∷ [])
     ≡ with_number (list_any (λ other. bytes_eq other.now (variant_name variant)) given.now)
 unfolding clap_on_literals
-fault_of_task_for (Run Show) reads FreeCell given dealt called = refl
-fault_of_task_for (Run Show) reads BakersGame given dealt called = refl
-fault_of_task_for (Run Show) reads EightOff given dealt called = refl
-fault_of_task_for (Run Canon) reads FreeCell given dealt called = refl
-fault_of_task_for (Run Canon) reads BakersGame given dealt called = refl
-fault_of_task_for (Run Canon) reads EightOff given dealt called = refl
-fault_of_task_for (Run Check) reads FreeCell given dealt called = refl
-fault_of_task_for (Run Check) reads BakersGame given dealt called = refl
-fault_of_task_for (Run Check) reads EightOff given dealt called = refl
-fault_of_task_for (Run Group) reads FreeCell given dealt called = refl
-fault_of_task_for (Run Group) reads BakersGame given dealt called = refl
-fault_of_task_for (Run Group) reads EightOff given dealt called = refl
-fault_of_task_for (Run Share) reads FreeCell given dealt called = refl
-fault_of_task_for (Run Expand) reads FreeCell given dealt called = refl
-fault_of_task_for (Run Share) reads BakersGame given dealt called = refl
-fault_of_task_for (Run Expand) reads BakersGame given dealt called = refl
-fault_of_task_for (Run Share) reads EightOff given dealt called = refl
-fault_of_task_for (Run Expand) reads EightOff given dealt called = refl
-fault_of_task_for (Run Unique) reads FreeCell given dealt called = refl
-fault_of_task_for (Run Unique) reads BakersGame given dealt called = refl
-fault_of_task_for (Run Unique) reads EightOff given dealt called = refl
-fault_of_task_for (Run Table) reads FreeCell given dealt called = refl
-fault_of_task_for (Run Count) reads FreeCell given dealt called = refl
-fault_of_task_for (Run Symmetries) reads FreeCell given dealt called = refl
-fault_of_task_for (Run Same) reads FreeCell given dealt called = refl
-fault_of_task_for (Run Table) reads BakersGame given dealt called = refl
-fault_of_task_for (Run Count) reads BakersGame given dealt called = refl
-fault_of_task_for (Run Symmetries) reads BakersGame given dealt called = refl
-fault_of_task_for (Run Same) reads BakersGame given dealt called = refl
-fault_of_task_for (Run Table) reads EightOff given dealt called = refl
-fault_of_task_for (Run Count) reads EightOff given dealt called = refl
-fault_of_task_for (Run Symmetries) reads EightOff given dealt called = refl
-fault_of_task_for (Run Same) reads EightOff given dealt called = refl
+fault_of_task_for Show reads FreeCell given dealt called = refl
+fault_of_task_for Show reads BakersGame given dealt called = refl
+fault_of_task_for Show reads EightOff given dealt called = refl
+fault_of_task_for Canon reads FreeCell given dealt called = refl
+fault_of_task_for Canon reads BakersGame given dealt called = refl
+fault_of_task_for Canon reads EightOff given dealt called = refl
+fault_of_task_for Check reads FreeCell given dealt called = refl
+fault_of_task_for Check reads BakersGame given dealt called = refl
+fault_of_task_for Check reads EightOff given dealt called = refl
+fault_of_task_for Group reads FreeCell given dealt called = refl
+fault_of_task_for Group reads BakersGame given dealt called = refl
+fault_of_task_for Group reads EightOff given dealt called = refl
+fault_of_task_for Share reads FreeCell given dealt called = refl
+fault_of_task_for Expand reads FreeCell given dealt called = refl
+fault_of_task_for Share reads BakersGame given dealt called = refl
+fault_of_task_for Expand reads BakersGame given dealt called = refl
+fault_of_task_for Share reads EightOff given dealt called = refl
+fault_of_task_for Expand reads EightOff given dealt called = refl
+fault_of_task_for Unique reads FreeCell given dealt called = refl
+fault_of_task_for Unique reads BakersGame given dealt called = refl
+fault_of_task_for Unique reads EightOff given dealt called = refl
+fault_of_task_for Table reads FreeCell given dealt called = refl
+fault_of_task_for Count reads FreeCell given dealt called = refl
+fault_of_task_for Symmetries reads FreeCell given dealt called = refl
+fault_of_task_for Same reads FreeCell given dealt called = refl
+fault_of_task_for Table reads BakersGame given dealt called = refl
+fault_of_task_for Count reads BakersGame given dealt called = refl
+fault_of_task_for Symmetries reads BakersGame given dealt called = refl
+fault_of_task_for Same reads BakersGame given dealt called = refl
+fault_of_task_for Table reads EightOff given dealt called = refl
+fault_of_task_for Count reads EightOff given dealt called = refl
+fault_of_task_for Symmetries reads EightOff given dealt called = refl
+fault_of_task_for Same reads EightOff given dealt called = refl
 fault_of_task_for Import reads FreeCell given dealt called = refl
 fault_of_task_for Import reads BakersGame given dealt called = refl
 fault_of_task_for Import reads EightOff given dealt called = refl
@@ -411,17 +410,17 @@ fault_of_any_size : (task : Task) → task ≢ Deal → task ≢ Import → (giv
     → fault_of (program (parser.Names given) dealt) (called ∷ command_of task ∷ codes "--any-size" ∷ [])
     ≡ named (list_any (λ other. bytes_eq other.now (codes "freecell")) given.now)
 unfolding clap_on_literals
-fault_of_any_size (Run Show) reads collects given dealt called = refl
-fault_of_any_size (Run Canon) reads collects given dealt called = refl
-fault_of_any_size (Run Check) reads collects given dealt called = refl
-fault_of_any_size (Run Group) reads collects given dealt called = refl
-fault_of_any_size (Run Share) reads collects given dealt called = refl
-fault_of_any_size (Run Expand) reads collects given dealt called = refl
-fault_of_any_size (Run Unique) reads collects given dealt called = refl
-fault_of_any_size (Run Table) reads collects given dealt called = refl
-fault_of_any_size (Run Count) reads collects given dealt called = refl
-fault_of_any_size (Run Symmetries) reads collects given dealt called = refl
-fault_of_any_size (Run Same) reads collects given dealt called = refl
+fault_of_any_size Show reads collects given dealt called = refl
+fault_of_any_size Canon reads collects given dealt called = refl
+fault_of_any_size Check reads collects given dealt called = refl
+fault_of_any_size Group reads collects given dealt called = refl
+fault_of_any_size Share reads collects given dealt called = refl
+fault_of_any_size Expand reads collects given dealt called = refl
+fault_of_any_size Unique reads collects given dealt called = refl
+fault_of_any_size Table reads collects given dealt called = refl
+fault_of_any_size Count reads collects given dealt called = refl
+fault_of_any_size Symmetries reads collects given dealt called = refl
+fault_of_any_size Same reads collects given dealt called = refl
 fault_of_any_size Import reads collects given dealt called = absurd (collects refl)
 fault_of_any_size Deal reads collects given dealt called = absurd (reads refl)
 
@@ -435,62 +434,62 @@ any_size_accepted task reads collects choices dealt called takes =
 abbrev with_start : Bool → Kinds
 with_start taken = or_else (or_else (or_else (or_else (or_else (or_else [] []) (name_fault taken)) []) []) []) []
 
-fault_of_start : (task : Task) → task ≢ Deal → task ≢ Import → task ≢ Run Same → task ≢ Run Count → (given : Bor (List (Bor Text))) (dealt : ValueParser) (called : Text)
+fault_of_start : (task : Task) → task ≢ Deal → task ≢ Import → task ≢ Same → task ≢ Count → (given : Bor (List (Bor Text))) (dealt : ValueParser) (called : Text)
     → fault_of (program (parser.Names given) dealt) (called ∷ command_of task ∷ codes "--from-record=3" ∷ codes "--from-byte=100" ∷ [])
     ≡ with_start (list_any (λ other. bytes_eq other.now (codes "freecell")) given.now)
 unfolding clap_on_literals
-fault_of_start (Run Show) reads collects whole all given dealt called = refl
-fault_of_start (Run Canon) reads collects whole all given dealt called = refl
-fault_of_start (Run Check) reads collects whole all given dealt called = refl
-fault_of_start (Run Group) reads collects whole all given dealt called = refl
-fault_of_start (Run Share) reads collects whole all given dealt called = refl
-fault_of_start (Run Expand) reads collects whole all given dealt called = refl
-fault_of_start (Run Unique) reads collects whole all given dealt called = refl
-fault_of_start (Run Table) reads collects whole all given dealt called = refl
-fault_of_start (Run Count) reads collects whole all given dealt called = absurd (all refl)
-fault_of_start (Run Symmetries) reads collects whole all given dealt called = refl
-fault_of_start (Run Same) reads collects whole all given dealt called = absurd (whole refl)
+fault_of_start Show reads collects whole all given dealt called = refl
+fault_of_start Canon reads collects whole all given dealt called = refl
+fault_of_start Check reads collects whole all given dealt called = refl
+fault_of_start Group reads collects whole all given dealt called = refl
+fault_of_start Share reads collects whole all given dealt called = refl
+fault_of_start Expand reads collects whole all given dealt called = refl
+fault_of_start Unique reads collects whole all given dealt called = refl
+fault_of_start Table reads collects whole all given dealt called = refl
+fault_of_start Count reads collects whole all given dealt called = absurd (all refl)
+fault_of_start Symmetries reads collects whole all given dealt called = refl
+fault_of_start Same reads collects whole all given dealt called = absurd (whole refl)
 fault_of_start Import reads collects whole all given dealt called = absurd (collects refl)
 fault_of_start Deal reads collects whole all given dealt called = absurd (reads refl)
 
-pub start_accepted : (task : Task) → task ≢ Deal → task ≢ Import → task ≢ Run Same → task ≢ Run Count → (choices dealt : ValueParser) (called : Text) → TakesAlone variant_names choices
+pub start_accepted : (task : Task) → task ≢ Deal → task ≢ Import → task ≢ Same → task ≢ Count → (choices dealt : ValueParser) (called : Text) → TakesAlone variant_names choices
     → fault_of (program choices dealt) (called ∷ command_of task ∷ codes "--from-record=3" ∷ codes "--from-byte=100" ∷ []) ≡ []
 start_accepted task reads collects whole all choices dealt called takes =
     let names = given_names variant_names choices takes in
     ap (λ of. fault_of (program of dealt) (called ∷ command_of task ∷ codes "--from-record=3" ∷ codes "--from-byte=100" ∷ [])) names.1
     ∙ fault_of_start task reads collects whole all names.0 dealt called ∙ ap with_start (takes_name (codes "freecell") variant_names names.0 names.2)
 
-pub fault_of_record_0 : (task : Task) → task ≢ Deal → task ≢ Import → task ≢ Run Same → task ≢ Run Count → (choices dealt : ValueParser) (called : Text)
+pub fault_of_record_0 : (task : Task) → task ≢ Deal → task ≢ Import → task ≢ Same → task ≢ Count → (choices dealt : ValueParser) (called : Text)
     → fault_of (program choices dealt) (called ∷ command_of task ∷ codes "--from-record=0" ∷ []) ≡ ValueValidation ∷ []
 unfolding clap_on_literals
-fault_of_record_0 (Run Show) reads collects whole all choices dealt called = refl
-fault_of_record_0 (Run Canon) reads collects whole all choices dealt called = refl
-fault_of_record_0 (Run Check) reads collects whole all choices dealt called = refl
-fault_of_record_0 (Run Group) reads collects whole all choices dealt called = refl
-fault_of_record_0 (Run Share) reads collects whole all choices dealt called = refl
-fault_of_record_0 (Run Expand) reads collects whole all choices dealt called = refl
-fault_of_record_0 (Run Unique) reads collects whole all choices dealt called = refl
-fault_of_record_0 (Run Table) reads collects whole all choices dealt called = refl
-fault_of_record_0 (Run Count) reads collects whole all choices dealt called = absurd (all refl)
-fault_of_record_0 (Run Symmetries) reads collects whole all choices dealt called = refl
-fault_of_record_0 (Run Same) reads collects whole all choices dealt called = absurd (whole refl)
+fault_of_record_0 Show reads collects whole all choices dealt called = refl
+fault_of_record_0 Canon reads collects whole all choices dealt called = refl
+fault_of_record_0 Check reads collects whole all choices dealt called = refl
+fault_of_record_0 Group reads collects whole all choices dealt called = refl
+fault_of_record_0 Share reads collects whole all choices dealt called = refl
+fault_of_record_0 Expand reads collects whole all choices dealt called = refl
+fault_of_record_0 Unique reads collects whole all choices dealt called = refl
+fault_of_record_0 Table reads collects whole all choices dealt called = refl
+fault_of_record_0 Count reads collects whole all choices dealt called = absurd (all refl)
+fault_of_record_0 Symmetries reads collects whole all choices dealt called = refl
+fault_of_record_0 Same reads collects whole all choices dealt called = absurd (whole refl)
 fault_of_record_0 Import reads collects whole all choices dealt called = absurd (collects refl)
 fault_of_record_0 Deal reads collects whole all choices dealt called = absurd (reads refl)
 
-pub fault_of_largest_byte : (task : Task) → task ≢ Deal → task ≢ Import → task ≢ Run Same → task ≢ Run Count → (choices dealt : ValueParser) (called : Text)
+pub fault_of_largest_byte : (task : Task) → task ≢ Deal → task ≢ Import → task ≢ Same → task ≢ Count → (choices dealt : ValueParser) (called : Text)
     → fault_of (program choices dealt) (called ∷ command_of task ∷ codes "--from-byte=1152921504606846977" ∷ []) ≡ ValueValidation ∷ []
 unfolding clap_on_literals
-fault_of_largest_byte (Run Show) reads collects whole all choices dealt called = refl
-fault_of_largest_byte (Run Canon) reads collects whole all choices dealt called = refl
-fault_of_largest_byte (Run Check) reads collects whole all choices dealt called = refl
-fault_of_largest_byte (Run Group) reads collects whole all choices dealt called = refl
-fault_of_largest_byte (Run Share) reads collects whole all choices dealt called = refl
-fault_of_largest_byte (Run Expand) reads collects whole all choices dealt called = refl
-fault_of_largest_byte (Run Unique) reads collects whole all choices dealt called = refl
-fault_of_largest_byte (Run Table) reads collects whole all choices dealt called = refl
-fault_of_largest_byte (Run Count) reads collects whole all choices dealt called = absurd (all refl)
-fault_of_largest_byte (Run Symmetries) reads collects whole all choices dealt called = refl
-fault_of_largest_byte (Run Same) reads collects whole all choices dealt called = absurd (whole refl)
+fault_of_largest_byte Show reads collects whole all choices dealt called = refl
+fault_of_largest_byte Canon reads collects whole all choices dealt called = refl
+fault_of_largest_byte Check reads collects whole all choices dealt called = refl
+fault_of_largest_byte Group reads collects whole all choices dealt called = refl
+fault_of_largest_byte Share reads collects whole all choices dealt called = refl
+fault_of_largest_byte Expand reads collects whole all choices dealt called = refl
+fault_of_largest_byte Unique reads collects whole all choices dealt called = refl
+fault_of_largest_byte Table reads collects whole all choices dealt called = refl
+fault_of_largest_byte Count reads collects whole all choices dealt called = absurd (all refl)
+fault_of_largest_byte Symmetries reads collects whole all choices dealt called = refl
+fault_of_largest_byte Same reads collects whole all choices dealt called = absurd (whole refl)
 fault_of_largest_byte Import reads collects whole all choices dealt called = absurd (collects refl)
 fault_of_largest_byte Deal reads collects whole all choices dealt called = absurd (reads refl)
 

@@ -1,3 +1,4 @@
 pub mod CommandLines
 pub mod NoteLemmas
+pub mod RequestLemmas
 pub mod WordLemmas

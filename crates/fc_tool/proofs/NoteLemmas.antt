@@ -2,10 +2,10 @@
 use Rattle.std.proofs.Common.{◌++◌, ◌∙◌, ap₂, append_assoc, Err, List, Ok, Option, Result}
 use Rattle.std.proofs.Common.{ℕ}
 use Rattle.std.proofs.KnownBytes.{Appends-trans}
-use Rattle.fc_run.specs.declared.outcome.RunFault.{RunFault}
-use Rattle.fc_run.specs.declared.outcome.RunFault.TheVariants.{Memory, Read, ReaderNeverEnds}
-use Rattle.fc_run.specs.declared.outcome.RunFault.TheVariants.{TooLarge, Write}
-use Rattle.fc_engine.specs.{WritesText, WritingFits}
+use Rattle.fc_collect.specs.declared.streams.faults.RunFault.{RunFault, TheVariants.{Memory, Read}}
+use Rattle.fc_collect.specs.declared.streams.faults.RunFault.TheVariants.{ReaderNeverEnds, TooLarge}
+use Rattle.fc_collect.specs.declared.streams.faults.RunFault.TheVariants.{Write}
+use Rattle.fc_collect.specs.Promises.{WritesText, WritingFits}
 
 -- one text went out whole, and another after it
 pub then_written : {A : Type 0} (first text : List ℕ) (a b c : Option (List ℕ)) (result : Result A RunFault) → WritesText {A = Unit {0}} first a b (Ok tt) → WritesText text b c result → WritesText (first ++ text) a c result

@@ -6,28 +6,33 @@ use Rattle.clap.specs.{Simple.{new_shape, on_top}, ValueTests.{is_signed_in}, Wo
 use Rattle.clap.specs.Words.{first_of, IsAmong, kind_of, new_app, new_rule, Row, Rule, Shape}
 use Rattle.clap.specs.Words.{subcommand_of, Text, with_subcommand}
 use Rattle.std.specs.{List.{find, fold}, Prelude.{◌++◌, ◌==◌, ◌∷◌, ◌≡◌, ◌⊎◌, [], ⊤, Bool, codes}}
-use Rattle.std.specs.Prelude.{Err, false, if◌then◌else◌, is_ok, List, map, None, Ok, Option}
+use Rattle.std.specs.Prelude.{Err, false, IfSome, if◌then◌else◌, is_ok, List, map, None, Ok, Option}
 use Rattle.std.specs.Prelude.{option_and_then, option_map, pos, Result, Some, true, ℕ}
 use Rattle.std.specs.Str.{bytes_eq, Parse.{digits_value, without_leading_sign}}
-use Rattle.{fc_parts.specs.{Game, game_of}, fc_print.specs.{line_feed, text_of}}
-use Rattle.fc_parts.specs.declared.rule.Variant.TheVariants.{BakersGame, EightOff, FreeCell}
-use Rattle.fc_parts.specs.declared.rule.Variant.{Variant}
-use Rattle.{fc_deal.specs.{deal, dealt_board, IsDealNumber}, fc_record.specs.{variant_word}}
-use Rattle.fc_run.specs.{fault_words, inner_of, largest, most_countable, standard}
-use Rattle.fc_run.specs.declared.{config.Limits.{Limits}, counted.Counted.{Counted}}
-use Rattle.fc_run.specs.declared.outcome.{RunFault.{RunFault}, Summary.{Summary}}
-use Rattle.{fc_engine.specs.{Transfers, WritesAsCounted, WritesText}, fc_import.specs.{ImportFits}}
-use Rattle.fc_collect.specs.{RunsWithin, TransfersWithin}
+use Rattle.{fc_board.specs.Games.{Game, game_of}, fc_deal.specs.{deal, dealt_board, IsDealNumber}}
+use Rattle.fc_board.specs.declared.rule.Variant.TheVariants.{BakersGame, EightOff, FreeCell}
+use Rattle.fc_board.specs.declared.rule.Variant.{Variant}
+use Rattle.fc_text.specs.{Bytes.{line_feed}, Printed.{text_of}}
+use Rattle.{fc_import.specs.Import.{ImportFits}, fc_record.specs.Grammar.{variant_word}}
+use Rattle.fc_collect.specs.Limits.{AreCountable, fault_words, largest, most_countable, standard}
+use Rattle.fc_collect.specs.Promises.{Transfers, WritesAsCounted, WritesText}
+use Rattle.fc_collect.specs.{Runs.{count_format, RunsWithin, TransfersWithin}, Streams.{inner_of}}
 use Rattle.fc_collect.specs.declared.commands.Format.{Format, TheVariants.{Header, Json, Lines}}
-use Rattle.fc_collect.specs.declared.commands.RunKind.TheVariants.{Canon, Check, Count, Expand}
-use Rattle.fc_collect.specs.declared.commands.RunKind.TheVariants.{Group, Same, Share, Show}
-use Rattle.fc_collect.specs.declared.commands.RunKind.TheVariants.{Symmetries, Table, Unique}
+use Rattle.fc_collect.specs.declared.{commands.RunKind.{RunKind}, streams.counted.Counted.{Counted}}
+use Rattle.fc_collect.specs.declared.streams.faults.{RunFault.{RunFault}, Summary.{Summary}}
+use Rattle.fc_collect.specs.declared.streams.limits.Limits.{Limits}
 use Rattle.fc_import.specs.declared.layout.LinesAre.{LinesAre, TheVariants.{Columns, Rows, Unsaid}}
+use Rattle.fc_tool.specs.declared.program.{DealtGame.{DealtGame}, Job.{Job}}
 use Rattle.fc_tool.specs.declared.request.{Options.{Options}, Request.{Request}, Task.{Task}}
-use Rattle.fc_tool.specs.declared.request.Task.TheVariants.{Deal, Import, Run}
+use Rattle.fc_tool.specs.declared.request.Task.TheVariants.{Canon, Check, Count, Deal, Expand}
+use Rattle.fc_tool.specs.declared.request.Task.TheVariants.{Group, Import, Same, Share, Show}
+use Rattle.fc_tool.specs.declared.request.Task.TheVariants.{Symmetries, Table, Unique}
 use Rattle.fc_tool.specs.declared.request.WordsFault.{TheVariants.{Memory, Parser}, WordsFault}
 use Rattle.clap.specs.declared.builder.value_parser.ValueParser.TheVariants as parser
-use Rattle.fc_run.specs.declared.outcome.RunFault.TheVariants as run
+use Rattle.fc_collect.specs.declared.commands.RunKind.TheVariants as runs
+use Rattle.fc_tool.specs.declared.program.DealtGame.TheVariants as dealt
+use Rattle.fc_tool.specs.declared.program.Job.TheVariants as job
+use Rattle.fc_collect.specs.declared.streams.faults.RunFault.TheVariants as run
 
 -- ======== What the words of a command line ask for, by clap's own specification of a parse: fcanon's command line as one of its values, and what the command that was met and its option mean. From: this project's profile.
 
@@ -104,30 +109,30 @@ import_options choices = variant_option choices ∷ columns_option ∷ rows_opti
 abbrev pub rules_of : (choices dealt : ValueParser) → Task → List Rule
 rules_of choices dealt Import = import_options choices
 rules_of choices dealt Deal = variant_option dealt ∷ number_argument ∷ []
-rules_of choices dealt (Run Same) = whole_options choices
-rules_of choices dealt (Run Count) = whole_options choices ++ json_option ∷ []
-rules_of choices dealt (Run Table) = piece_options choices ++ json_option ∷ header_option ∷ []
-rules_of choices dealt (Run kind) = piece_options choices
+rules_of choices dealt Same = whole_options choices
+rules_of choices dealt Count = whole_options choices ++ json_option ∷ []
+rules_of choices dealt Table = piece_options choices ++ json_option ∷ header_option ∷ []
+rules_of choices dealt task = piece_options choices
 
 -- the command of a task
 abbrev pub command_of : Task → Text
-command_of (Run Show) = codes "show"
-command_of (Run Canon) = codes "canon"
-command_of (Run Check) = codes "check"
-command_of (Run Group) = codes "group"
-command_of (Run Share) = codes "share"
-command_of (Run Expand) = codes "expand"
-command_of (Run Unique) = codes "unique"
-command_of (Run Table) = codes "table"
-command_of (Run Same) = codes "same"
-command_of (Run Symmetries) = codes "symmetries"
-command_of (Run Count) = codes "count"
+command_of Show = codes "show"
+command_of Canon = codes "canon"
+command_of Check = codes "check"
+command_of Group = codes "group"
+command_of Share = codes "share"
+command_of Expand = codes "expand"
+command_of Unique = codes "unique"
+command_of Table = codes "table"
+command_of Same = codes "same"
+command_of Symmetries = codes "symmetries"
+command_of Count = codes "count"
 command_of Import = codes "import"
 command_of Deal = codes "deal"
 
 -- all tasks, in the order of their commands in the help
 abbrev pub tasks : List Task
-tasks = Run Show ∷ Run Canon ∷ Run Check ∷ Run Group ∷ Run Share ∷ Run Expand ∷ Run Unique ∷ Run Table ∷ Run Same ∷ Run Symmetries ∷ Run Count ∷ Import ∷ Deal ∷ []
+tasks = Show ∷ Canon ∷ Check ∷ Group ∷ Share ∷ Expand ∷ Unique ∷ Table ∷ Same ∷ Symmetries ∷ Count ∷ Import ∷ Deal ∷ []
 
 -- fcanon without its commands: it wants one, and where nothing is given it says how it is used
 abbrev pub bare_program : App
@@ -222,7 +227,7 @@ abbrev pub request_for : List Row → Task → Variant → Option Request
 request_for rows Deal EightOff = None
 request_for rows Deal variant = option_map (deal_request variant) (number_in rows)
 request_for rows Import variant = Some (record (plain_request Import variant) { options = record plain_options { lines_are = lines_in rows } })
-request_for rows (Run kind) variant = option_map (λ limits. record (plain_request (Run kind) variant) { options = record plain_options { format = format_in rows; limits = limits } }) (limits_in rows)
+request_for rows task variant = option_map (λ limits. record (plain_request task variant) { options = record plain_options { format = format_in rows; limits = limits } }) (limits_in rows)
 
 -- the request of a command, by its name and its rows
 abbrev pub request_of : Text × List Row → Option Request
@@ -245,6 +250,41 @@ pub record Reads (words : List Text) (result : Result (Option Request) WordsFaul
   pub answer : Answers (program choices dealt) words result
 
 -- ======== How the program ends. From: this project's profile.
+
+-- ---- what it does for a request
+
+-- the run over a collection that a task is, a table in this format; `import` and `deal` are none
+abbrev pub run_of_task : Format → Task → Option RunKind
+run_of_task format Show = Some runs.Show
+run_of_task format Canon = Some runs.Canon
+run_of_task format Check = Some runs.Check
+run_of_task format Group = Some runs.Group
+run_of_task format Share = Some runs.Share
+run_of_task format Expand = Some runs.Expand
+run_of_task format Unique = Some runs.Unique
+run_of_task format Table = Some (runs.Table format)
+run_of_task format Same = Some runs.Same
+run_of_task format Symmetries = Some runs.Symmetries
+run_of_task format Count = Some (runs.Count (count_format format))
+run_of_task format Import = None
+run_of_task format Deal = None
+
+-- the deal of a number for a game, of which Eight Off is not dealt
+abbrev pub deal_job : Variant → ℕ → Option Job
+deal_job FreeCell number = Some (job.Deal dealt.FreeCell number)
+deal_job BakersGame number = Some (job.Deal dealt.BakersGame number)
+deal_job EightOff number = None
+
+-- what a task does for a game, with the number of a deal and with options: nothing where a deal has no number
+abbrev pub job_of_task : Task → Variant → Option ℕ → Options → Option Job
+job_of_task Import variant number options = Some (job.Import variant options.lines_are)
+job_of_task Deal variant number options = option_and_then (deal_job variant) number
+job_of_task task variant number options = option_map (λ kind. job.Run kind variant options.limits) (run_of_task options.format task)
+
+abbrev pub job_of : Request → Option Job
+job_of request = job_of_task request.task request.variant request.number request.options
+
+-- ---- how it ends
 
 -- the exit status: 0 where all records were accepted, 1 where one was refused, 3 at a fault
 abbrev pub status_of : Result Summary RunFault → ℕ
@@ -277,11 +317,10 @@ module _ {W : Type 0} (contents : W → Option (List ℕ)) (before after : Count
       (IsDealNumber number × EndsWriting (text_of (dealt_board game.cells (deal number))))
       ⊎ ((¬ IsDealNumber number) × (after ≡ before) × (status ≡ 2) × (message ≡ error_line (codes "deal number out of range")))
 
-  -- how `deal` ended, which has a number and a game that is dealt
-  abbrev pub EndsDeal : Variant → Option ℕ → Type 0
-  EndsDeal EightOff number = ⊥
-  EndsDeal variant None = ⊥
-  EndsDeal variant (Some number) = EndsDealing (game_of variant) number
+  -- and for each game that is dealt
+  abbrev pub EndsDeal : DealtGame → ℕ → Type 0
+  EndsDeal dealt.FreeCell number = EndsDealing (game_of FreeCell) number
+  EndsDeal dealt.BakersGame number = EndsDealing (game_of BakersGame) number
 
   -- how the program ended where the parser gave no command: the text that was asked for went to the output, or the words were refused, or there was no memory for the parser's text
   abbrev pub EndsParsing : Error → Type 0
@@ -296,16 +335,16 @@ module _ {R W : Type 0} (remaining : R → Option (List ℕ)) (contents : W → 
   EndsRun limits said transfers = (result : Result Summary RunFault) × (status ≡ status_of result) × (message ≡ said ++ fault_line result)
       × RunsWithin limits remaining contents transfers input left before after result
 
-  -- how a request ended: a run of this kind, an import, or a deal
-  abbrev pub EndsRequest : Limits → Task → Format → Variant → Option ℕ → Type 0
-  EndsRequest limits (Run kind) format variant number = EndsRun limits [] (TransfersWithin limits kind format variant)
-  EndsRequest limits Import format variant number = (said : List ℕ) × EndsRun standard said (Transfers (ImportFits variant said))
-  EndsRequest limits Deal format variant number = (left ≡ input) × EndsDeal contents before after status message variant number
+  -- how a job ended, or that there was none
+  abbrev pub EndsJob : Option Job → Type 0
+  EndsJob (Some (job.Run kind variant limits)) = EndsRun limits [] (TransfersWithin limits kind variant)
+  EndsJob (Some (job.Import variant lines_are)) = (said : List ℕ) × EndsRun standard said (Transfers (ImportFits variant said))
+  EndsJob (Some (job.Deal game number)) = (left ≡ input) × EndsDeal contents before after status message game number
+  EndsJob None = (left ≡ input) × (after ≡ before) × (status ≡ 2)
 
-  -- how the program ended, by what its words were read as. They are never read as no request
+  -- how the program ended, by what its words were read as. A request that they are read as has a job
   abbrev pub EndsBy : Result (Option Request) WordsFault → Type 0
-  EndsBy (Ok (Some request)) = EndsRequest request.options.limits request.task request.options.format request.variant request.number
-  EndsBy (Ok None) = (left ≡ input) × (after ≡ before) × (status ≡ 2)
+  EndsBy (Ok request) = EndsJob (option_and_then job_of request)
   EndsBy (Err Memory) = (left ≡ input) × (after ≡ before) × (status ≡ 3) × (message ≡ error_line (fault_words run.Memory))
   EndsBy (Err (Parser error)) = (left ≡ input) × EndsParsing contents before after status message error
 
@@ -321,6 +360,31 @@ EndsProgram remaining contents messages input left before after silent said stat
     (answer : Result (Option Request) WordsFault) × (message : List ℕ) × Reads words answer
     × EndsBy remaining contents input left before after status message answer × TriesToWrite messages message silent said
 
+-- the request that words are read as, if they are one's
+abbrev pub requested : Result (Option Request) WordsFault → Option Request
+requested (Ok request) = request
+requested (Err fault) = None
+
+-- it is for an import
+abbrev pub AsksForImport : Result (Option Request) WordsFault → Type 0
+AsksForImport answer = (request : Request) × (requested answer ≡ Some request) × (request.task ≡ Import)
+
 -- the words ask for an import, which says on standard error what it changes and leaves out
 abbrev pub AsksToImport : List Text → Type 0
-AsksToImport words = (request : Request) × Reads words (Ok (Some request)) × (request.task ≡ Import)
+AsksToImport words = (answer : Result (Option Request) WordsFault) × Reads words answer × AsksForImport answer
+
+-- ---- what the code promises on the way there
+
+-- a run can count up to the limits of the request
+abbrev pub IsCountable : Result (Option Request) WordsFault → Type 0
+IsCountable answer = IfSome (requested answer) (λ request. AreCountable request.options.limits)
+
+-- and to those of the job
+abbrev pub CountsUpTo : Option Job → Type 0
+CountsUpTo (Some (job.Run kind variant limits)) = AreCountable limits
+CountsUpTo job = ⊤
+
+-- the job is an import
+abbrev pub IsImport : Option Job → Type 0
+IsImport (Some (job.Import variant lines_are)) = ⊤
+IsImport job = ⊥

@@ -1,15 +1,13 @@
 //! The words of a command line, read by the parser.
 ghost use Rattle.clap.specs.declared.builder.command.Command.TheViews.{out-Command as fields_of};
-ghost use Rattle.clap.specs.declared.builder.value_parser.ValueParser.{ValueParser as Parser};
-ghost use Rattle.clap.specs.Words.{App, app_of, rule_of, Shape, shape_of, with_subcommand};
-ghost use Rattle.std.specs.Prelude.{◌++◌, ◌∷◌, ◌≡◌, [], false, IfOk, map, take};
-ghost use Rattle.std.specs.String.{string_bytes};
-ghost use Rattle.fc_tool.specs.{bare_program, command_with, flag_option, header_option};
+ghost use Rattle.clap.specs.Words.{app_of, rule_of, shape_of};
+ghost use Rattle.std.specs.{Prelude.{◌++◌, ◌∷◌, ◌≡◌, [], false, IfOk, map}, String.{string_bytes}};
+ghost use Rattle.fc_tool.specs.{bare_program, command_of, command_with, flag_option, header_option};
 ghost use Rattle.fc_tool.specs.{import_options, json_option, number_argument, piece_options};
-ghost use Rattle.fc_tool.specs.{program, program_of, Reads, start_option, tasks, variant_option};
+ghost use Rattle.fc_tool.specs.{program, Reads, rules_of, start_option, variant_option};
 ghost use Rattle.fc_tool.specs.{whole_options};
 
-use crate::request::{Request, WordsFault};
+use crate::request::{Request, TASKS, Task, WordsFault};
 use clap::builder::ValueParser;
 use clap::error::ErrorKind;
 use clap::{Arg, ArgAction, Command};
@@ -20,9 +18,8 @@ mod help;
 mod matches;
 
 use help::{
-    ABOUT, ANY_SIZE, CANON, CHECK, COLUMNS, COUNT, DEAL, DEAL_NOTES, EXPAND, FROM_BYTE,
-    FROM_RECORD, GAME_DEALT, GAME_READ, GROUP, HEADER, Help, IMPORT, JSON, NOTES, ROWS, SAME,
-    SHARE, SHOW, SYMMETRIES, TABLE, UNIQUE, USAGE,
+    ABOUT, ANY_SIZE, COLUMNS, FROM_BYTE, FROM_RECORD, GAME_DEALT, GAME_READ, HEADER, Help, JSON,
+    NOTES, ROWS, USAGE,
 };
 use matches::request_of;
 
@@ -58,55 +55,40 @@ fn program<'a>(
 ) -> Result<Command<'a>, AllocError>
     ensures { IfOk result (λ command. app_of command ≡ program choices.entry dealt.entry) }
 {
-    let line = reading_program(alloc, choices);
-    let line = with_command(line, importing_command(alloc, choices, "import", IMPORT));
-    with_command(
-        line,
-        numbered_command(alloc, dealt, "deal", DEAL, DEAL_NOTES),
-    )
+    let mut line = bare_program(alloc);
+    for at in 0..TASKS.len() {
+        line = line.subcommand(command(alloc, TASKS[at], choices, dealt)?)?;
+    }
+    Ok(line)
 }
 
-// The command line with the commands that read collections.
-fn reading_program<'a>(alloc: Global, choices: ValueParser<'a>) -> Result<Command<'a>, AllocError>
-    ensures { (dealt : Parser) → IfOk result (λ command.
-        app_of command ≡ program_of (take 11 tasks) choices.entry dealt) }
-{
-    let line = printing_program(alloc, choices);
-    let line = with_command(line, reading_command(alloc, choices, "unique", UNIQUE));
-    let line = with_command(line, table_command(alloc, choices, "table", TABLE));
-    let line = with_command(line, whole_command(alloc, choices, "same", SAME));
-    let line = with_command(
-        line,
-        reading_command(alloc, choices, "symmetries", SYMMETRIES),
-    );
-    with_command(line, counting_command(alloc, choices, "count", COUNT))
-}
-
-// The command line with the commands that print boards and lists.
-fn printing_program<'a>(alloc: Global, choices: ValueParser<'a>) -> Result<Command<'a>, AllocError>
-    ensures { (dealt : Parser) → IfOk result (λ command.
-        app_of command ≡ program_of (take 6 tasks) choices.entry dealt) }
-{
-    let line = Ok(bare_program(alloc));
-    let line = with_command(line, reading_command(alloc, choices, "show", SHOW));
-    let line = with_command(line, reading_command(alloc, choices, "canon", CANON));
-    let line = with_command(line, reading_command(alloc, choices, "check", CHECK));
-    let line = with_command(line, reading_command(alloc, choices, "group", GROUP));
-    let line = with_command(line, reading_command(alloc, choices, "share", SHARE));
-    with_command(line, reading_command(alloc, choices, "expand", EXPAND))
-}
-
-// The command line with one more command, where there was memory for both.
-fn with_command<'a>(
-    line: Result<Command<'a>, AllocError>,
-    command: Result<Command<'a>, AllocError>,
+// The command of a task.
+fn command<'a>(
+    alloc: Global,
+    task: Task,
+    choices: ValueParser<'a>,
+    dealt: ValueParser<'a>,
 ) -> Result<Command<'a>, AllocError>
-    requires local { IfOk command (λ command. (fields_of command).has_globals ≡ false) }
-    ensures { (app : App) (shape : Shape) → IfOk line.entry (λ line. app_of line ≡ app)
-        → IfOk command.entry (λ command. shape_of command ≡ shape)
-        → IfOk result (λ new. app_of new ≡ with_subcommand app shape) }
+    ensures shape { IfOk result (λ command. shape_of command
+        ≡ command_with (rules_of choices.entry dealt.entry task) (command_of task)) }
+    ensures local { IfOk result (λ command. (fields_of command).has_globals ≡ false) }
 {
-    line?.subcommand(command?)
+    let (name, help) = (task.name(), Help::of(task));
+    match task {
+        Task::Show
+        | Task::Canon
+        | Task::Check
+        | Task::Group
+        | Task::Share
+        | Task::Expand
+        | Task::Unique
+        | Task::Symmetries => reading_command(alloc, choices, name, help),
+        Task::Table => table_command(alloc, choices, name, help),
+        Task::Same => whole_command(alloc, choices, name, help),
+        Task::Count => counting_command(alloc, choices, name, help),
+        Task::Import => importing_command(alloc, choices, name, help),
+        Task::Deal => numbered_command(alloc, dealt, name, help),
+    }
 }
 
 // The command line without its commands: it wants one, and where nothing is given it says how it
@@ -189,6 +171,20 @@ fn importing_command<'a>(
         .arg(flag_option(alloc, "rows", "rows", ROWS))
 }
 
+// A command that takes nothing, and what its help says.
+fn bare_command<'a>(alloc: Global, name: &'a str, help: Help) -> Command<'a>
+    ensures shape { shape_of result ≡ command_with [] name.entry.now }
+    ensures local { (fields_of result).has_globals ≡ false }
+{
+    let command = Command::new(alloc, name)
+        .about(help.about)
+        .after_help(help.notes);
+    match help.usage {
+        Some(usage) => command.override_usage(usage),
+        None => command,
+    }
+}
+
 // A command that reads boards, with the option `--variant`.
 fn board_command<'a>(
     alloc: Global,
@@ -200,11 +196,7 @@ fn board_command<'a>(
         shape_of command ≡ command_with (variant_option choices.entry ∷ []) name.entry.now) }
     ensures local { IfOk result (λ command. (fields_of command).has_globals ≡ false) }
 {
-    Command::new(alloc, name)
-        .override_usage(help.usage)
-        .about(help.about)
-        .after_help(help.notes)
-        .arg(variant_option(alloc, choices, GAME_READ))
+    bare_command(alloc, name, help).arg(variant_option(alloc, choices, GAME_READ))
 }
 
 // A command that reads a whole collection, and no piece of one.
@@ -277,17 +269,14 @@ fn numbered_command<'a>(
     alloc: Global,
     choices: ValueParser<'a>,
     name: &'a str,
-    about: &'a str,
-    notes: &'a str,
+    help: Help,
 ) -> Result<Command<'a>, AllocError>
     ensures shape { IfOk result (λ command.
         shape_of command ≡ command_with (variant_option choices.entry ∷ number_argument ∷ [])
         name.entry.now) }
     ensures local { IfOk result (λ command. (fields_of command).has_globals ≡ false) }
 {
-    Command::new(alloc, name)
-        .about(about)
-        .after_help(notes)
+    bare_command(alloc, name, help)
         .arg(variant_option(alloc, choices, GAME_DEALT))?
         .arg(number_argument(alloc))
 }

@@ -6,24 +6,26 @@ ghost use Rattle.clap.specs.declared.error.kind.ErrorKind.TheVariants.{UnknownAr
 ghost use Rattle.clap.specs.declared.error.kind.ErrorKind.TheVariants.{ValueValidation};
 ghost use Rattle.clap.specs.Words.{kind_of, Text};
 ghost use Rattle.std.specs.{Io.KnownBytes.{Appends}, Prelude.{◌++◌, ◌<◌, ◌∷◌, ◌≡◌, ◌≢◌, [], codes}};
-ghost use Rattle.std.specs.Prelude.{Err, List, Ok, Option, Result, Some, ℕ};
-ghost use Rattle.{fc_engine.specs.{records_from}, fc_parts.specs.{Game}, fc_print.specs.{text_of}};
-ghost use Rattle.fc_parts.specs.declared.rule.Variant.TheVariants.{BakersGame, EightOff, FreeCell};
+ghost use Rattle.std.specs.Prelude.{Err, IsSome, List, Ok, Option, Result, Some, ℕ};
+ghost use Rattle.{fc_board.specs.Games.{Game}, fc_text.specs.Printed.{text_of}};
+ghost use Rattle.fc_board.specs.declared.rule.Variant.TheVariants.{BakersGame, EightOff, FreeCell};
 ghost use Rattle.fc_deal.specs.{deal, dealt_board, IsDealNumber};
-ghost use Rattle.fc_run.specs.{counts_of, inner_of, largest, standard};
-ghost use Rattle.fc_run.specs.declared.outcome.{RunFault.{RunFault}, Summary.{Summary}};
-ghost use Rattle.fc_collect.specs.{ending_of_kind, output_of_kind};
+ghost use Rattle.fc_collect.specs.{Limits.{largest, standard}, Records.{records_from}};
+ghost use Rattle.fc_collect.specs.Runs.{ending_of_kind, output_of_kind};
+ghost use Rattle.fc_collect.specs.Streams.{counts_of, inner_of};
+ghost use Rattle.fc_collect.specs.declared.commands.Format.{Format};
 ghost use Rattle.fc_collect.specs.declared.commands.Format.TheVariants.{Header, Json, Lines};
-ghost use Rattle.fc_collect.specs.declared.commands.RunKind.{RunKind, TheVariants.{Canon, Check}};
-ghost use Rattle.fc_collect.specs.declared.commands.RunKind.TheVariants.{Count, Expand, Group};
-ghost use Rattle.fc_collect.specs.declared.commands.RunKind.TheVariants.{Same, Share, Show};
-ghost use Rattle.fc_collect.specs.declared.commands.RunKind.TheVariants.{Symmetries, Table, Unique};
+ghost use Rattle.fc_collect.specs.declared.commands.RunKind.{RunKind};
+ghost use Rattle.fc_collect.specs.declared.streams.faults.{RunFault.{RunFault}, Summary.{Summary}};
 ghost use Rattle.fc_import.specs.declared.layout.LinesAre.TheVariants.{Columns, Rows};
 ghost use Rattle.fc_tool.specs.{command_of, deal_request, EndsDealing, EndsProgram, fault_line};
-ghost use Rattle.fc_tool.specs.{limits_from, plain_options, plain_request, reading_request, Reads};
-ghost use Rattle.fc_tool.specs.{status_of, TriesToWrite};
+ghost use Rattle.fc_tool.specs.{job_of, limits_from, plain_options, plain_request, reading_request};
+ghost use Rattle.fc_tool.specs.{Reads, run_of_task, status_of, TriesToWrite};
 ghost use Rattle.fc_tool.specs.declared.request.{Request.{Request}, Task.{Task}};
-ghost use Rattle.fc_tool.specs.declared.request.Task.TheVariants.{Deal, Import, Run};
+ghost use Rattle.fc_tool.specs.declared.request.Task.TheVariants.{Canon, Check, Count, Deal};
+ghost use Rattle.fc_tool.specs.declared.request.Task.TheVariants.{Expand, Group, Import, Same};
+ghost use Rattle.fc_tool.specs.declared.request.Task.TheVariants.{Share, Show, Symmetries, Table};
+ghost use Rattle.fc_tool.specs.declared.request.Task.TheVariants.{Unique};
 ghost use Rattle.fc_tool.specs.declared.request.WordsFault.TheVariants.{Parser};
 
 use fc_collect::Counted;
@@ -31,17 +33,17 @@ use std::io::{Read, Write};
 
 /// Each command has its own word.
 pub fn commands_have_their_words()
-    ensures show { command_of (Run Show) ≡ codes "show" }
-    ensures canon { command_of (Run Canon) ≡ codes "canon" }
-    ensures check { command_of (Run Check) ≡ codes "check" }
-    ensures expand { command_of (Run Expand) ≡ codes "expand" }
-    ensures group { command_of (Run Group) ≡ codes "group" }
-    ensures share { command_of (Run Share) ≡ codes "share" }
-    ensures unique { command_of (Run Unique) ≡ codes "unique" }
-    ensures table { command_of (Run Table) ≡ codes "table" }
-    ensures same { command_of (Run Same) ≡ codes "same" }
-    ensures symmetries { command_of (Run Symmetries) ≡ codes "symmetries" }
-    ensures count { command_of (Run Count) ≡ codes "count" }
+    ensures show { command_of Show ≡ codes "show" }
+    ensures canon { command_of Canon ≡ codes "canon" }
+    ensures check { command_of Check ≡ codes "check" }
+    ensures expand { command_of Expand ≡ codes "expand" }
+    ensures group { command_of Group ≡ codes "group" }
+    ensures share { command_of Share ≡ codes "share" }
+    ensures unique { command_of Unique ≡ codes "unique" }
+    ensures table { command_of Table ≡ codes "table" }
+    ensures same { command_of Same ≡ codes "same" }
+    ensures symmetries { command_of Symmetries ≡ codes "symmetries" }
+    ensures count { command_of Count ≡ codes "count" }
     ensures import { command_of Import ≡ codes "import" }
     ensures deal { command_of Deal ≡ codes "deal" }
 {}
@@ -86,26 +88,26 @@ pub fn any_size_is_asked_for()
 /// are numbered from 1, and no number is past what a run can count to.
 pub fn pieces_begin_where_they_say()
     ensures both { (task : Task) (called : Text) (answer : Option Request)
-        → task ≢ Deal → task ≢ Import → task ≢ Run Same → task ≢ Run Count
+        → task ≢ Deal → task ≢ Import → task ≢ Same → task ≢ Count
         → Reads (called ∷ command_of task ∷ codes "--from-record=3" ∷ codes "--from-byte=100" ∷ [])
         (Ok answer)
         → answer ≡ Some (reading_request task FreeCell (limits_from 3 100)) }
     ensures record { (task : Task) (called : Text) (answer : Option Request)
-        → task ≢ Deal → task ≢ Import → task ≢ Run Same → task ≢ Run Count
+        → task ≢ Deal → task ≢ Import → task ≢ Same → task ≢ Count
         → Reads (called ∷ command_of task ∷ codes "--from-record" ∷ codes "65537" ∷ [])
         (Ok answer)
         → answer ≡ Some (reading_request task FreeCell (limits_from 65537 0)) }
     ensures accepted { (task : Task) (called : Text) (error : Error)
-        → task ≢ Deal → task ≢ Import → task ≢ Run Same → task ≢ Run Count
+        → task ≢ Deal → task ≢ Import → task ≢ Same → task ≢ Count
         → ¬ Reads
         (called ∷ command_of task ∷ codes "--from-record=3" ∷ codes "--from-byte=100" ∷ [])
         (Err (Parser error)) }
     ensures no_record_0 { (task : Task) (called : Text) (error : Error)
-        → task ≢ Deal → task ≢ Import → task ≢ Run Same → task ≢ Run Count
+        → task ≢ Deal → task ≢ Import → task ≢ Same → task ≢ Count
         → Reads (called ∷ command_of task ∷ codes "--from-record=0" ∷ []) (Err (Parser error))
         → kind_of error ≡ ValueValidation }
     ensures no_byte_past_all { (task : Task) (called : Text) (error : Error)
-        → task ≢ Deal → task ≢ Import → task ≢ Run Same → task ≢ Run Count
+        → task ≢ Deal → task ≢ Import → task ≢ Same → task ≢ Count
         → Reads (called ∷ command_of task ∷ codes "--from-byte=1152921504606846977" ∷ [])
         (Err (Parser error))
         → kind_of error ≡ ValueValidation }
@@ -130,19 +132,19 @@ pub fn some_commands_take_no_piece()
 pub fn formats_are_asked_for()
     ensures count { (called : Text) (answer : Option Request)
         → Reads (called ∷ codes "count" ∷ codes "--json" ∷ []) (Ok answer)
-        → answer ≡ Some (record (plain_request (Run Count) FreeCell)
+        → answer ≡ Some (record (plain_request Count FreeCell)
         { options = record plain_options { format = Json } }) }
     ensures table { (called : Text) (answer : Option Request)
         → Reads (called ∷ codes "table" ∷ codes "--json" ∷ []) (Ok answer)
-        → answer ≡ Some (record (plain_request (Run Table) FreeCell)
+        → answer ≡ Some (record (plain_request Table FreeCell)
         { options = record plain_options { format = Json } }) }
     ensures header { (called : Text) (answer : Option Request)
         → Reads (called ∷ codes "table" ∷ codes "--header" ∷ []) (Ok answer)
-        → answer ≡ Some (record (plain_request (Run Table) FreeCell)
+        → answer ≡ Some (record (plain_request Table FreeCell)
         { options = record plain_options { format = Header } }) }
     ensures both { (called : Text) (answer : Option Request)
         → Reads (called ∷ codes "table" ∷ codes "--header" ∷ codes "--json" ∷ []) (Ok answer)
-        → answer ≡ Some (record (plain_request (Run Table) FreeCell)
+        → answer ≡ Some (record (plain_request Table FreeCell)
         { options = record plain_options { format = Json } }) }
     ensures no_group { (called : Text) (answer : Option Request)
         → ¬ Reads (called ∷ codes "group" ∷ codes "--json" ∷ []) (Ok answer) }
@@ -242,6 +244,21 @@ pub fn deal_wants_a_number()
         → ¬ Reads (called ∷ codes "deal" ∷ []) (Ok answer) }
 {}
 
+/// Each request that words are read as has a job. So what the program does where there is none is
+/// done for no words.
+pub fn each_request_has_a_job()
+    ensures { (words : List Text) (request : Request) → Reads words (Ok (Some request))
+        → IsSome (job_of request) }
+{}
+
+/// The run of a command over records prints what its name says: each is a kind of its own, and the
+/// formats of `table` and of `count` are those that were asked for.
+pub fn each_task_has_a_run_of_its_own()
+    ensures { (format : Format) (task other : Task) (kind : RunKind)
+        → run_of_task format task ≡ Some kind → run_of_task format other ≡ Some kind
+        → task ≡ other }
+{}
+
 /// Eight Off is not dealt.
 pub fn eight_off_is_not_dealt()
     ensures no_request { (called : Text) → (answer : Option Request)
@@ -293,12 +310,13 @@ pub fn a_program_that_ends_well_has_written_what_is_due<Rd: Read, Wr: Write, Er:
     silent: &Counted<Er>,
     said: &Counted<Er>,
 )
-    ensures { (kind : RunKind) (called : Text) (status : ℕ) (read held : List ℕ)
+    ensures { (task : Task) (kind : RunKind) (called : Text) (status : ℕ) (read held : List ℕ)
+        → run_of_task Lines task ≡ Some kind
         → EndsProgram Rd.remaining Wr.contents Er.contents input.now left.now before.now after.now
-        silent.now said.now status (called ∷ command_of (Run kind) ∷ []) → status < 2
+        silent.now said.now status (called ∷ command_of task ∷ []) → status < 2
         → Rd.remaining (inner_of input.now) ≡ Some read
         → Wr.contents (inner_of before.now) ≡ Some held
         → Wr.contents (inner_of after.now) ≡ Some (held
-        ++ (output_of_kind kind Lines FreeCell (records_from standard read)
-        ++ ending_of_kind kind Lines FreeCell (records_from standard read))) }
+        ++ (output_of_kind kind FreeCell (records_from standard read)
+        ++ ending_of_kind kind FreeCell (records_from standard read))) }
 {}

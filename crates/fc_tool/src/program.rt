@@ -1,28 +1,31 @@
 //! The program: what its words ask for, one run, and how it ends.
 ghost use Rattle.std.specs.{declared.io.ErrorKind.TheVariants.{OutOfMemory}, Io.KnownBytes.{Keeps}};
-ghost use Rattle.std.specs.{IoError.{error_kind}, Prelude.{◌++◌, ◌<◌, ◌≡◌, ◌≢◌, ◌≤◌, ◌⊎◌, []}};
-ghost use Rattle.std.specs.{Prelude.{codes, length, List, map, None, ℕ}, String.{string_bytes}};
-ghost use Rattle.fc_parts.specs.declared.rule.Variant.TheVariants.{EightOff};
-ghost use Rattle.fc_run.specs.{AreCountable, fault_words, HasRoom, inner_of, standard};
-ghost use Rattle.fc_run.specs.declared.outcome.RunFault.TheVariants.{Memory};
-ghost use Rattle.fc_engine.specs.{Transfers, WritesAsCounted, WritesText};
-ghost use Rattle.{fc_collect.specs.{TransfersWithin}, fc_import.specs.{ImportFits}};
-ghost use Rattle.fc_tool.specs.{AsksToImport, EndsDeal, EndsDealing, EndsParsing, EndsProgram};
-ghost use Rattle.fc_tool.specs.{EndsRequest, EndsRun, EndsWriting, error_line, fault_line};
-ghost use Rattle.fc_tool.specs.{status_of, TriesToWrite};
-ghost use Rattle.fc_tool.specs.declared.request.Task.TheVariants.{Deal, Import};
+ghost use Rattle.std.specs.IoError.{error_kind};
+ghost use Rattle.std.specs.Prelude.{◌++◌, ◌<◌, ◌≡◌, ◌≢◌, ◌≤◌, ◌⊎◌, [], codes, length, List, map, ℕ};
+ghost use Rattle.std.specs.String.{string_bytes};
+ghost use Rattle.fc_collect.specs.Limits.{fault_words, standard};
+ghost use Rattle.fc_collect.specs.Promises.{Transfers, WritesAsCounted, WritesText};
+ghost use Rattle.fc_collect.specs.Streams.{HasRoom, inner_of};
+ghost use Rattle.fc_collect.specs.declared.streams.faults.RunFault.TheVariants.{Memory};
+ghost use Rattle.fc_import.specs.Import.{ImportFits};
+ghost use Rattle.fc_tool.specs.{AsksForImport, AsksToImport, CountsUpTo, deal_job, EndsBy};
+ghost use Rattle.fc_tool.specs.{EndsDeal, EndsDealing, EndsJob, EndsParsing, EndsProgram, EndsRun};
+ghost use Rattle.fc_tool.specs.{EndsWriting, error_line, fault_line, IsImport, job_of, Reads};
+ghost use Rattle.fc_tool.specs.{requested, status_of, TriesToWrite};
 
 use crate::command_line::read_words;
 use crate::request::{Options, Request, Task, WordsFault};
 use arrayvec::ArrayString;
 use fc_board::{BakersGame, FreeCell};
-use fc_collect::{Counted, RunFault, RunKind, Seed, Summary, Variant, run_within, write_text};
+use fc_collect::{
+    Counted, Limits, RunFault, RunKind, Seed, Summary, Variant, run_within, write_bytes, write_text,
+};
 use fc_deal::{DealFault, Numbered, deal_board};
-use fc_engine::write_bytes;
 use fc_import::{LinesAre, run_import};
 use fc_text::write_board;
 use std::alloc::Global;
 use std::io::{self, Read, Write};
+use std::marker::Model;
 
 /// Does what the words ask for, the first of which is the program's name, and returns the exit
 /// status.
@@ -49,19 +52,129 @@ pub fn run_program<Rd: Read, Wr: Write, Er: Write>(
     ensures quiet { result < 2 → AsksToImport (map string_bytes words.now)
         ⊎ Keeps (Er.contents (inner_of errors.old)) (Er.contents (inner_of errors.new)) }
 {
-    match read_words(alloc, words) {
-        Ok(Some(request)) => run_request(alloc, seed, request, input, output, errors),
-        Ok(None) => say(&Ending::silent(2), errors),
-        Err(WordsFault::Memory) => say(&out_of_memory(), errors),
-        Err(WordsFault::Parser(error)) => end_parsing(alloc, &error, output, errors),
+    Asked::by(alloc, words).run(alloc, seed, input, output, errors)
+}
+
+/// What the words of a command line ask for.
+#[derive(Drop)]
+pub struct Asked {
+    answer: Result<Option<Request>, WordsFault>,
+}
+
+impl Model for Asked {
+    ghost use Rattle.{fc_tool.specs.{IsCountable}, std.specs.Prelude.{Option, Result}};
+    ghost use Rattle.fc_tool.specs.declared.request.Request.{Request as Asking};
+    ghost use Rattle.fc_tool.specs.declared.request.WordsFault.{WordsFault as Fault};
+
+    ghost Value = { Result (Option Asking) Fault };
+
+    ghost view = { λ asked. asked.answer };
+
+    ghost invariant = { λ asked. IsCountable asked.answer };
+}
+
+impl Asked {
+    /// Reads the words, the first of which is the program's name.
+    pub fn by(alloc: Global, words: &[String]) -> Asked
+        ensures { Reads (map string_bytes words.now) result }
+    {
+        let answer = read_words(alloc, words);
+        Asked { answer }
+    }
+
+    /// The request of the words, if they ask for a job.
+    pub fn request(&self) -> Option<Request>
+        ensures { result ≡ requested self.now }
+    {
+        match &self.answer {
+            Ok(request) => *request,
+            Err(_) => None,
+        }
+    }
+
+    /// Does what was asked for, and returns the exit status, as `run_program` does.
+    pub fn run<Rd: Read, Wr: Write, Er: Write>(
+        &self,
+        alloc: Global,
+        seed: Seed,
+        input: &mut Counted<Rd>,
+        output: &mut Counted<Wr>,
+        errors: &mut Counted<Er>,
+    ) -> u8
+        requires input_low { HasRoom input.old }
+        requires output_low { HasRoom output.old }
+        requires errors_low { HasRoom errors.old }
+        ensures ends { (message : List ℕ)
+            × EndsBy Rd.remaining Wr.contents input.old input.new output.old output.new
+            result message self.now
+            × TriesToWrite Er.contents message errors.old errors.new }
+        ensures quiet { result < 2 → AsksForImport self.now
+            ⊎ Keeps (Er.contents (inner_of errors.old)) (Er.contents (inner_of errors.new)) }
+    {
+        match &self.answer {
+            Ok(Some(request)) => {
+                let job = Job::of(request);
+                run_job(alloc, seed, job, input, output, errors)
+            }
+            Ok(None) => say(&Ending::silent(2), errors),
+            Err(WordsFault::Memory) => say(&out_of_memory(), errors),
+            Err(WordsFault::Parser(error)) => end_parsing(alloc, error, output, errors),
+        }
     }
 }
 
-// Does what was asked for, and returns the exit status.
-fn run_request<Rd: Read, Wr: Write, Er: Write>(
+/// What the program does for a request: for each kind of job what it needs, and no more.
+#[derive(Clone, Copy)]
+enum Job {
+    /// A run over a collection, in which records without a header are of this game.
+    Run(RunKind, Variant, Limits),
+    /// An import, of boards of this game.
+    Import(Variant, LinesAre),
+    /// The deal of this number.
+    Deal(DealtGame, u32),
+}
+
+/// A game that is dealt by number.
+#[derive(Clone, Copy)]
+enum DealtGame {
+    FreeCell,
+    BakersGame,
+}
+
+impl Job {
+    /// The job of the request: none where a deal lacks its number, or is of Eight Off.
+    fn of(request: &Request) -> Option<Job>
+        ensures { result ≡ job_of request.now }
+    {
+        let Options {
+            format,
+            limits,
+            lines_are,
+        } = request.options;
+        match request.task {
+            Task::Import => Some(Job::Import(request.variant, lines_are)),
+            Task::Deal => deal_job(request.variant, request.number?),
+            task => Some(Job::Run(task.run(format)?, request.variant, limits)),
+        }
+    }
+}
+
+// The deal of this number for a game, of which Eight Off is not dealt.
+fn deal_job(variant: Variant, number: u32) -> Option<Job>
+    ensures { result ≡ deal_job variant number }
+{
+    match variant {
+        Variant::FreeCell => Some(Job::Deal(DealtGame::FreeCell, number)),
+        Variant::BakersGame => Some(Job::Deal(DealtGame::BakersGame, number)),
+        Variant::EightOff => None,
+    }
+}
+
+// Does the job, if there is one, and returns the exit status.
+fn run_job<Rd: Read, Wr: Write, Er: Write>(
     alloc: Global,
     seed: Seed,
-    request: Request,
+    job: Option<Job>,
     input: &mut Counted<Rd>,
     output: &mut Counted<Wr>,
     errors: &mut Counted<Er>,
@@ -69,23 +182,25 @@ fn run_request<Rd: Read, Wr: Write, Er: Write>(
     requires input_low { HasRoom input.old }
     requires output_low { HasRoom output.old }
     requires errors_low { HasRoom errors.old }
-    requires is_dealt { request.task ≡ Deal
-        → (request.variant ≢ EightOff) × (request.number ≢ None) }
-    requires countable { AreCountable request.options.limits }
+    requires countable { CountsUpTo job }
     ensures ends { (message : List ℕ)
-        × EndsRequest Rd.remaining Wr.contents input.old input.new output.old output.new
-        result message request.options.limits request.task request.options.format request.variant request.number
+        × EndsJob Rd.remaining Wr.contents input.old input.new output.old output.new
+        result message job
         × TriesToWrite Er.contents message errors.old errors.new }
-    ensures quiet { result < 2 → (request.task ≡ Import)
+    ensures quiet { result < 2 → IsImport job
         ⊎ Keeps (Er.contents (inner_of errors.old)) (Er.contents (inner_of errors.new)) }
 {
-    match request.task {
-        Task::Import => {
-            let lines_are = request.options.lines_are;
-            import(alloc, request.variant, lines_are, input, output, errors)
+    let ending = match job {
+        Some(Job::Import(variant, lines_are)) => {
+            return import(alloc, variant, lines_are, input, output, errors);
         }
-        Task::Run(_) | Task::Deal => say(&run_task(alloc, seed, request, input, output), errors),
-    }
+        Some(Job::Run(kind, variant, limits)) => {
+            finish(&run_within(alloc, kind, variant, limits, seed, input, output))
+        }
+        Some(Job::Deal(game, number)) => run_deal(game, number, output),
+        None => Ending::silent(2),
+    };
+    say(&ending, errors)
 }
 
 // Imports the input, says what is changed and left out, and returns the exit status.
@@ -124,68 +239,16 @@ fn say_notes<Er: Write>(said: &[u8], line: &[u8], errors: &mut Counted<Er>) -> R
     write_text(errors, line)
 }
 
-// Runs what was asked for, which is no import.
-fn run_task<Rd: Read, Wr: Write>(
-    alloc: Global,
-    seed: Seed,
-    request: Request,
-    input: &mut Counted<Rd>,
-    output: &mut Counted<Wr>,
-) -> Ending
-    requires no_import { request.task ≢ Import }
-    requires input_low { HasRoom input.old }
-    requires output_low { HasRoom output.old }
-    requires is_dealt { request.task ≡ Deal
-        → (request.variant ≢ EightOff) × (request.number ≢ None) }
-    requires countable { AreCountable request.options.limits }
-    ensures ends { EndsRequest Rd.remaining Wr.contents input.old input.new output.old output.new
-        result.status result.line.bytes
-        request.options.limits request.task request.options.format request.variant request.number }
-    ensures quiet { result.status < 2 → result.line.bytes ≡ [] }
-{
-    match request.task {
-        Task::Run(kind) => run_collection(alloc, seed, kind, request, input, output),
-        Task::Deal => run_deal(request.variant, request.number, output),
-        Task::Import => unreachable!(),
-    }
-}
-
-// Runs over a collection, as the rest of the request says.
-fn run_collection<Rd: Read, Wr: Write>(
-    alloc: Global,
-    seed: Seed,
-    kind: RunKind,
-    request: Request,
-    input: &mut Counted<Rd>,
-    output: &mut Counted<Wr>,
-) -> Ending
-    requires input_low { HasRoom input.old }
-    requires output_low { HasRoom output.old }
-    requires countable { AreCountable request.options.limits }
-    ensures ends { EndsRun Rd.remaining Wr.contents input.old input.new output.old output.new
-        result.status result.line.bytes request.options.limits []
-        (TransfersWithin request.options.limits kind request.options.format request.variant) }
-    ensures quiet { result.status < 2 → result.line.bytes ≡ [] }
-{
-    let Options { format, limits, .. } = request.options;
-    let variant = request.variant;
-    let outcome = run_within(alloc, kind, format, variant, limits, seed, input, output);
-    finish(&outcome)
-}
-
 // Prints the board of a deal.
-fn run_deal<Wr: Write>(variant: Variant, number: Option<u32>, output: &mut Counted<Wr>) -> Ending
+fn run_deal<Wr: Write>(game: DealtGame, number: u32, output: &mut Counted<Wr>) -> Ending
     requires output_low { HasRoom output.old }
-    requires variant { variant ≢ EightOff }
-    requires number { number ≢ None }
     ensures ends { EndsDeal Wr.contents output.old output.new
-        result.status result.line.bytes variant number }
+        result.status result.line.bytes game number }
     ensures quiet { result.status < 2 → result.line.bytes ≡ [] }
 {
-    match (variant, number) {
-        (Variant::FreeCell, Some(number)) => give_deal::<FreeCell, Wr>(number, output),
-        (Variant::BakersGame, Some(number)) => give_deal::<BakersGame, Wr>(number, output),
-        (Variant::EightOff, _) | (_, None) => unreachable!(),
+    match game {
+        DealtGame::FreeCell => give_deal::<FreeCell, Wr>(number, output),
+        DealtGame::BakersGame => give_deal::<BakersGame, Wr>(number, output),
     }
 }
 

@@ -1,21 +1,106 @@
 //! What a command line asks for, or why it asks for nothing.
 
-use fc_collect::{Format, Limits, RunKind, Variant};
+use fc_collect::{CountFormat, Format, Limits, RunKind, Variant};
 use fc_import::LinesAre;
 
-/// What a command does.
+/// What a command does: one task for each command, by its name.
 #[derive(Clone, Copy, PartialEq, Eq)]
 pub enum Task {
-    /// A command that reads a collection: a run of this kind.
-    Run(RunKind),
-    /// `deal` prints the board of a deal of Microsoft's, by its number. It reads nothing.
-    Deal,
-    /// `import` makes a collection of what other programs print.
+    Show,
+    Canon,
+    Check,
+    Group,
+    Share,
+    Expand,
+    Unique,
+    Table,
+    Same,
+    Symmetries,
+    Count,
+    /// Makes a collection of what other programs print.
     Import,
+    /// Prints the board of a deal of Microsoft's, by its number. It reads nothing.
+    Deal,
 }
 
-/// A task, the game that it is for, the number of the deal where the task is `deal`, and how the
-/// task is done.
+/// All tasks, in the order of their commands in the help.
+pub(crate) static TASKS: [Task; 13] = [
+    Task::Show,
+    Task::Canon,
+    Task::Check,
+    Task::Group,
+    Task::Share,
+    Task::Expand,
+    Task::Unique,
+    Task::Table,
+    Task::Same,
+    Task::Symmetries,
+    Task::Count,
+    Task::Import,
+    Task::Deal,
+];
+
+impl Task {
+    ghost use Rattle.std.specs.Prelude.{◌≡◌};
+    ghost use Rattle.fc_tool.specs.{command_of, run_of_task, task_named};
+
+    /// The task of the command with this name.
+    pub(crate) fn named(name: &str) -> Option<Task>
+        ensures { result ≡ task_named name.now }
+    {
+        for at in 0..TASKS.len() {
+            if name == TASKS[at].name() {
+                return Some(TASKS[at]);
+            }
+        }
+        None
+    }
+
+    /// The name of its command.
+    pub(crate) fn name<'a>(self) -> &'a str
+        ensures { result.now ≡ command_of self }
+    {
+        match self {
+            Task::Show => "show",
+            Task::Canon => "canon",
+            Task::Check => "check",
+            Task::Group => "group",
+            Task::Share => "share",
+            Task::Expand => "expand",
+            Task::Unique => "unique",
+            Task::Table => "table",
+            Task::Same => "same",
+            Task::Symmetries => "symmetries",
+            Task::Count => "count",
+            Task::Import => "import",
+            Task::Deal => "deal",
+        }
+    }
+
+    /// The run over a collection that the task is, a table in this format; `import` and `deal` are
+    /// none.
+    pub(crate) fn run(self, format: Format) -> Option<RunKind>
+        ensures { result ≡ run_of_task format self }
+    {
+        match self {
+            Task::Show => Some(RunKind::Show),
+            Task::Canon => Some(RunKind::Canon),
+            Task::Check => Some(RunKind::Check),
+            Task::Group => Some(RunKind::Group),
+            Task::Share => Some(RunKind::Share),
+            Task::Expand => Some(RunKind::Expand),
+            Task::Unique => Some(RunKind::Unique),
+            Task::Table => Some(RunKind::Table(format)),
+            Task::Same => Some(RunKind::Same),
+            Task::Symmetries => Some(RunKind::Symmetries),
+            Task::Count => Some(RunKind::Count(CountFormat::of(format))),
+            Task::Import | Task::Deal => None,
+        }
+    }
+}
+
+/// A task, the game that it is for, the number of a deal where the task is `deal`, and what is
+/// optional.
 #[derive(Clone, Copy, PartialEq, Eq)]
 pub struct Request {
     pub task: Task,

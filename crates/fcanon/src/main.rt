@@ -4,7 +4,7 @@
 mod watched;
 
 use fc_collect::{Counted, Limits, Seed};
-use fc_tool::{Request, Task, end_without_words, read_words, run_program};
+use fc_tool::{Asked, Request, Task, end_without_words};
 use std::io::{self, IsTerminal};
 use std::process::ExitCode;
 use std::random::RandomSource;
@@ -20,30 +20,19 @@ fn main(rt: HostRuntime) -> ExitCode {
 
 // Runs the program over the process's own streams, and says what only a terminal is to show.
 fn run(rt: &HostRuntime, words: &[String]) -> u8 {
-    let has_terminal = rt.stderr().is_terminal();
-    let request = if has_terminal || rt.stdin().is_terminal() {
-        read_words(rt.alloc(), words).ok().flatten()
-    } else {
-        None
-    };
+    let asked = Asked::by(rt.alloc(), words);
+    let request = asked.request();
     if rt.stdin().is_terminal() && request.as_ref().is_some_and(reads_input) {
         let _ = eprintln!(rt; "{AT_A_TERMINAL}");
     }
     let any_size = request.is_some_and(|request| request.options.limits != Limits::STANDARD);
+    let has_terminal = rt.stderr().is_terminal();
     let shows = has_terminal && any_size && !rt.stdout().is_terminal();
     let progress = Progress::new(rt, has_terminal, shows);
     let mut input = Counted::new(Watched::new(rt.stdin(), progress));
     let mut output = Counted::new(rt.stdout());
     let mut errors = Counted::new(rt.stderr());
-    let seed = seed(rt);
-    let status = run_program(
-        rt.alloc(),
-        seed,
-        words,
-        &mut input,
-        &mut output,
-        &mut errors,
-    );
+    let status = asked.run(rt.alloc(), seed(rt), &mut input, &mut output, &mut errors);
     if has_terminal && !any_size && status == 3 && input.into_inner().progress().is_past_one_run() {
         let _ = eprintln!(rt; "{ANY_SIZE}");
     }
@@ -68,7 +57,7 @@ const ANY_SIZE: &str = "fcanon: with --any-size it reads more than 65536 records
 
 // Whether a command reads standard input.
 fn reads_input(request: &Request) -> bool {
-    matches!(request.task, Task::Run(_) | Task::Import)
+    request.task != Task::Deal
 }
 
 fn words(rt: &HostRuntime) -> io::Result<Vec<String>> {

@@ -1,9 +1,9 @@
 -- The games by their numbers, the call for a deal, and the words for answers.
 use Rattle.std.specs.Prelude.{◌-◌, ◌==◌, ◌∷◌, [], codes, if◌then◌else◌, List, nat_lt}
 use Rattle.std.specs.Prelude.{slice_index_or, ℕ}
-use Rattle.{fc_bytes.specs.{HoldsBoard}, fc_parts.specs.{Game, game_of, renamings_of}}
-use Rattle.fc_parts.specs.declared.rule.Variant.TheVariants.{BakersGame, EightOff, FreeCell}
-use Rattle.fc_parts.specs.declared.rule.Variant.{Variant}
+use Rattle.{fc_board.specs.Games.{Game, game_of, renamings_of}, fc_bytes.specs.{HoldsBoard}}
+use Rattle.fc_board.specs.declared.rule.Variant.TheVariants.{BakersGame, EightOff, FreeCell}
+use Rattle.fc_board.specs.declared.rule.Variant.{Variant}
 use Rattle.fc_deal.specs.{deal, dealt_board, IsDealNumber}
 use Rattle.fc_bytes.specs.declared.board.BoardBytes.{BoardBytes}
 

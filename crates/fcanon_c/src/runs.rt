@@ -1,9 +1,10 @@
 //! Moves of several cards: how many can go, and such moves played, carried, and taken apart.
 ghost use Rattle.std.specs.Prelude.{◌<◌, ◌≡◌, ◌≤◌, ◌⊎◌, length};
-ghost use Rattle.{fc_parts.specs.{carried_run, run_refusal, RunStep}, fcanon_c.specs.{game_at}};
+ghost use Rattle.fc_board.specs.{Passages.{carried_run}, Steps.{run_refusal, RunStep}};
 ghost use Rattle.fc_bytes.specs.{AreMoves, CarriesMove, HasCapacity, HoldsBoard, HoldsFirstAlone};
 ghost use Rattle.fc_bytes.specs.{HoldsNone, HoldsPassage, HoldsRun, NamesColumn, OfExpansion};
 ghost use Rattle.fc_bytes.specs.{PlaysMove, RefusesMove};
+ghost use Rattle.fcanon_c.specs.{game_at};
 
 use fc_board::{BakersGame, EightOff, FreeCell};
 use fc_bytes::calls::answers::NO_GAME;

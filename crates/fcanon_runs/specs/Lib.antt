@@ -1,18 +1,20 @@
 -- The numbers by which C knows games, tasks and formats, and what a run over memory hands over.
 use Rattle.std.specs.Prelude.{◌++◌, ◌<◌, ◌==◌, ◌∷◌, ◌≡◌, ◌≤◌, ◌⊎◌, [], drop, if◌then◌else◌, length}
 use Rattle.std.specs.Prelude.{List, slice_index_or, ℕ}
-use Rattle.fc_parts.specs.declared.rule.Variant.TheVariants.{BakersGame, EightOff, FreeCell}
-use Rattle.fc_parts.specs.declared.rule.Variant.{Variant}
-use Rattle.{fc_record.specs.{is_refused}, fc_run.specs.{largest, most_bytes, standard}}
-use Rattle.fc_run.specs.declared.{config.Limits.{Limits}, outcome.RunFault.{RunFault}}
-use Rattle.fc_run.specs.declared.outcome.RunFault.TheVariants.{Memory, Read, ReaderNeverEnds}
-use Rattle.fc_run.specs.declared.outcome.{RunFault.TheVariants.{TooLarge, Write}, Summary.{Summary}}
-use Rattle.fc_engine.specs.{Begins, CountsRecords, IsWithinLimits, records_from}
-use Rattle.{fc_collect.specs.{ending_of_kind, output_of_kind}, fc_import.specs.{Makes}}
-use Rattle.fc_collect.specs.declared.commands.Format.{Format, TheVariants.{Header, Json, Lines}}
-use Rattle.fc_collect.specs.declared.commands.RunKind.{RunKind, TheVariants.{Canon, Check, Count}}
-use Rattle.fc_collect.specs.declared.commands.RunKind.TheVariants.{Expand, Group, Same, Share, Show}
-use Rattle.fc_collect.specs.declared.commands.RunKind.TheVariants.{Symmetries, Table, Unique}
+use Rattle.fc_board.specs.declared.rule.Variant.TheVariants.{BakersGame, EightOff, FreeCell}
+use Rattle.fc_board.specs.declared.rule.Variant.{Variant}
+use Rattle.{fc_import.specs.Import.{Makes}, fc_record.specs.Printing.{is_refused}}
+use Rattle.fc_collect.specs.Limits.{largest, most_bytes, standard}
+use Rattle.fc_collect.specs.Promises.{Begins, CountsRecords, IsWithinLimits}
+use Rattle.fc_collect.specs.Records.{records_from}
+use Rattle.fc_collect.specs.Runs.{count_format, ending_of_kind, output_of_kind}
+use Rattle.fc_collect.specs.declared.{
+  commands.{Format.{Format, TheVariants.{Header, Json, Lines}}, RunKind.{RunKind}},
+  commands.RunKind.TheVariants.{Canon, Check, Count, Expand, Group, Same, Share, Show, Symmetries},
+  commands.RunKind.TheVariants.{Table, Unique},
+  streams.faults.RunFault.{RunFault, TheVariants.{Memory, Read, ReaderNeverEnds, TooLarge, Write}},
+  streams.{faults.Summary.{Summary}, limits.Limits.{Limits}},
+}
 use Rattle.fcanon_runs.specs.declared.output.Written.{Written}
 
 -- ======== The numbers by which C knows games, tasks, formats and faults. From: this project's profile.
@@ -21,13 +23,14 @@ use Rattle.fcanon_runs.specs.declared.output.Written.{Written}
 abbrev pub variant_at : ℕ → Variant
 variant_at number = slice_index_or (FreeCell ∷ BakersGame ∷ EightOff ∷ []) number EightOff
 
--- 0 is `show`, 1 `canon`, and so on in this order
-abbrev pub kind_at : ℕ → RunKind
-kind_at number = slice_index_or (Show ∷ Canon ∷ Check ∷ Group ∷ Share ∷ Expand ∷ Unique ∷ Table ∷ Same ∷ Symmetries ∷ Count ∷ []) number Show
-
 -- 0 is lines, 1 a table with a header, and 2 JSON
 abbrev pub format_at : ℕ → Format
 format_at number = slice_index_or (Lines ∷ Header ∷ Json ∷ []) number Lines
+
+-- 0 is `show`, 1 `canon`, and so on in this order; of these `table` and `count` have a format
+abbrev pub kind_at : (task format : ℕ) → RunKind
+kind_at task format =
+    slice_index_or (Show ∷ Canon ∷ Check ∷ Group ∷ Share ∷ Expand ∷ Unique ∷ Table (format_at format) ∷ Same ∷ Symmetries ∷ Count (count_format (format_at format)) ∷ []) task Show
 
 -- a run that is not to take any size takes what one does that is given no limits
 abbrev pub limits_at : ℕ → Limits
@@ -44,9 +47,9 @@ fault_answer ReaderNeverEnds = 14
 -- ======== What a run over memory hands over. From: this project's profile.
 
 -- this text is what a run prints of the input, which is within its limits, and these are its counts
-pub record OutputOf (limits : Limits) (kind : RunKind) (format : Format) (variant : Variant) (input text : List ℕ) (summary : Summary) : Type 0 where
+pub record OutputOf (limits : Limits) (kind : RunKind) (variant : Variant) (input text : List ℕ) (summary : Summary) : Type 0 where
   pub within : IsWithinLimits limits input
-  pub whole : text ≡ output_of_kind kind format variant (records_from limits input) ++ ending_of_kind kind format variant (records_from limits input)
+  pub whole : text ≡ output_of_kind kind variant (records_from limits input) ++ ending_of_kind kind variant (records_from limits input)
   pub counts : CountsRecords limits (is_refused variant) input summary
 
 -- the counts without the length

@@ -2,7 +2,7 @@
 ghost use Rattle.std.specs.Prelude.{◌<◌, ◌≡◌, ◌≤◌, IfSome, None};
 ghost use Rattle.fcanon_runs.specs.{fault_answer, format_at, kind_at, variant_at};
 
-use fc_collect::{Format, RunFault, RunKind, Variant};
+use fc_collect::{CountFormat, Format, RunFault, RunKind, Variant};
 
 /// The call did what it says.
 pub(crate) const DONE: u32 = 0;
@@ -34,12 +34,14 @@ pub(crate) fn game_of(number: u32) -> Option<Variant>
     }
 }
 
-/// The kind of run of this number.
-pub(crate) fn kind_of(number: u32) -> Option<RunKind>
-    ensures some { IfSome result (λ kind. (number < 11) × (kind ≡ kind_at number)) }
-    ensures none { result ≡ None → 11 ≤ number }
+/// The kind of run of a task and a format by their numbers. Each task takes each format, also where
+/// it has one alone.
+pub(crate) fn kind_of(task: u32, format: u32) -> Option<RunKind>
+    ensures some { IfSome result (λ kind. (format < 3) × (kind ≡ kind_at task format)) }
+    ensures none { result ≡ None → task < 11 → 3 ≤ format }
 {
-    match number {
+    let format = format_of(format)?;
+    match task {
         0 => Some(RunKind::Show),
         1 => Some(RunKind::Canon),
         2 => Some(RunKind::Check),
@@ -47,16 +49,16 @@ pub(crate) fn kind_of(number: u32) -> Option<RunKind>
         4 => Some(RunKind::Share),
         5 => Some(RunKind::Expand),
         6 => Some(RunKind::Unique),
-        7 => Some(RunKind::Table),
+        7 => Some(RunKind::Table(format)),
         8 => Some(RunKind::Same),
         9 => Some(RunKind::Symmetries),
-        10 => Some(RunKind::Count),
+        10 => Some(RunKind::Count(CountFormat::of(format))),
         _ => None,
     }
 }
 
 /// The format of this number.
-pub(crate) fn format_of(number: u32) -> Option<Format>
+fn format_of(number: u32) -> Option<Format>
     ensures some { IfSome result (λ format. (number < 3) × (format ≡ format_at number)) }
     ensures none { result ≡ None → 3 ≤ number }
 {

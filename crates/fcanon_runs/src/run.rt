@@ -1,12 +1,12 @@
 //! A run of a command over a collection in memory.
 ghost use Rattle.std.specs.Prelude.{◌<◌, ◌≡◌, ◌≢◌, ◌≤◌, ◌⊎◌, IfErr, IfOk, length};
-ghost use Rattle.fc_run.specs.{AreCountable};
-ghost use Rattle.fcanon_runs.specs.{fault_answer, FaultOf, format_at, HandsOver, kind_at};
-ghost use Rattle.fcanon_runs.specs.{limits_at, NeedsRoom, OutputOf, variant_at};
+ghost use Rattle.fc_collect.specs.Limits.{AreCountable};
+ghost use Rattle.fcanon_runs.specs.{fault_answer, FaultOf, HandsOver, kind_at, limits_at};
+ghost use Rattle.fcanon_runs.specs.{NeedsRoom, OutputOf, variant_at};
 
-use crate::numbers::{NO_FORMAT, NO_GAME, NO_TASK, answer_to, format_of, game_of, kind_of};
+use crate::numbers::{NO_FORMAT, NO_GAME, NO_TASK, answer_to, game_of, kind_of};
 use crate::output::{Written, hand_over};
-use fc_collect::{Counted, Format, Limits, RunFault, RunKind, Seed, Summary, Variant, run_within};
+use fc_collect::{Counted, Limits, RunFault, RunKind, Seed, Summary, Variant, run_within};
 use std::alloc::Global;
 
 /// What a call of `fcanon_run` is to do.
@@ -37,12 +37,12 @@ pub extern "C" fn fcanon_run(
     written: &mut Written,
 ) -> u32
     ensures done { result ≡ 0 → HandsOver
-        (OutputOf (limits_at request.now.any_size) (kind_at request.now.task)
-        (format_at request.now.format) (variant_at request.now.game) input.now)
+        (OutputOf (limits_at request.now.any_size) (kind_at request.now.task request.now.format)
+        (variant_at request.now.game) input.now)
         output.old output.new written.new }
     ensures no_room { result ≡ 9 → NeedsRoom
-        (OutputOf (limits_at request.now.any_size) (kind_at request.now.task)
-        (format_at request.now.format) (variant_at request.now.game) input.now)
+        (OutputOf (limits_at request.now.any_size) (kind_at request.now.task request.now.format)
+        (variant_at request.now.game) input.now)
         output.old written.new }
     ensures fault { 11 < result → FaultOf (limits_at request.now.any_size) input.now result }
     ensures no_game { 3 ≤ request.now.game → result ≡ 1 }
@@ -57,22 +57,14 @@ pub extern "C" fn fcanon_run(
     let Some(variant) = game_of(request.game) else {
         return NO_GAME;
     };
-    let Some(kind) = kind_of(request.task) else {
+    if request.task > 10 {
         return NO_TASK;
-    };
-    let Some(format) = format_of(request.format) else {
+    }
+    let Some(kind) = kind_of(request.task, request.format) else {
         return NO_FORMAT;
     };
     let limits = limits_of(request.any_size);
-    match run_over(
-        alloc,
-        kind,
-        format,
-        variant,
-        limits,
-        Seed(request.seed),
-        input,
-    ) {
+    match run_over(alloc, kind, variant, limits, Seed(request.seed), input) {
         Ok(printed) => hand_over(printed.text.as_slice(), printed.summary, output, written),
         Err(fault) => answer_to(fault),
     }
@@ -100,29 +92,19 @@ struct Printed {
 fn run_over(
     alloc: Global,
     kind: RunKind,
-    format: Format,
     variant: Variant,
     limits: Limits,
     seed: Seed,
     input: &[u8],
 ) -> Result<Printed, RunFault>
     requires { AreCountable limits }
-    ensures done { IfOk result (λ printed. OutputOf limits kind format variant input.now
+    ensures done { IfOk result (λ printed. OutputOf limits kind variant input.now
         printed.text.items printed.summary) }
     ensures fault { IfErr result (λ fault. FaultOf limits input.now (fault_answer fault)) }
 {
     let mut reader = Counted::new(input);
     let mut writer = Counted::new(Vec::new(alloc));
-    match run_within(
-        alloc,
-        kind,
-        format,
-        variant,
-        limits,
-        seed,
-        &mut reader,
-        &mut writer,
-    ) {
+    match run_within(alloc, kind, variant, limits, seed, &mut reader, &mut writer) {
         Ok(summary) => Ok(Printed {
             text: writer.into_inner(),
             summary,

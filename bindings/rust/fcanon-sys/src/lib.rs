@@ -51,13 +51,14 @@ pub struct fcanon_run {
     pub count: u8,
 }
 
+// tools/tables wrote this from fcanon.h, to the next empty line.
 /// The version of these calls.
 pub const FCANON_VERSION: u32 = 4;
-/// How many moves of one card a move of several is at most.
+/// A move of several cards is never more moves of one card than these.
 pub const FCANON_MOST_MOVES: usize = 49;
-/// How many moves of one card a board allows at most.
+/// A board never allows more moves of one card than these.
 pub const FCANON_MOST_CHILDREN: usize = 272;
-/// How many moves of several cards a board allows at most.
+/// A board never allows more moves of several cards than these.
 pub const FCANON_MOST_RUN_MOVES: usize = 672;
 
 extern "C" {

@@ -10,6 +10,7 @@ use fcanon_sys::{
     FCANON_MOST_RUN_MOVES,
 };
 
+// tools/tables wrote this from fcanon.h, to the next empty line.
 /// A game, with the number that `fcanon.h` gives it.
 #[derive(Clone, Copy, PartialEq, Eq, PartialOrd, Ord, Hash, Debug)]
 pub enum Game {
@@ -17,17 +18,15 @@ pub enum Game {
     FreeCell,
     /// Any card fills an empty column; built in suit.
     BakersGame,
-    /// Kings alone fill an empty column; built in suit, with eight cells.
+    /// Kings alone fill an empty column; built in suit.
     EightOff,
 }
+const CELLS: [usize; 3] = [4, 4, 8];
 
 impl Game {
     /// How many cells the game has.
     pub fn cells(self) -> usize {
-        match self {
-            Game::EightOff => 8,
-            _ => 4,
-        }
+        CELLS[self as usize]
     }
 }
 

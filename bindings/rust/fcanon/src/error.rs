@@ -31,7 +31,9 @@ macro_rules! reasons {
             fn of(answer: u32) -> Reason {
                 match answer {
                     $($answer => Reason::$name,)*
-                    128..=179 => Reason::MissingCard(Card((answer - 128) as u8)),
+                    FIRST_MISSING_CARD..=LAST_MISSING_CARD => {
+                        Reason::MissingCard(Card((answer - FIRST_MISSING_CARD) as u8))
+                    }
                     _ => Reason::Other(answer),
                 }
             }
@@ -40,7 +42,7 @@ macro_rules! reasons {
             pub fn answer(self) -> u32 {
                 match self {
                     $(Reason::$name => $answer,)*
-                    Reason::MissingCard(Card(number)) => 128 + u32::from(number),
+                    Reason::MissingCard(Card(number)) => FIRST_MISSING_CARD + u32::from(number),
                     Reason::Other(answer) => answer,
                 }
             }
@@ -48,6 +50,7 @@ macro_rules! reasons {
     };
 }
 
+// tools/tables wrote this from fcanon.h, to the next empty line.
 reasons! {
     NoGame = 1,
     NoPassage = 2,
@@ -74,6 +77,8 @@ reasons! {
     BadFoundation = 68,
     RepeatedCard = 69,
 }
+const FIRST_MISSING_CARD: u32 = 128;
+const LAST_MISSING_CARD: u32 = 179;
 
 impl fmt::Display for Reason {
     fn fmt(&self, f: &mut fmt::Formatter) -> fmt::Result {

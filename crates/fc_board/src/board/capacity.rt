@@ -1,6 +1,7 @@
 //! How many cards can be moved at once.
 ghost use Rattle.std.specs.Prelude.{◌<◌, ◌≡◌, ◌≤◌};
-ghost use Rattle.fc_parts.specs.{capacity, free_cells, IsWellFormed, spare_columns};
+ghost use Rattle.fc_board.specs.Boards.{IsWellFormed};
+ghost use Rattle.fc_board.specs.Steps.{capacity, free_cells, spare_columns};
 
 use super::Board;
 use crate::Rule;

@@ -1,12 +1,12 @@
 //! The moves of one card that a move of several is short for.
 ghost use Rattle.std.specs.Prelude.{◌↔◌, ◌≡◌, IfErr, IfOk, IsOk, None, Some};
-ghost use Rattle.fc_parts.specs.{Expands, expansion_of, IsWellFormed, run_refusal, RunFits};
-ghost use Rattle.fc_parts.specs.declared.run_move.RunMove.TheVariants.{One, Run};
+ghost use Rattle.fc_board.specs.{Boards.{IsWellFormed}, Moves.{RunFits}};
+ghost use Rattle.fc_board.specs.{Play.{Expands, expansion_of}, Steps.{run_refusal}};
+ghost use Rattle.fc_board.specs.declared.run_move.RunMove.TheVariants.{One, Run};
 
 use super::Board;
-use crate::{Move, Rule, RunMove, StepFault};
+use crate::{Move, Rule, RunMove, StepFault, put_expansion};
 use arrayvec::ArrayVec;
-use fc_parts::put_expansion;
 
 impl<R: Rule> Board<R> {
     /// The moves of one card, one after another, that do what the move does, or the reason for

@@ -1,7 +1,7 @@
 //! Lists of moves on a board, of one card and of several.
 ghost use Rattle.std.specs.Prelude.{◌↔◌, All, IfErr, IfOk, IsOk, take};
-ghost use Rattle.fc_parts.specs.{Fits, IsWellFormed, Legal, OneCard, Plays, RefusedAt, RunFits};
-ghost use Rattle.fc_parts.specs.{Runs};
+ghost use Rattle.fc_board.specs.{Boards.{IsWellFormed}, Moves.{Fits, OneCard, RunFits, Runs}};
+ghost use Rattle.fc_board.specs.Play.{Legal, Plays, RefusedAt};
 
 use super::Board;
 use crate::{Move, PlayFault, Rule, RunMove};

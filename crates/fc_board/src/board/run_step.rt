@@ -1,17 +1,17 @@
 //! Moves of several cards on a board.
 ghost use Rattle.std.specs.Prelude.{◌<◌, ◌↔◌, ◌≡◌, ◌≢◌, ◌≤◌, [], IfErr, IfOk, is_none, IsOk};
 ghost use Rattle.std.specs.Prelude.{length, List, None, Option, Some, ℕ};
-ghost use Rattle.fc_parts.specs.{column_at, first_of_last, inside.{board_with, size_of}, IsCount};
-ghost use Rattle.fc_parts.specs.{IsWellFormed, last_cards, longest_run, matches_stated};
-ghost use Rattle.fc_parts.specs.{moved_count, onto_card, onto_nothing, run_count, run_moved};
-ghost use Rattle.fc_parts.specs.{run_refusal, RunFits, RunStep};
-ghost use Rattle.fc_parts.specs.declared.run_move.RunMove.TheVariants.{Run};
+ghost use Rattle.fc_board.specs.{Boards.{IsWellFormed}, inside.{board_with, size_of}};
+ghost use Rattle.fc_board.specs.{Moves.{IsCount, RunFits}, Steps.{column_at, first_of_last}};
+ghost use Rattle.fc_board.specs.Steps.{last_cards, longest_run, matches_stated, moved_count};
+ghost use Rattle.fc_board.specs.Steps.{onto_card, onto_nothing, run_count, run_moved, run_refusal};
+ghost use Rattle.fc_board.specs.Steps.{RunStep};
+ghost use Rattle.fc_board.specs.declared.run_move.RunMove.TheVariants.{Run};
 
 use super::Board;
-use crate::{Rule, RunMove, StepFault};
+use crate::{Columns, Rule, RunMove, StepFault};
 use arrayvec::ArrayVec;
 use fc_card::Card;
-use fc_parts::Columns;
 
 impl<R: Rule> Board<R> {
     /// Moves one card, or the last cards of a column in one go, or returns the first reason for

@@ -1,14 +1,14 @@
 //! Moves of one card on a board.
 ghost use Rattle.std.specs.Prelude.{◌↔◌, ◌≡◌, IfErr, IfOk, is_none, IsOk, List, Some, ℕ};
-ghost use Rattle.fc_parts.specs.{card_at, column_refusal, eight_off, fault_unless, Fits};
-ghost use Rattle.fc_parts.specs.{inside.{board_with, HasCard, HasRoomAt}, is_same_pile};
-ghost use Rattle.fc_parts.specs.{IsWellFormed, place_refusal, PlaceFits, put_on, refusal};
-ghost use Rattle.fc_parts.specs.{SourceFits, Step, taken_from};
+ghost use Rattle.fc_board.specs.{Boards.{IsWellFormed}, Games.{eight_off}};
+ghost use Rattle.fc_board.specs.inside.{board_with, HasCard, HasRoomAt};
+ghost use Rattle.fc_board.specs.{Moves.{Fits, PlaceFits, SourceFits}, Steps.{card_at}};
+ghost use Rattle.fc_board.specs.Steps.{column_refusal, fault_unless, is_same_pile, place_refusal};
+ghost use Rattle.fc_board.specs.Steps.{put_on, refusal, Step, taken_from};
 
 use super::Board;
-use crate::{Height, Move, Place, Rule, Source, StepFault};
+use crate::{Columns, Height, Move, Place, Rule, Source, StepFault};
 use fc_card::Card;
-use fc_parts::Columns;
 
 impl<R: Rule> Board<R> {
     /// Moves one card, or returns the first reason of `StepFault` for which the game refuses the

@@ -10,9 +10,9 @@ pub struct BakersGame;
 
 impl Rule for BakersGame {
     ghost use Rattle.std.specs.Prelude.{false, true};
-    ghost use Rattle.fc_parts.specs.{all_renamings, bakers_game};
-    ghost use Rattle.fc_parts.specs.laws.{RenamingTests.{bakers_game_laws}, VariantNames.{names}};
-    ghost use Rattle.fc_parts.specs.declared.rule.Variant.TheVariants as variant;
+    ghost use Rattle.fc_board.specs.Games.{all_renamings, bakers_game};
+    ghost use Rattle.fc_board.specs.laws.{RenamingTests.{bakers_game_laws}, VariantNames.{names}};
+    ghost use Rattle.fc_board.specs.declared.rule.Variant.TheVariants as variant;
 
     ghost game = { bakers_game };
 

@@ -10,9 +10,9 @@ pub struct EightOff;
 
 impl Rule for EightOff {
     ghost use Rattle.std.specs.Prelude.{true};
-    ghost use Rattle.fc_parts.specs.{all_renamings, eight_off, laws.RenamingTests.{eight_off_laws}};
-    ghost use Rattle.fc_parts.specs.laws.VariantNames.{names};
-    ghost use Rattle.fc_parts.specs.declared.rule.Variant.TheVariants as variant;
+    ghost use Rattle.fc_board.specs.Games.{all_renamings, eight_off};
+    ghost use Rattle.fc_board.specs.laws.{RenamingTests.{eight_off_laws}, VariantNames.{names}};
+    ghost use Rattle.fc_board.specs.declared.rule.Variant.TheVariants as variant;
 
     ghost game = { eight_off };
 

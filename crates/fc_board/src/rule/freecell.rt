@@ -10,9 +10,9 @@ pub struct FreeCell;
 
 impl Rule for FreeCell {
     ghost use Rattle.std.specs.Prelude.{false, true};
-    ghost use Rattle.fc_parts.specs.{colour_renamings, freecell};
-    ghost use Rattle.fc_parts.specs.laws.{RenamingTests.{freecell_laws}, VariantNames.{names}};
-    ghost use Rattle.fc_parts.specs.declared.rule.Variant.TheVariants as variant;
+    ghost use Rattle.fc_board.specs.Games.{colour_renamings, freecell};
+    ghost use Rattle.fc_board.specs.laws.{RenamingTests.{freecell_laws}, VariantNames.{names}};
+    ghost use Rattle.fc_board.specs.declared.rule.Variant.TheVariants as variant;
 
     ghost game = { freecell };
 

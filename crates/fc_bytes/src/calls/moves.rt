@@ -1,6 +1,6 @@
 //! Moves played, and carried through passages.
 ghost use Rattle.std.specs.Prelude.{◌<◌, ◌≡◌, ◌≤◌};
-ghost use Rattle.fc_parts.specs.{carried_move, refusal, Step};
+ghost use Rattle.fc_board.specs.{Passages.{carried_move}, Steps.{refusal, Step}};
 ghost use Rattle.fc_bytes.specs.{CarriesMove, HoldsBoard, HoldsFirstAlone, HoldsMove, HoldsNone};
 ghost use Rattle.fc_bytes.specs.{HoldsPassage, LeadsToChild, PlaysMove, RefusesMove};
 

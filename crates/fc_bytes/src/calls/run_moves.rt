@@ -1,8 +1,9 @@
 //! The moves of several cards that a board allows.
-ghost use Rattle.{arrayvec.specs.ArrayVec.{array_vec_len}, fc_parts.specs.{column_at, longest_run}};
+ghost use Rattle.arrayvec.specs.ArrayVec.{array_vec_len};
 ghost use Rattle.std.specs.List.{Contains};
 ghost use Rattle.std.specs.Prelude.{◌++◌, ◌+◌, ◌<◌, ◌↔◌, ◌≡◌, ◌≤◌, ◌⊎◌, [], drop, length, map, ℕ};
-ghost use Rattle.fc_parts.specs.declared.run_move.RunMove.{RunMove as Several};
+ghost use Rattle.fc_board.specs.Steps.{column_at, longest_run};
+ghost use Rattle.fc_board.specs.declared.run_move.RunMove.{RunMove as Several};
 ghost use Rattle.fc_bytes.specs.{AreRuns, HoldsBoard, HoldsNone, IsAllowedRun, legal_runs};
 ghost use Rattle.fc_bytes.specs.{legal_runs_between, legal_runs_from, OfLegalRuns, run_bytes};
 

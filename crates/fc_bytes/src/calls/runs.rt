@@ -1,6 +1,7 @@
 //! Moves of several cards: how many can go, and such moves played, carried, and taken apart.
 ghost use Rattle.std.specs.Prelude.{◌++◌, ◌<◌, ◌≡◌, ◌≤◌, ◌⊎◌, All, drop, length, map};
-ghost use Rattle.fc_parts.specs.{carried_run, Fits, run_refusal, RunStep};
+ghost use Rattle.fc_board.specs.{Moves.{Fits}, Passages.{carried_run}};
+ghost use Rattle.fc_board.specs.Steps.{run_refusal, RunStep};
 ghost use Rattle.fc_bytes.specs.{AreMoves, CarriesMove, HasCapacity, HoldsBoard, HoldsFirstAlone};
 ghost use Rattle.fc_bytes.specs.{HoldsNone, HoldsPassage, HoldsRun, move_bytes, NamesColumn};
 ghost use Rattle.fc_bytes.specs.{OfExpansion, PlaysMove, RefusesMove};

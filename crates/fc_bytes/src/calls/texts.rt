@@ -1,6 +1,6 @@
 //! Texts of boards.
 ghost use Rattle.std.specs.Prelude.{◌<◌, ◌≡◌, ◌≤◌};
-ghost use Rattle.fc_print.specs.{text_of};
+ghost use Rattle.fc_text.specs.Printed.{text_of};
 ghost use Rattle.fc_bytes.specs.{HasFault, HoldsBoard, HoldsNone, ReadsText, WritesText};
 
 use crate::BoardBytes;

@@ -1,14 +1,17 @@
 //! The line of `count`: figures of a whole collection.
 ghost use Rattle.std.specs.{Fmt.{decimal}, List.{count_by, filter}, Option.{is_some}};
 ghost use Rattle.std.specs.Prelude.{◌++◌, ◌+◌, ◌||◌, ◌∷◌, ◌≡◌, [], IfOk, length, List, OnOk, ℕ};
-ghost use Rattle.{fc_parts.specs.{list_verdict}, fc_record.specs.{inside.Fitting.{AllFit}, is_win}};
-ghost use Rattle.fc_engine.specs.{figures, figures_line, figures_object, Member, solution_of};
-ghost use Rattle.fc_groups.specs.inside.{Gathers, group_key, HasBoard};
-ghost use Rattle.fc_collect.specs.inside.{figures_seen, KeepsSolved, KeepsTally};
+ghost use Rattle.fc_board.specs.Play.{list_verdict};
+ghost use Rattle.fc_record.specs.{inside.Fitting.{AllFit}, Tables.{is_win}};
+ghost use Rattle.fc_collect.specs.Groups.{figures, figures_line, figures_object, Member};
+ghost use Rattle.fc_collect.specs.{Groups.{solution_of}, inside.{figures_seen, Gathers, group_key}};
+ghost use Rattle.fc_collect.specs.inside.{HasBoard, KeepsSolved, KeepsTally};
 
+use crate::{
+    AnyGame, Command, Counted, Gathered, GroupKey, RunFault, Seed, Summary, key_and_passage,
+    write_full,
+};
 use fc_board::{Board, Rule};
-use fc_engine::{AnyGame, Command, Counted, RunFault, Seed, Summary, write_full};
-use fc_groups::{Gathered, GroupKey, key_and_passage};
 use fc_record::{
     Contents, Heading, MoveList, PrintsRefusal, RefusalLine, RefusalObject, push_number,
 };

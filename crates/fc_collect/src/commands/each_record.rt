@@ -2,7 +2,7 @@
 
 ghost use Rattle.std.specs.Prelude.{[]};
 
-use fc_engine::{AnyGame, Command, Counted, RunFault, Seed, Summary};
+use crate::{AnyGame, Command, Counted, RunFault, Seed, Summary};
 use fc_record::{Contents, Heading, PrintsRecord};
 use std::alloc::{AllocError, Global};
 use std::io::Write;

@@ -1,14 +1,12 @@
 //! The lines of `group`: for each group the names of its members and their canonical board.
 ghost use Rattle.std.specs.Prelude.{◌++◌, ◌≡◌, All, List, OnOk};
-ghost use Rattle.fc_engine.specs.{canonical_text, group_lines, Member};
-ghost use Rattle.fc_groups.specs.inside.{group_key, HasBoard};
-ghost use Rattle.fc_collect.specs.inside.{KeepsNames};
+ghost use Rattle.fc_collect.specs.Groups.{canonical_text, group_lines, Member};
+ghost use Rattle.fc_collect.specs.inside.{group_key, HasBoard, KeepsNames};
 
 use crate::commands::names::GroupNames;
+use crate::{AnyGame, Counted, Gathering, GroupKey, RunFault, write_full};
 use fc_board::{BakersGame, EightOff, FreeCell, Variant};
 use fc_canon::Passage;
-use fc_engine::{AnyGame, Counted, RunFault, write_full};
-use fc_groups::{Gathering, GroupKey};
 use fc_record::{Contents, Heading, push_header, push_name, push_number};
 use std::alloc::{AllocError, Global};
 use std::io::Write;

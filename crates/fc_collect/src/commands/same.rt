@@ -1,12 +1,11 @@
 //! The lines of `same`: the passage from the first board to that of each later record.
 ghost use Rattle.std.specs.Prelude.{◌++◌, ◌≡◌, [], OnOk};
-ghost use Rattle.fc_engine.specs.{Member};
-ghost use Rattle.fc_collect.specs.inside.{IsBoardOf, KeepsFirst};
-ghost use Rattle.fc_collect.specs.{passage_found, passage_to, same_lines};
+ghost use Rattle.fc_collect.specs.{Groups.{Member}, inside.{IsBoardOf, KeepsFirst}};
+ghost use Rattle.fc_collect.specs.Runs.{passage_found, passage_to, same_lines};
 
+use crate::{AnyBoard, AnyGame, Command, Counted, RunFault, Seed, Summary};
 use fc_board::{Board, Rule};
 use fc_canon::{Passage, same};
-use fc_engine::{AnyBoard, AnyGame, Command, Counted, RunFault, Seed, Summary};
 use fc_record::{Contents, Heading, RefusalLine, push_name, push_passage_words};
 use std::alloc::{AllocError, Global};
 use std::io::Write;

@@ -1,11 +1,12 @@
 //! The records of `unique`: of each group the first member, as it comes.
 ghost use Rattle.indexmap.specs.IndexSet.{insert_key};
 ghost use Rattle.std.specs.{List.{list_any}, Prelude.{◌≡◌, [], All, IfOk, map, not, OnOk}};
-ghost use Rattle.fc_engine.specs.{leaders_after, unique_lines};
-ghost use Rattle.fc_groups.specs.inside.{group_key, HasBoard, same_key};
+ghost use Rattle.fc_collect.specs.Groups.{leaders_after, unique_lines};
+ghost use Rattle.fc_collect.specs.inside.{group_key, HasBoard, same_key};
 
-use fc_engine::{AnyGame, Command, Counted, KeyHasher, RunFault, Seed, Summary};
-use fc_groups::{GroupKey, key_and_passage};
+use crate::{
+    AnyGame, Command, Counted, GroupKey, KeyHasher, RunFault, Seed, Summary, key_and_passage,
+};
 use fc_record::{Contents, Heading, PrintsRecord, RefusalLine, ShowLines};
 use indexmap::IndexSet;
 use std::alloc::{AllocError, Global};

@@ -1,11 +1,12 @@
 //! Laws of the capacity: no more cards than it says can go over, and as many can.
 ghost use Rattle.std.specs.Prelude.{◌++◌, ◌<◌, ◌↔◌, ◌∷◌, ◌≡◌, ◌≢◌, ◌⊎◌, length, List, None, Option};
 ghost use Rattle.std.specs.Prelude.{Some, true, ℕ};
-ghost use Rattle.fc_parts.specs.{Board, Builds, capacity, column_at, Confined, is_run};
-ghost use Rattle.fc_parts.specs.{IsWellFormed, last_card, last_cards, moved_count, OneCard, Plays};
-ghost use Rattle.fc_parts.specs.{run_moved, run_refusal, RunFits};
-ghost use Rattle.fc_parts.specs.declared.fault.StepFault.TheVariants.{OverCapacity};
-ghost use Rattle.fc_parts.specs.declared.{moves.Move.{Move}, run_move.RunMove.TheVariants.{Run}};
+ghost use Rattle.fc_board.specs.{Boards.{Board, IsWellFormed}, Games.{Builds}};
+ghost use Rattle.fc_board.specs.{Moves.{OneCard, RunFits}, Play.{Plays}, Steps.{capacity}};
+ghost use Rattle.fc_board.specs.Steps.{column_at, Confined, is_run, last_card, last_cards};
+ghost use Rattle.fc_board.specs.Steps.{moved_count, run_moved, run_refusal};
+ghost use Rattle.fc_board.specs.declared.fault.StepFault.TheVariants.{OverCapacity};
+ghost use Rattle.fc_board.specs.declared.{moves.Move.{Move}, run_move.RunMove.TheVariants.{Run}};
 
 use fc_board::Rule;
 

@@ -1,13 +1,15 @@
 //! Laws of play on carried boards, for every game: a move and its image, a list and its images go
 //! alike.
 ghost use Rattle.std.specs.Prelude.{◌↔◌, ◌≡◌, None, Some, ℕ};
-ghost use Rattle.fc_parts.specs.{Board, carried, carried_move, carried_run, Carries, Fits};
-ghost use Rattle.fc_parts.specs.{freecell, identity_passage, IsPassage, IsWellFormed, Legal};
-ghost use Rattle.fc_parts.specs.{list_image, MoveList, Passage, Plays, PlaysAlike, refusal};
-ghost use Rattle.fc_parts.specs.{RefusedAt, run_refusal, RunFits, RunStep, Step, Wins};
-ghost use Rattle.fc_parts.specs.declared.fault.StepFault.{StepFault, TheVariants.{EmptySource}};
-ghost use Rattle.fc_parts.specs.declared.fault.StepFault.TheVariants.{NotBuilding, SamePile};
-ghost use Rattle.fc_parts.specs.declared.{moves.Move.{Move}, run_move.RunMove.{RunMove}};
+ghost use Rattle.fc_board.specs.{Boards.{Board, IsWellFormed}, Games.{freecell}};
+ghost use Rattle.fc_board.specs.{Moves.{Fits, list_image, MoveList, RunFits}, Passages.{carried}};
+ghost use Rattle.fc_board.specs.Passages.{carried_move, carried_run, Carries, identity_passage};
+ghost use Rattle.fc_board.specs.Passages.{IsPassage, Passage};
+ghost use Rattle.fc_board.specs.Play.{Legal, Plays, PlaysAlike, RefusedAt, Wins};
+ghost use Rattle.fc_board.specs.Steps.{refusal, run_refusal, RunStep, Step};
+ghost use Rattle.fc_board.specs.declared.fault.StepFault.{StepFault, TheVariants.{EmptySource}};
+ghost use Rattle.fc_board.specs.declared.fault.StepFault.TheVariants.{NotBuilding, SamePile};
+ghost use Rattle.fc_board.specs.declared.{moves.Move.{Move}, run_move.RunMove.{RunMove}};
 ghost use Rattle.fc_laws.specs.BoardExamples.{deal_1, deal_1_after_one, mixed_colours, move_32};
 ghost use Rattle.fc_laws.specs.BoardExamples.{move_outside};
 

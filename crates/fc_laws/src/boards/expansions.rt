@@ -1,10 +1,10 @@
 //! Laws of the moves of one card that moves of several are short for.
 ghost use Rattle.std.specs.Prelude.{◌++◌, ◌<◌, ◌↔◌, ◌∷◌, ◌≡◌, ◌≢◌, ◌≤◌, length, List, true, ℕ};
-ghost use Rattle.fc_parts.specs.{Board, capacity, column_at, Confined, Expands, expansion};
-ghost use Rattle.fc_parts.specs.{expansion_of, expansions, free_cells, is_run, IsWellFormed};
-ghost use Rattle.fc_parts.specs.{last_card, Legal, MayFollow, OneCard, Plays, run_moved, Runs};
-ghost use Rattle.fc_parts.specs.{RunStep, spare_columns, Wins};
-ghost use Rattle.fc_parts.specs.declared.run_move.RunMove.{RunMove};
+ghost use Rattle.fc_board.specs.{Boards.{Board, IsWellFormed}, Moves.{expansion, OneCard, Runs}};
+ghost use Rattle.fc_board.specs.Play.{Expands, expansion_of, expansions, Legal, Plays, Wins};
+ghost use Rattle.fc_board.specs.Steps.{capacity, column_at, Confined, free_cells, is_run};
+ghost use Rattle.fc_board.specs.Steps.{last_card, MayFollow, run_moved, RunStep, spare_columns};
+ghost use Rattle.fc_board.specs.declared.run_move.RunMove.{RunMove};
 
 use fc_board::Rule;
 
@@ -42,7 +42,7 @@ pub fn expansions_go_over<R: Rule>()
 
 /// A run has at most thirteen cards, and over at most eight helper columns its expansion at most 49
 /// moves, whatever cells are empty.
-#[tactic(auto, using(fc_parts::proofs::ShortLemmas::short))]
+#[tactic(auto, using(fc_board::proofs::ShortLemmas::short))]
 pub fn expansions_are_short()
     ensures { (cells spare_columns : List ℕ) (count from to : ℕ) → count ≤ 13
         → length spare_columns ≤ 8

@@ -1,9 +1,11 @@
 //! Laws of lists: of their verdicts, and of moves of several cards.
 ghost use Rattle.std.specs.Prelude.{◌↔◌, ◌≡◌, ◌≤◌, length, List, None, ℕ};
-ghost use Rattle.fc_parts.specs.{after_run_move, Board, Game, height_of, IsWellFormed, Legal};
-ghost use Rattle.fc_parts.specs.{list_verdict, ListFits, MoveList, OnlyLegal, Plays, Refused};
-ghost use Rattle.fc_parts.specs.{RefusedAt, run_refusal, RunFits, Runs, RunStep, Wins, Won};
-ghost use Rattle.fc_parts.specs.declared.{fault.StepFault.{StepFault}, run_move.RunMove.{RunMove}};
+ghost use Rattle.fc_board.specs.{Boards.{Board, IsWellFormed}, Games.{Game}};
+ghost use Rattle.fc_board.specs.{Moves.{ListFits, MoveList, RunFits, Runs}, Play.{Legal}};
+ghost use Rattle.fc_board.specs.Play.{list_verdict, OnlyLegal, Plays, Refused, RefusedAt, Wins};
+ghost use Rattle.fc_board.specs.Play.{Won};
+ghost use Rattle.fc_board.specs.Steps.{after_run_move, height_of, run_refusal, RunStep};
+ghost use Rattle.fc_board.specs.declared.{fault.StepFault.{StepFault}, run_move.RunMove.{RunMove}};
 
 use fc_board::Rule;
 

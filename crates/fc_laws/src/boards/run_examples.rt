@@ -1,15 +1,16 @@
 //! Moves of several cards on boards at the end of games.
 ghost use Rattle.std.specs.Prelude.{◌∷◌, ◌≡◌, [], length, map, None, Some};
 ghost use Rattle.fc_card.specs.{places};
-ghost use Rattle.fc_parts.specs.{after_move, capacity, column_at, Confined, eight_off};
-ghost use Rattle.fc_parts.specs.{expansion_of, expansions, freecell, IsWellFormed, moved_count};
-ghost use Rattle.fc_parts.specs.{OnlyLegal, run_image, run_refusal, run_verdict, RunFits, verdict};
-ghost use Rattle.fc_parts.specs.{Won};
-ghost use Rattle.fc_parts.specs.declared.fault.StepFault.TheVariants.{EmptySource, KingsOnly};
-ghost use Rattle.fc_parts.specs.declared.fault.StepFault.TheVariants.{NoRun, NotBuilding};
-ghost use Rattle.fc_parts.specs.declared.fault.StepFault.TheVariants.{OverCapacity, SamePile};
-ghost use Rattle.fc_parts.specs.declared.fault.StepFault.TheVariants.{WrongCount};
-ghost use Rattle.fc_parts.specs.declared.run_move.RunMove.TheVariants.{One};
+ghost use Rattle.fc_board.specs.{Boards.{IsWellFormed}, Games.{eight_off, freecell}};
+ghost use Rattle.fc_board.specs.{Moves.{RunFits}, Passages.{run_image}, Play.{expansion_of}};
+ghost use Rattle.fc_board.specs.Play.{expansions, OnlyLegal, run_verdict, verdict, Won};
+ghost use Rattle.fc_board.specs.Steps.{after_move, capacity, column_at, Confined, moved_count};
+ghost use Rattle.fc_board.specs.Steps.{run_refusal};
+ghost use Rattle.fc_board.specs.declared.fault.StepFault.TheVariants.{EmptySource, KingsOnly};
+ghost use Rattle.fc_board.specs.declared.fault.StepFault.TheVariants.{NoRun, NotBuilding};
+ghost use Rattle.fc_board.specs.declared.fault.StepFault.TheVariants.{OverCapacity, SamePile};
+ghost use Rattle.fc_board.specs.declared.fault.StepFault.TheVariants.{WrongCount};
+ghost use Rattle.fc_board.specs.declared.run_move.RunMove.TheVariants.{One};
 ghost use Rattle.fc_laws.specs.BoardExamples.{across, away, back, eight_cells_full, helper_empty};
 ghost use Rattle.fc_laws.specs.BoardExamples.{home, nothing_empty, one_column_empty, run};
 ghost use Rattle.fc_laws.specs.BoardExamples.{run_of_count, thirteen_in_a_run, three_clubs_left};

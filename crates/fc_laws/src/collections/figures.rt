@@ -4,12 +4,14 @@ ghost use Rattle.std.specs.Fmt.{decimal};
 ghost use Rattle.std.specs.List.{All, Contains, count_by, filter, flat_map, list_any};
 ghost use Rattle.std.specs.Prelude.{◌++◌, ◌+◌, ◌<◌, ◌^◌, ◌↔◌, ◌∷◌, ◌≡◌, [], Bool, codes, false};
 ghost use Rattle.std.specs.Prelude.{length, List, map, slice_index_or, Some, true, ℕ};
-ghost use Rattle.fc_parts.specs.{game_of, move_count, MoveList, Wins};
-ghost use Rattle.fc_parts.specs.declared.rule.Variant.{Variant};
-ghost use Rattle.{fc_print.specs.{blank, line_feed}, fc_record.specs.{RecordText, verdict_line}};
-ghost use Rattle.fc_run.specs.declared.outcome.Summary.{Summary};
-ghost use Rattle.fc_engine.specs.{belong_together, figures, figures_object, groups_of, Member};
-ghost use Rattle.fc_engine.specs.{members_among, name_of_member, records_of, summary_of};
+ghost use Rattle.fc_board.specs.{Games.{game_of}, Moves.{move_count, MoveList}, Play.{Wins}};
+ghost use Rattle.fc_board.specs.declared.rule.Variant.{Variant};
+ghost use Rattle.fc_text.specs.Bytes.{blank, line_feed};
+ghost use Rattle.fc_record.specs.{Printing.{verdict_line}, RecordTexts.{RecordText}};
+ghost use Rattle.fc_collect.specs.Groups.{belong_together, figures, figures_object, groups_of};
+ghost use Rattle.fc_collect.specs.Groups.{Member, members_among, name_of_member, summary_of};
+ghost use Rattle.fc_collect.specs.Records.{records_of};
+ghost use Rattle.fc_collect.specs.declared.streams.faults.Summary.{Summary};
 
 /// The records are those that are refused, one for each group, and the doubles.
 pub fn each_record_is_counted_once()

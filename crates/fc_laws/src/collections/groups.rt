@@ -1,13 +1,15 @@
 //! Laws of groups.
 ghost use Rattle.std.specs.{List.{All, Contains, filter, flat_map}, Prelude.{◌↔◌, ◌∷◌, ◌≡◌, ◌≤◌}};
 ghost use Rattle.std.specs.Prelude.{[], length, List, map, slice_get, Some, take, true, ℕ};
-ghost use Rattle.{fc_card.specs.{pick}, fc_parts.specs.{game_of, IsWellFormed, ListFits, MoveList}};
-ghost use Rattle.{fc_canon.specs.{Equivalent}, fc_parts.specs.declared.rule.Variant.{Variant}};
-ghost use Rattle.fc_record.specs.{canon_lines, expand_lines, printed, show_lines};
-ghost use Rattle.fc_run.specs.{most_countable};
-ghost use Rattle.fc_engine.specs.{belong_together, group_lines, grouped, groups_of, leaders_after};
-ghost use Rattle.fc_engine.specs.{Member, members_among, output_of_records, records_of};
-ghost use Rattle.fc_engine.specs.{share_lines, unique_output, whole_output};
+ghost use Rattle.{fc_board.specs.declared.rule.Variant.{Variant}, fc_card.specs.{pick}};
+ghost use Rattle.fc_board.specs.{Boards.{IsWellFormed}, Games.{game_of}};
+ghost use Rattle.fc_board.specs.Moves.{ListFits, MoveList};
+ghost use Rattle.fc_canon.specs.{Equivalent};
+ghost use Rattle.fc_record.specs.Printing.{canon_lines, expand_lines, printed, show_lines};
+ghost use Rattle.fc_collect.specs.Groups.{belong_together, group_lines, grouped, groups_of};
+ghost use Rattle.fc_collect.specs.Groups.{leaders_after, Member, members_among, share_lines};
+ghost use Rattle.fc_collect.specs.{Groups.{unique_output}, Limits.{most_countable}};
+ghost use Rattle.fc_collect.specs.Records.{output_of_records, records_of, whole_output};
 
 /// The accepted records of a collection have well-formed boards and lists of moves of their games,
 /// and no two of them have one number.
@@ -57,7 +59,7 @@ pub fn together_exactly_where_equivalent()
 {}
 
 /// Each accepted record belongs together with exactly one of those that lead the groups.
-#[tactic(auto, using(fc_collect::proofs::GroupLemmas::one_leader))]
+#[tactic(auto, using(fc_collect::proofs::GroupNameLemmas::one_leader))]
 pub fn each_member_has_one_leader()
     ensures { (members : List Member) (member : Member) → Contains members member
         → length (filter (λ leader. belong_together leader member) (leaders_after [] members)) ≡ 1 }

@@ -1,6 +1,6 @@
 //! Laws of the hashes of a run's keys.
 ghost use Rattle.std.specs.{Hash.FoldHasher.{finish, write}, Prelude.{◌-◌, ◌^◌, ◌≡◌, codes}};
-ghost use Rattle.fc_run.specs.{begun_with};
+ghost use Rattle.fc_collect.specs.Limits.{begun_with};
 
 /// Another seed gives the same key another hash: the key of these three bytes has these numbers, by
 /// the seeds 0, 1 and the greatest one.

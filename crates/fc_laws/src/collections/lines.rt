@@ -1,21 +1,25 @@
 //! Laws of what a record says and of what is printed for it.
 ghost use Rattle.std.specs.{List.{All, find}, Prelude.{◌++◌, ◌+◌, ◌↔◌, ◌∷◌, ◌≡◌, ◌≢◌, ◌≤◌, []}};
 ghost use Rattle.std.specs.Prelude.{Err, false, List, None, Ok, Option, Some, true, ℕ};
-ghost use Rattle.fc_parts.specs.{Board, Game, game_of, IsWellFormed, MoveList, renamings_of};
-ghost use Rattle.{fc_parts.specs.declared.rule.Variant.{Variant}, fc_run.specs.{most_countable}};
-ghost use Rattle.fc_print.specs.{BadTokenAt, IsRunToken, IsToken, line_feed, lines_from};
-ghost use Rattle.fc_print.specs.{number_sign, TooManyAt};
-ghost use Rattle.{fc_engine.specs.{if_record, records_of}, fc_text.specs.{first_fault, Spells}};
+ghost use Rattle.fc_board.specs.{Boards.{Board, IsWellFormed}, Games.{Game, game_of, renamings_of}};
+ghost use Rattle.fc_board.specs.Moves.{MoveList};
+ghost use Rattle.fc_board.specs.declared.rule.Variant.{Variant};
+ghost use Rattle.fc_text.specs.{Bytes.{line_feed, number_sign}, Faults.{first_fault}};
+ghost use Rattle.fc_text.specs.Lines.{lines_from};
+ghost use Rattle.fc_text.specs.Notation.{BadTokenAt, IsRunToken, IsToken, TooManyAt};
+ghost use Rattle.fc_text.specs.Spelling.{Spells};
 ghost use Rattle.fc_text.specs.declared.fault.BoardFault.{BoardFault as FoundFault};
 ghost use Rattle.fc_canon.specs.{Canonical, Chosen, chosen_passage, least_text};
-ghost use Rattle.fc_record.specs.{Accepted, begins_with, Contents, ends_line, Heading, IsFaulty};
-ghost use Rattle.fc_record.specs.{IsList, list_mark, list_read, name_of, reading_of, RecordSays};
-ghost use Rattle.fc_record.specs.{Refused, show_lines, with_header, without_header};
+ghost use Rattle.fc_record.specs.Grammar.{Accepted, begins_with, Contents, Heading, IsFaulty};
+ghost use Rattle.fc_record.specs.Grammar.{IsList, list_mark, list_read, reading_of, RecordSays};
+ghost use Rattle.fc_record.specs.Grammar.{Refused, with_header, without_header};
+ghost use Rattle.fc_record.specs.{Printing.{name_of, show_lines}, RecordTexts.{ends_line}};
 ghost use Rattle.fc_record.specs.declared.record.RecordFault.{RecordFault};
 ghost use Rattle.fc_record.specs.declared.record.RecordFaultKind.TheVariants.{BadToken};
 ghost use Rattle.fc_record.specs.declared.record.RecordFaultKind.TheVariants.{Board as BoardFault};
 ghost use Rattle.fc_record.specs.declared.record.RecordFaultKind.TheVariants.{TooManyMoves};
-ghost use Rattle.fc_collect.specs.{header_starts};
+ghost use Rattle.fc_collect.specs.{Limits.{most_countable}, Pieces.{header_starts}};
+ghost use Rattle.fc_collect.specs.Records.{if_record, records_of};
 
 /// A record is accepted exactly where its header says something, its board text spells a board and
 /// the lines from the first list on are lists, blank or comments.

@@ -1,13 +1,15 @@
 //! Laws of the lists of a record: what `check` and `expand` print for each.
 ghost use Rattle.std.specs.{Fmt.{decimal}, List.{Contains}, Prelude.{◌++◌, ◌+◌, ◌<◌, ◌↔◌, ◌∷◌}};
 ghost use Rattle.std.specs.Prelude.{◌≡◌, ◌≤◌, [], codes, length, List, true, ℕ};
-ghost use Rattle.fc_parts.specs.{Board, game_of, Legal, list_verdict, move_count, MoveList};
-ghost use Rattle.fc_parts.specs.{OneCard, Plays, RefusedAt, Wins};
-ghost use Rattle.fc_parts.specs.declared.{fault.StepFault.{StepFault}, rule.Variant.{Variant}};
-ghost use Rattle.fc_print.specs.{blank, line_feed, number_sign};
-ghost use Rattle.fc_record.specs.{begins_with, check_lines, expand_lines, expanded_line, Heading};
-ghost use Rattle.fc_record.specs.{list_line, name_of, one_card_moves, step_reason, verdict_line};
-ghost use Rattle.fc_engine.specs.{Member, members_among, records_of};
+ghost use Rattle.fc_board.specs.{Boards.{Board}, Games.{game_of}};
+ghost use Rattle.fc_board.specs.Moves.{move_count, MoveList, OneCard};
+ghost use Rattle.fc_board.specs.Play.{Legal, list_verdict, Plays, RefusedAt, Wins};
+ghost use Rattle.fc_board.specs.declared.{fault.StepFault.{StepFault}, rule.Variant.{Variant}};
+ghost use Rattle.fc_text.specs.Bytes.{blank, line_feed, number_sign};
+ghost use Rattle.fc_record.specs.{Grammar.{begins_with, Heading}, Printing.{check_lines}};
+ghost use Rattle.fc_record.specs.Printing.{expand_lines, expanded_line, list_line, name_of};
+ghost use Rattle.fc_record.specs.Printing.{one_card_moves, step_reason, verdict_line};
+ghost use Rattle.fc_collect.specs.{Groups.{Member, members_among}, Records.{records_of}};
 
 /// The line of `check` for a list of an accepted record says that it wins exactly if it does, that
 /// it is legal exactly if it is and does not win, and that it is illegal at a move for a reason

@@ -2,26 +2,27 @@
 ghost use Rattle.std.specs.{List.{All, AllZip, count_by, filter, flat_map}, Prelude.{◌++◌, ◌+◌}};
 ghost use Rattle.std.specs.Prelude.{◌-◌, ◌^◌, ◌↔◌, ◌∷◌, ◌≡◌, ◌≤◌, [], Bool, drop, if◌then◌else◌};
 ghost use Rattle.std.specs.Prelude.{length, List, map, Ok, Option, Some, true, ℕ};
-ghost use Rattle.fc_parts.specs.{carried, game_of, identity_passage, list_image, MoveList, OneCard};
-ghost use Rattle.fc_parts.specs.{Wins};
-ghost use Rattle.fc_parts.specs.declared.rule.Variant.{Variant};
-ghost use Rattle.fc_record.specs.{Accepted, begins_with, canon_lines, ends_line, expand_lines};
-ghost use Rattle.fc_record.specs.{expanded_line, header_mark, heading_line, image_line, list_line};
-ghost use Rattle.fc_record.specs.{list_mark, one_card_moves, passage_line, printed, Reading};
-ghost use Rattle.fc_record.specs.{reading_of, RecordText, show_lines, with_header};
-ghost use Rattle.fc_run.specs.{AreCountable, largest, most_countable, standard};
-ghost use Rattle.fc_run.specs.declared.config.Limits.{Limits as LimitsValue};
-ghost use Rattle.fc_run.specs.declared.outcome.Summary.{Summary};
-ghost use Rattle.fc_engine.specs.{Begins, canonical_text, cut, finished_from, finished_output};
-ghost use Rattle.fc_engine.specs.{finished_records, group_lines, grouped, groups_of};
-ghost use Rattle.fc_engine.specs.{IsWithinLimits, leaders_after, limits_after, Member};
-ghost use Rattle.fc_engine.specs.{members_among, name_of_member, nothing, output_of_records};
-ghost use Rattle.fc_engine.specs.{owner_among, passage_of, records_from, records_of, share_lines};
-ghost use Rattle.fc_engine.specs.{solution_line, whole_output};
-ghost use Rattle.fc_collect.specs.{ending_of_kind, header_starts, IsPiece, output_of_kind};
-ghost use Rattle.fc_collect.specs.{outputs_of_pieces, placed_after, TransfersWithin};
-ghost use Rattle.fc_collect.specs.declared.commands.{Format.{Format}, RunKind.{RunKind}};
-ghost use Rattle.fc_collect.specs.declared.commands.RunKind.TheVariants.{Show};
+ghost use Rattle.fc_board.specs.{Games.{game_of}, Moves.{list_image, MoveList, OneCard}};
+ghost use Rattle.fc_board.specs.{Passages.{carried, identity_passage}, Play.{Wins}};
+ghost use Rattle.fc_board.specs.declared.rule.Variant.{Variant};
+ghost use Rattle.fc_record.specs.Grammar.{Accepted, begins_with, list_mark, Reading, reading_of};
+ghost use Rattle.fc_record.specs.{Grammar.{with_header}, Printing.{canon_lines, expand_lines}};
+ghost use Rattle.fc_record.specs.Printing.{expanded_line, heading_line, image_line, list_line};
+ghost use Rattle.fc_record.specs.Printing.{one_card_moves, passage_line, printed, show_lines};
+ghost use Rattle.fc_record.specs.RecordTexts.{ends_line, header_mark, RecordText};
+ghost use Rattle.fc_collect.specs.Groups.{canonical_text, group_lines, grouped, groups_of};
+ghost use Rattle.fc_collect.specs.Groups.{leaders_after, Member, members_among, name_of_member};
+ghost use Rattle.fc_collect.specs.Groups.{owner_among, passage_of, share_lines, solution_line};
+ghost use Rattle.fc_collect.specs.Limits.{AreCountable, largest, most_countable, standard};
+ghost use Rattle.fc_collect.specs.Pieces.{header_starts, IsPiece, outputs_of_pieces, placed_after};
+ghost use Rattle.fc_collect.specs.{Promises.{Begins, IsWithinLimits}, Records.{cut, finished_from}};
+ghost use Rattle.fc_collect.specs.Records.{finished_output, finished_records, limits_after};
+ghost use Rattle.fc_collect.specs.Records.{nothing, output_of_records, records_from, records_of};
+ghost use Rattle.fc_collect.specs.Records.{whole_output};
+ghost use Rattle.fc_collect.specs.Runs.{ending_of_kind, output_of_kind, TransfersWithin};
+ghost use Rattle.fc_collect.specs.declared.commands.RunKind.{RunKind, TheVariants.{Show}};
+ghost use Rattle.fc_collect.specs.declared.streams.faults.Summary.{Summary};
+ghost use Rattle.fc_collect.specs.declared.streams.limits.Limits.{Limits as LimitsValue};
 
 use fc_collect::Limits;
 
@@ -273,15 +274,15 @@ pub fn what_share_prints_is_read_again()
 /// Where a run succeeds and its output is as it was, nothing was due: no record and no end of the
 /// collection has output. So a run of `show` that succeeds and writes nothing has read no record.
 pub fn an_unmoved_output_was_due_nothing()
-    ensures due { (limits : LimitsValue) (kind : RunKind) (format : Format) (variant : Variant)
+    ensures due { (limits : LimitsValue) (kind : RunKind) (variant : Variant)
         (read held : List ℕ) (summary : Summary)
-        → TransfersWithin limits kind format variant (Some read) (Some []) (Some held) (Some held)
+        → TransfersWithin limits kind variant (Some read) (Some []) (Some held) (Some held)
         (Ok summary)
-        → output_of_kind kind format variant (records_from limits read)
-        ++ ending_of_kind kind format variant (records_from limits read) ≡ [] }
-    ensures show { (limits : LimitsValue) (format : Format) (variant : Variant)
+        → output_of_kind kind variant (records_from limits read)
+        ++ ending_of_kind kind variant (records_from limits read) ≡ [] }
+    ensures show { (limits : LimitsValue) (variant : Variant)
         (read held : List ℕ) (summary : Summary)
-        → TransfersWithin limits Show format variant (Some read) (Some []) (Some held) (Some held)
+        → TransfersWithin limits Show variant (Some read) (Some []) (Some held) (Some held)
         (Ok summary)
         → records_from limits read ≡ [] }
 {}
@@ -291,18 +292,18 @@ pub fn an_unmoved_output_was_due_nothing()
 /// two runs of `show` write the same, the accepted records of both collections are the same, in
 /// their boards, lists and games, and in the names that they are printed with.
 pub fn the_output_of_another_input_does_not_fit()
-    ensures one { (limits : LimitsValue) (kind : RunKind) (format : Format) (variant : Variant)
+    ensures one { (limits : LimitsValue) (kind : RunKind) (variant : Variant)
         (read held after other : List ℕ) (summary counts : Summary)
-        → TransfersWithin limits kind format variant (Some read) (Some []) (Some held) (Some after)
+        → TransfersWithin limits kind variant (Some read) (Some []) (Some held) (Some after)
         (Ok summary)
-        → TransfersWithin limits kind format variant (Some read) (Some []) (Some held) (Some other)
+        → TransfersWithin limits kind variant (Some read) (Some []) (Some held) (Some other)
         (Ok counts)
         → (after ≡ other) × (summary ≡ counts) }
-    ensures show { (format : Format) (variant : Variant) (read another held after : List ℕ)
+    ensures show { (variant : Variant) (read another held after : List ℕ)
         (summary counts : Summary)
-        → TransfersWithin standard Show format variant (Some read) (Some []) (Some held)
+        → TransfersWithin standard Show variant (Some read) (Some []) (Some held)
         (Some after) (Ok summary)
-        → TransfersWithin standard Show format variant (Some another) (Some []) (Some held)
+        → TransfersWithin standard Show variant (Some another) (Some []) (Some held)
         (Some after) (Ok counts)
         → map (λ member. Accepted (if member.heading.has_header
         then with_header member.heading.variant (Some (name_of_member member))

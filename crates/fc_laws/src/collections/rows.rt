@@ -1,9 +1,9 @@
 //! What is printed for collections as keepers write them.
 ghost use Rattle.std.specs.Prelude.{◌++◌, ◌∷◌, ◌≡◌, [], codes, Err, None, Ok, replicate, Some};
-ghost use Rattle.fc_parts.specs.declared.rule.Variant.TheVariants.{BakersGame, EightOff, FreeCell};
-ghost use Rattle.fc_record.specs.{heading_of, table_header, with_header};
+ghost use Rattle.fc_board.specs.declared.rule.Variant.TheVariants.{BakersGame, EightOff, FreeCell};
+ghost use Rattle.fc_record.specs.{Grammar.{heading_of, with_header}, Tables.{table_header}};
 ghost use Rattle.fc_record.specs.declared.record.RecordFaultKind.TheVariants.{BadHeader};
-ghost use Rattle.fc_collect.specs.declared.commands.Format.TheVariants.{Json, Lines};
+ghost use Rattle.fc_collect.specs.declared.commands.CountFormat.TheVariants.{Json, Words};
 ghost use Rattle.fc_collect.specs.declared.commands.RunKind.TheVariants.{Check, Count, Group, Same};
 ghost use Rattle.fc_collect.specs.declared.commands.RunKind.TheVariants.{Show, Symmetries};
 ghost use Rattle.fc_laws.specs.{
@@ -130,8 +130,8 @@ pub fn all_at_once()
     ensures shared { output_of_share mixed ≡ mixed_shared }
     ensures unique { output_of_unique mixed ≡ mixed_made_unique }
     ensures tabulated { output_of_table mixed ≡ mixed_tabulated }
-    ensures compared { output_of_run Same Lines mixed ≡ mixed_compared }
-    ensures symmetries { output_of_run Symmetries Lines mixed ≡ mixed_symmetries }
-    ensures counted { output_of_run Count Lines mixed ≡ mixed_counted }
-    ensures in_json { output_of_run Count Json refused_in_group ≡ refused_in_group_counted }
+    ensures compared { output_of_run Same mixed ≡ mixed_compared }
+    ensures symmetries { output_of_run Symmetries mixed ≡ mixed_symmetries }
+    ensures counted { output_of_run (Count Words) mixed ≡ mixed_counted }
+    ensures in_json { output_of_run (Count Json) refused_in_group ≡ refused_in_group_counted }
 {}

@@ -1,12 +1,14 @@
 //! Laws of what `same` prints.
 ghost use Rattle.std.specs.Prelude.{◌++◌, ◌↔◌, ◌∷◌, ◌≡◌, [], codes, List, None, Option, Some, ℕ};
-ghost use Rattle.fc_parts.specs.{Carries, game_of, IsWellFormed, Passage};
-ghost use Rattle.{fc_parts.specs.declared.rule.Variant.{Variant}, fc_print.specs.{line_feed}};
-ghost use Rattle.{fc_canon.specs.{Equivalent}, fc_engine.specs.{Member, members_among}};
-ghost use Rattle.fc_record.specs.{Accepted, Contents, Heading, name_of, passage_words, reading_of};
-ghost use Rattle.fc_record.specs.{RecordText, refusal_line, Refused};
+ghost use Rattle.fc_board.specs.{Boards.{IsWellFormed}, Games.{game_of}};
+ghost use Rattle.fc_board.specs.Passages.{Carries, Passage};
+ghost use Rattle.{fc_board.specs.declared.rule.Variant.{Variant}, fc_text.specs.Bytes.{line_feed}};
+ghost use Rattle.fc_canon.specs.{Equivalent};
+ghost use Rattle.fc_record.specs.Grammar.{Accepted, Contents, Heading, reading_of, Refused};
+ghost use Rattle.fc_record.specs.Printing.{name_of, passage_words, refusal_line};
+ghost use Rattle.fc_record.specs.RecordTexts.{RecordText};
 ghost use Rattle.fc_record.specs.declared.record.RecordFault.{RecordFault};
-ghost use Rattle.fc_collect.specs.{passage_to, same_output};
+ghost use Rattle.fc_collect.specs.{Groups.{Member, members_among}, Runs.{passage_to, same_output}};
 
 /// A passage is printed exactly where the record is of the game of the first one and their boards
 /// are equivalent; it leads from the board of the first record to that of the other.

@@ -1,9 +1,11 @@
 //! Laws of the solutions that the members of a group share.
 ghost use Rattle.std.specs.{List.{Contains}, Prelude.{◌++◌, ◌≡◌, List, None, Some, ℕ}};
-ghost use Rattle.fc_parts.specs.{declared.rule.Variant.{Variant}, game_of, MoveList, Wins};
-ghost use Rattle.{fc_canon.specs.{IsFirst}, fc_record.specs.{list_line}};
-ghost use Rattle.fc_engine.specs.{groups_of, Member, member_lines, members_among, owner_among};
-ghost use Rattle.fc_engine.specs.{records_of, solution_line, solution_of};
+ghost use Rattle.fc_board.specs.{Games.{game_of}, Moves.{MoveList}, Play.{Wins}};
+ghost use Rattle.{fc_board.specs.declared.rule.Variant.{Variant}, fc_canon.specs.{IsFirst}};
+ghost use Rattle.fc_record.specs.Printing.{list_line};
+ghost use Rattle.fc_collect.specs.Groups.{groups_of, Member, member_lines, members_among};
+ghost use Rattle.fc_collect.specs.Groups.{owner_among, solution_line, solution_of};
+ghost use Rattle.fc_collect.specs.Records.{records_of};
 
 /// Where no list of a group wins from its own board, none of the members gets a list. Where one
 /// does, each of them gets one, and it wins from the member's own board.

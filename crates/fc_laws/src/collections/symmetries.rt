@@ -1,10 +1,11 @@
 //! Laws of what `symmetries` prints.
 ghost use Rattle.std.specs.List.{Contains, flat_map};
 ghost use Rattle.std.specs.Prelude.{◌++◌, ◌↔◌, ◌∷◌, ◌≡◌, [], codes, List, ℕ};
-ghost use Rattle.{fc_card.specs.{renaming_text}, fc_parts.specs.{AscendByWord, game_of}};
-ghost use Rattle.{fc_parts.specs.declared.rule.Variant.{Variant}, fc_print.specs.{line_feed}};
-ghost use Rattle.{fc_canon.specs.{IsSymmetry}, fc_record.specs.{symmetry_lines}};
-ghost use Rattle.fc_engine.specs.{Member, members_among, name_of_member, records_of};
+ghost use Rattle.{fc_board.specs.Games.{AscendByWord, game_of}, fc_card.specs.{renaming_text}};
+ghost use Rattle.{fc_board.specs.declared.rule.Variant.{Variant}, fc_text.specs.Bytes.{line_feed}};
+ghost use Rattle.{fc_canon.specs.{IsSymmetry}, fc_record.specs.Printing.{symmetry_lines}};
+ghost use Rattle.fc_collect.specs.Groups.{Member, members_among, name_of_member};
+ghost use Rattle.fc_collect.specs.Records.{records_of};
 
 /// `symmetries` prints for an accepted record one line for each symmetry of its board, with the
 /// record's name, and for no other renaming; the lines ascend by the words of the renamings.

@@ -5,16 +5,18 @@ ghost use Rattle.std.specs.{Fmt.{decimal}, List.{All, Contains, flat_map, slice_
 ghost use Rattle.std.specs.Prelude.{◌++◌, ◌+◌, ◌<◌, ◌==◌, ◌^◌, ◌↔◌, ◌∷◌, ◌≡◌, ◌≢◌, [], codes, drop};
 ghost use Rattle.std.specs.Prelude.{if◌then◌else◌, length, List, Option, slice_get, slice_index_or};
 ghost use Rattle.std.specs.{Prelude.{Some, take, true, ℕ}, Str.{bytes_eq}};
-ghost use Rattle.fc_parts.specs.{game_of, IsWellFormed, MoveList, renamings_of, Wins};
-ghost use Rattle.{fc_canon.specs.{chosen_passage}, fc_parts.specs.declared.rule.Variant.{Variant}};
-ghost use Rattle.fc_print.specs.{blank, IsLess, line_feed, tab};
-ghost use Rattle.fc_record.specs.{Contents, header_text, Heading, json_object, json_string};
-ghost use Rattle.fc_record.specs.{name_of, passage_line, reading_of, record_reason, RecordText};
-ghost use Rattle.fc_record.specs.{refusal_object, Refused, table_fields, table_header, table_line};
-ghost use Rattle.fc_record.specs.{table_object};
+ghost use Rattle.fc_board.specs.{Boards.{IsWellFormed}, Games.{game_of, renamings_of}};
+ghost use Rattle.fc_board.specs.{Moves.{MoveList}, Play.{Wins}};
+ghost use Rattle.{fc_board.specs.declared.rule.Variant.{Variant}, fc_canon.specs.{chosen_passage}};
+ghost use Rattle.fc_text.specs.Bytes.{blank, IsLess, line_feed, tab};
+ghost use Rattle.fc_record.specs.Grammar.{Contents, Heading, reading_of, Refused};
+ghost use Rattle.fc_record.specs.Printing.{header_text, name_of, passage_line, record_reason};
+ghost use Rattle.fc_record.specs.{RecordTexts.{RecordText}, Tables.{json_object, json_string}};
+ghost use Rattle.fc_record.specs.Tables.{refusal_object, table_fields, table_header, table_line};
+ghost use Rattle.fc_record.specs.Tables.{table_object};
 ghost use Rattle.fc_record.specs.declared.record.RecordFault.{RecordFault};
-ghost use Rattle.fc_engine.specs.{belong_together, canonical_text, Member, members_among};
-ghost use Rattle.fc_engine.specs.{records_of};
+ghost use Rattle.fc_collect.specs.Groups.{belong_together, canonical_text, Member, members_among};
+ghost use Rattle.fc_collect.specs.Records.{records_of};
 
 /// Two accepted records belong together exactly if the second and third columns of their lines, the
 /// game and the board, are equal; and boards are ordered there as their canonical texts are.

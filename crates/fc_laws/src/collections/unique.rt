@@ -1,13 +1,14 @@
 //! Laws of what `unique` prints.
 ghost use Rattle.std.specs.{List.{All, Contains, filter, flat_map}, Prelude.{◌++◌, ◌∷◌, ◌≡◌, ◌≤◌}};
 ghost use Rattle.std.specs.Prelude.{[], false, if◌then◌else◌, length, List, map, Some, true, ℕ};
-ghost use Rattle.{fc_parts.specs.declared.rule.Variant.{Variant}, fc_run.specs.{most_countable}};
-ghost use Rattle.fc_record.specs.{Accepted, ends_line, header_mark, is_refused, reading_of};
-ghost use Rattle.fc_record.specs.{RecordText, show_lines, with_header};
-ghost use Rattle.fc_engine.specs.{Begins, belong_together, finished_records, leaders_after, Member};
-ghost use Rattle.fc_engine.specs.{members_among, name_of_member, outputs_after, records_of};
-ghost use Rattle.fc_engine.specs.{unique_output};
-ghost use Rattle.fc_collect.specs.{header_starts};
+ghost use Rattle.fc_board.specs.declared.rule.Variant.{Variant};
+ghost use Rattle.fc_record.specs.Grammar.{Accepted, reading_of, with_header};
+ghost use Rattle.fc_record.specs.Printing.{is_refused, show_lines};
+ghost use Rattle.fc_record.specs.RecordTexts.{ends_line, header_mark, RecordText};
+ghost use Rattle.fc_collect.specs.Groups.{belong_together, leaders_after, Member, members_among};
+ghost use Rattle.fc_collect.specs.{Groups.{name_of_member, unique_output}, Limits.{most_countable}};
+ghost use Rattle.fc_collect.specs.{Pieces.{header_starts}, Promises.{Begins}};
+ghost use Rattle.fc_collect.specs.Records.{finished_records, outputs_after, records_of};
 
 /// What is printed for records is printed for each by those before it; where it goes by none of
 /// them, it is what each record alone gets.

@@ -1,8 +1,9 @@
 //! Laws of what is read of a text of moves.
 ghost use Rattle.std.specs.Prelude.{◌↔◌, ◌≡◌, ◌≤◌, Err, List, Ok, ℕ};
-ghost use Rattle.fc_parts.specs.{declared.{moves.Move.{Move}, run_move.RunMove.{RunMove}}, Game};
-ghost use Rattle.fc_print.specs.{BadTokenAt, IsRunToken, IsToken, Listed, TooManyAt};
-ghost use Rattle.fc_text.specs.{BadToken, moves_read, runs_read, TooMany};
+ghost use Rattle.fc_board.specs.Games.{Game};
+ghost use Rattle.fc_board.specs.declared.{moves.Move.{Move}, run_move.RunMove.{RunMove}};
+ghost use Rattle.fc_text.specs.Notation.{BadToken, BadTokenAt, IsRunToken, IsToken, Listed};
+ghost use Rattle.fc_text.specs.{Notation.{TooMany, TooManyAt}, Readings.{moves_read, runs_read}};
 
 /// What is read of a text is the moves that it lists, or its bad token, or its first word too many,
 /// and in each case exactly then.

@@ -2,14 +2,15 @@
 ghost use Rattle.std.specs.{List.{flat_map, position_or_len, prefix_len}, Option.{option_or}};
 ghost use Rattle.std.specs.Prelude.{◌++◌, ◌+◌, ◌<◌, ◌==◌, ◌∷◌, ◌≡◌, drop, false, length, List, map};
 ghost use Rattle.std.specs.Prelude.{not, slice_index, take, true, ℕ};
-ghost use Rattle.fc_parts.specs.{Game};
-ghost use Rattle.fc_print.specs.{is_gap, Line, line_feed, line_of, lines_from, rows_of, words_from};
-ghost use Rattle.fc_text.specs.{first_fault, items_of, items_of_row, missing_card};
-ghost use Rattle.fc_text.specs.reader.{after_items, first_known_fault, has_room, is_begun};
-ghost use Rattle.fc_text.specs.reader.{ReadState, rows_left, rows_of_line, start_state};
+ghost use Rattle.fc_board.specs.Games.{Game};
+ghost use Rattle.fc_text.specs.Bytes.{is_gap, line_feed};
+ghost use Rattle.fc_text.specs.Faults.{first_fault, items_of, items_of_row, missing_card};
+ghost use Rattle.fc_text.specs.{Lines.{lines_from, words_from}, reader.{after_items}};
+ghost use Rattle.fc_text.specs.reader.{first_known_fault, has_room, is_begun, Known, nothing_known};
+ghost use Rattle.fc_text.specs.{reader.{rows_left, rows_of_line}, Rows.{Line, line_of, rows_of}};
 
 /// The first line of a text ends before its first line feed, or with the text.
-#[tactic(auto, using(fc_print::proofs::NextLineLemmas::line_first))]
+#[tactic(auto, using(fc_text::proofs::NextLineLemmas::line_first))]
 pub fn first_line_ends_first()
     ensures { (place byte : ℕ) (rest : List ℕ)
         → lines_from place (byte ∷ rest)
@@ -44,8 +45,8 @@ pub fn first_word_ends_first()
 /// column.
 pub fn rows_come_line_by_line()
     ensures first { (text : List ℕ)
-        → rows_of text ≡ rows_left start_state (map line_of (lines_from 0 text)) }
-    ensures next { (known : ReadState) (line : Line) (lines : List Line)
+        → rows_of text ≡ rows_left nothing_known (map line_of (lines_from 0 text)) }
+    ensures next { (known : Known) (line : Line) (lines : List Line)
         → rows_left known (line ∷ lines) ≡ rows_of_line (is_begun known) (has_room known) line
         ++ rows_left
         (after_items known
@@ -57,5 +58,5 @@ pub fn rows_come_line_by_line()
 pub fn one_pass_finds_the_first_fault()
     ensures { (game : Game) (text : List ℕ)
         → first_fault game text
-        ≡ option_or (first_known_fault game start_state (items_of text)) (missing_card text) }
+        ≡ option_or (first_known_fault game nothing_known (items_of text)) (missing_card text) }
 {}

@@ -1,10 +1,12 @@
 //! Laws of the lines of a board's text and of what they hold.
 ghost use Rattle.std.specs.Prelude.{◌++◌, ◌+◌, ◌<◌, ◌∷◌, ◌≡◌, ◌≢◌, [], codes, length, List, map};
 ghost use Rattle.std.specs.{Prelude.{Some, ℕ}, Str.{str_to_ascii_uppercase}};
-ghost use Rattle.fc_parts.specs.{freecell, Game};
-ghost use Rattle.fc_print.specs.{carriage_return, Foundations, Freecells, line_feed, line_of};
-ghost use Rattle.fc_print.specs.{lines_from, moved, Row, rows_of, trim_carriage_return};
-ghost use Rattle.fc_text.specs.{AreRows, board_of, first_fault, NamesRow};
+ghost use Rattle.fc_board.specs.Games.{freecell, Game};
+ghost use Rattle.fc_text.specs.{Bytes.{carriage_return, line_feed}, Faults.{first_fault}};
+ghost use Rattle.fc_text.specs.Lines.{lines_from, moved, trim_carriage_return};
+ghost use Rattle.fc_text.specs.Rows.{line_of, Row, rows_of};
+ghost use Rattle.fc_text.specs.Spelling.{AreRows, board_of, NamesRow};
+ghost use Rattle.fc_text.specs.declared.board.reader.Section.TheVariants.{Foundations, Freecells};
 ghost use Rattle.fc_text.specs.declared.fault.BoardFault.{BoardFault};
 ghost use Rattle.fc_text.specs.declared.fault.BoardFaultKind.TheVariants.{MissingCard};
 ghost use Rattle.fc_text.specs.declared.fault.BoardFaultKind.TheVariants.{TooManyColumns};

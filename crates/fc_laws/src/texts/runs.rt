@@ -1,15 +1,15 @@
 //! Laws of the notation of moves of several cards.
 ghost use Rattle.std.specs.{List.{sum_by}, Prelude.{◌++◌, ◌+◌, ◌<◌, ◌↔◌, ◌∷◌, ◌≡◌, ◌≤◌, ◌⊎◌, []}};
 ghost use Rattle.std.specs.Prelude.{All, codes, IsFalse, length, List, map, None, Some, take, ℕ};
-ghost use Rattle.fc_parts.specs.{AreOrders, eight_off, freecell, Game, is_column_to_column};
-ghost use Rattle.fc_parts.specs.{ListFits, move_between, MoveList, OneCard, run_image, RunFits};
-ghost use Rattle.fc_parts.specs.{Runs};
-ghost use Rattle.fc_parts.specs.declared.moves.Move.{Move};
-ghost use Rattle.fc_parts.specs.declared.moves.Place.TheVariants.{Column as ToColumn};
-ghost use Rattle.fc_parts.specs.declared.moves.Source.TheVariants.{Column as FromColumn};
-ghost use Rattle.fc_parts.specs.declared.run_move.RunMove.{RunMove, TheVariants.{One, Run}};
-ghost use Rattle.fc_print.specs.{BadTokenAt, count_suffix, IsRunToken, IsToken, Listed, print};
-ghost use Rattle.fc_print.specs.{reader.{as_run, run_named}, run_token, TooManyAt};
+ghost use Rattle.fc_board.specs.{Games.{eight_off, freecell, Game}, Moves.{is_column_to_column}};
+ghost use Rattle.fc_board.specs.Moves.{ListFits, move_between, MoveList, OneCard, RunFits, Runs};
+ghost use Rattle.fc_board.specs.Passages.{AreOrders, run_image};
+ghost use Rattle.fc_board.specs.declared.moves.Move.{Move};
+ghost use Rattle.fc_board.specs.declared.moves.Place.TheVariants.{Column as ToColumn};
+ghost use Rattle.fc_board.specs.declared.moves.Source.TheVariants.{Column as FromColumn};
+ghost use Rattle.fc_board.specs.declared.run_move.RunMove.{RunMove, TheVariants.{One, Run}};
+ghost use Rattle.fc_text.specs.Notation.{BadTokenAt, count_suffix, IsRunToken, IsToken, Listed};
+ghost use Rattle.fc_text.specs.{Notation.{print, run_token, TooManyAt}, reader.{as_run, run_named}};
 ghost use Rattle.fc_laws.specs.BoardExamples.{cell_a_to_itself, cells_to_columns, each_count};
 ghost use Rattle.fc_laws.specs.BoardExamples.{run_of_three_home, three_cards_and_two_more};
 

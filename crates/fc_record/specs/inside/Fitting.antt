@@ -3,14 +3,14 @@ use Rattle.fc_record.specs.declared.record.move_list.Form.TheVariants as form
 use Rattle.std.proofs.Math.Bool.{Bool-set}
 use Rattle.std.specs.Coded.{×_prop, Coded-set, coded_list, coded_ℕ, le_prop, Unit-prop}
 use Rattle.std.specs.Prelude.{◌≡◌, All, false, get_or, IfSome, List, None, Option, Some, ℕ}
-use Rattle.fc_parts.specs.{Board, Fits, Game, is_column_to_column, IsCount, ListFits, MoveList}
-use Rattle.fc_parts.specs.{OneCard, PlaceFits, RunFits, Runs, SourceFits}
-use Rattle.fc_parts.specs.declared.moves.{Move.{Move}, Place.{Place, TheVariants.{Cell as ToCell}}}
-use Rattle.fc_parts.specs.declared.moves.Place.TheVariants.{Column as ToColumn, Home}
-use Rattle.fc_parts.specs.declared.moves.Source.{Source}
-use Rattle.fc_parts.specs.declared.moves.Source.TheVariants.{Cell as FromCell, Column as FromColumn}
-use Rattle.fc_parts.specs.declared.run_move.RunMove.{RunMove, TheVariants.{One, Run}}
-use Rattle.{fc_print.specs.{text_of}, fc_record.specs.declared.record.move_list.Form.{Form}}
+use Rattle.fc_board.specs.{Boards.{Board}, Games.{Game}, Moves.{Fits, is_column_to_column, IsCount}}
+use Rattle.fc_board.specs.Moves.{ListFits, MoveList, OneCard, PlaceFits, RunFits, Runs, SourceFits}
+use Rattle.fc_board.specs.declared.moves.{Move.{Move}, Place.{Place, TheVariants.{Cell as ToCell}}}
+use Rattle.fc_board.specs.declared.moves.Place.TheVariants.{Column as ToColumn, Home}
+use Rattle.fc_board.specs.declared.moves.Source.{Source}
+use Rattle.fc_board.specs.declared.moves.Source.TheVariants.{Cell as FromCell, Column as FromColumn}
+use Rattle.fc_board.specs.declared.run_move.RunMove.{RunMove, TheVariants.{One, Run}}
+use Rattle.{fc_record.specs.declared.record.move_list.Form.{Form}, fc_text.specs.Printed.{text_of}}
 
 -- -------- Lists of moves that all fit a game; two proofs of that are equal.
 

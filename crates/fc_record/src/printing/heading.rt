@@ -1,8 +1,9 @@
 //! Numbers, the names of records and their headers, as they are printed.
 ghost use Rattle.std.specs.{Fmt.{decimal}, Option.{option_map}};
 ghost use Rattle.std.specs.Prelude.{◌++◌, ◌∷◌, ◌≡◌, ◌≤◌, [], codes, length, OnOk};
-ghost use Rattle.fc_print.specs.{blank};
-ghost use Rattle.fc_record.specs.{header_text, heading_line, heading_seen, name_of, variant_word};
+ghost use Rattle.fc_text.specs.Bytes.{blank};
+ghost use Rattle.fc_record.specs.Grammar.{heading_seen, variant_word};
+ghost use Rattle.fc_record.specs.Printing.{header_text, heading_line, name_of};
 
 use crate::record::Heading;
 use fc_board::Variant;

@@ -1,10 +1,10 @@
 //! The lines of lists of moves, as they are and with their moves one card at a time.
 ghost use Rattle.std.specs.List.{flat_map};
 ghost use Rattle.std.specs.Prelude.{◌++◌, ◌≡◌, codes, if◌then◌else◌, nat_le, OnOk};
-ghost use Rattle.fc_parts.specs.{eight_off, ListFits, move_count, Refused};
-ghost use Rattle.fc_print.specs.{most_moves};
-ghost use Rattle.fc_record.specs.{comment_line, expanded_line, inside.Fitting.{AllFit}};
-ghost use Rattle.fc_record.specs.{list_line, numbered_lines, verdict_words};
+ghost use Rattle.fc_board.specs.{Games.{eight_off}, Moves.{ListFits, move_count}, Play.{Refused}};
+ghost use Rattle.fc_text.specs.Notation.{most_moves};
+ghost use Rattle.fc_record.specs.{inside.Fitting.{AllFit}, Printing.{comment_line, expanded_line}};
+ghost use Rattle.fc_record.specs.Printing.{list_line, numbered_lines, verdict_words};
 
 use super::heading::push_number;
 use super::verdict::push_refused;

@@ -1,9 +1,11 @@
 //! The members of a table's object. Of its strings only a name may have a byte that is escaped.
 ghost use Rattle.std.specs.{Fmt.{decimal}, Option.{option_map}, Prelude.{◌++◌, ◌==◌, ◌||◌, ◌∷◌}};
 ghost use Rattle.std.specs.Prelude.{◌≡◌, [], codes, if◌then◌else◌, length, map, OnOk, slice_index};
-ghost use Rattle.{fc_card.specs.{renaming_text}, fc_print.specs.{cell_letters, column_digits}};
-ghost use Rattle.fc_record.specs.{first_win, inside.Fitting.{AllFit}};
-ghost use Rattle.fc_record.specs.{json_string, name_of, number_or_null, side_by_side, variant_word};
+ghost use Rattle.fc_card.specs.{renaming_text};
+ghost use Rattle.fc_text.specs.Notation.{cell_letters, column_digits};
+ghost use Rattle.fc_record.specs.{Grammar.{variant_word}, inside.Fitting.{AllFit}};
+ghost use Rattle.fc_record.specs.Printing.{name_of};
+ghost use Rattle.fc_record.specs.Tables.{first_win, json_string, number_or_null, side_by_side};
 
 use super::heading::{push_number, variant_word};
 use super::passage::{push_places, push_renaming};

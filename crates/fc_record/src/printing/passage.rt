@@ -1,6 +1,7 @@
 //! The line of a passage.
 ghost use Rattle.std.specs.Prelude.{◌++◌, ◌+◌, ◌≡◌, ◌≤◌, length, map, OnOk, slice_index, take};
-ghost use Rattle.{fc_card.specs.{renaming_text}, fc_record.specs.{passage_line, passage_words}};
+ghost use Rattle.fc_card.specs.{renaming_text};
+ghost use Rattle.fc_record.specs.Printing.{passage_line, passage_words};
 
 use fc_board::Rule;
 use fc_canon::Passage;

@@ -2,8 +2,8 @@
 ghost use Rattle.std.specs.Option.{option_map};
 ghost use Rattle.std.specs.Prelude.{◌++◌, ◌+◌, ◌^◌, ◌≡◌, ◌≤◌, [], List, OnOk, Option, ℕ};
 ghost use Rattle.fc_card.specs.{card_text};
-ghost use Rattle.fc_record.specs.{board_reason, record_reason, RecordText as SaidText};
-ghost use Rattle.fc_record.specs.{refusal_line, refusal_object, step_reason};
+ghost use Rattle.fc_record.specs.Printing.{board_reason, record_reason, refusal_line, step_reason};
+ghost use Rattle.fc_record.specs.{RecordTexts.{RecordText as SaidText}, Tables.{refusal_object}};
 ghost use Rattle.fc_record.specs.declared.record.RecordFault.{RecordFault as FaultValue};
 
 use super::heading::{push_name, push_number};

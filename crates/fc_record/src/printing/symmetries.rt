@@ -1,6 +1,6 @@
 //! The lines of `symmetries`: the renamings that carry a board onto itself.
 ghost use Rattle.std.specs.{List.{flat_map}, Option.{option_map}, Prelude.{◌++◌, ◌≡◌, OnOk}};
-ghost use Rattle.fc_record.specs.{name_of, symmetry_line, symmetry_lines};
+ghost use Rattle.fc_record.specs.Printing.{name_of, symmetry_line, symmetry_lines};
 
 use super::heading::push_name;
 use super::passage::push_renaming;

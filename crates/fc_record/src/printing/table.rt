@@ -2,9 +2,9 @@
 ghost use Rattle.std.specs.{Fmt.{decimal}, Option.{option_map}, Prelude.{◌++◌, ◌∷◌, ◌≡◌, []}};
 ghost use Rattle.std.specs.Prelude.{IfNone, IfSome, length, map, OnOk, slice_index};
 ghost use Rattle.fc_card.specs.{renaming_text};
-ghost use Rattle.fc_print.specs.{cell_letters, column_digits, dash, tab};
-ghost use Rattle.fc_record.specs.{first_win, inside.Fitting.{AllFit}};
-ghost use Rattle.fc_record.specs.{name_of, side_by_side, variant_word};
+ghost use Rattle.fc_text.specs.{Bytes.{dash, tab}, Notation.{cell_letters, column_digits}};
+ghost use Rattle.fc_record.specs.{Grammar.{variant_word}, inside.Fitting.{AllFit}};
+ghost use Rattle.fc_record.specs.{Printing.{name_of}, Tables.{first_win, side_by_side}};
 
 use super::heading::{push_name, push_number, variant_word};
 use super::passage::{push_places, push_renaming};

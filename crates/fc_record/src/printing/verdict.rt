@@ -1,8 +1,9 @@
 //! The verdicts on the lists of a record, as they are printed.
 ghost use Rattle.std.specs.{Option.{option_map}, Prelude.{◌++◌, ◌≡◌, [], if◌then◌else◌, OnOk, ℕ}};
-ghost use Rattle.fc_parts.specs.{list_verdict, ListFits, move_count, OnlyLegal, Refused, Won};
+ghost use Rattle.fc_board.specs.Moves.{ListFits, move_count};
+ghost use Rattle.fc_board.specs.Play.{list_verdict, OnlyLegal, Refused, Won};
 ghost use Rattle.fc_record.specs.inside.Fitting.{AllFit};
-ghost use Rattle.fc_record.specs.{name_of, numbered_lines, verdict_line, verdict_words};
+ghost use Rattle.fc_record.specs.Printing.{name_of, numbered_lines, verdict_line, verdict_words};
 
 use super::heading::{push_name, push_number};
 use super::refusal::push_step_reason;

@@ -1,12 +1,13 @@
 //! The board of a record and the lists of moves after it.
 ghost use Rattle.std.specs.Option.{option_map};
 ghost use Rattle.std.specs.Prelude.{◌+◌, ◌^◌, ◌≡◌, ◌≤◌, Err, IfOk, length, Ok, take, true};
-ghost use Rattle.{fc_parts.specs.{ListFits, OneCard, Runs}, fc_print.specs.{lines_from}};
-ghost use Rattle.fc_text.specs.{moves_read, runs_read, Spells};
-ghost use Rattle.fc_record.specs.{begins_with, contents_of, contents_seen, has_two_marks};
+ghost use Rattle.fc_board.specs.Moves.{ListFits, OneCard, Runs};
+ghost use Rattle.fc_text.specs.{Lines.{lines_from}, Readings.{moves_read, runs_read}};
+ghost use Rattle.fc_text.specs.Spelling.{Spells};
+ghost use Rattle.fc_record.specs.Grammar.{begins_with, contents_of, contents_seen, has_two_marks};
+ghost use Rattle.fc_record.specs.Grammar.{list_mark, list_read, list_with, lists_of, lists_start};
 ghost use Rattle.fc_record.specs.inside.{ends_board, Fitting.{AllFit, IsPrinted}};
 ghost use Rattle.fc_record.specs.inside.{IfFault, IsNoFurther, unread_for};
-ghost use Rattle.fc_record.specs.{list_mark, list_read, list_with, lists_of, lists_start};
 
 use crate::record::{Contents, MoveList, RecordFault, RecordFaultKind, begins_line};
 use fc_board::{Board, Rule};

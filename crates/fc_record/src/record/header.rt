@@ -2,10 +2,10 @@
 ghost use Rattle.std.specs.{List.{list_all, position_or_len}, Option.{option_map}, Prelude.{◌&&◌}};
 ghost use Rattle.std.specs.Prelude.{◌++◌, ◌+◌, ◌∷◌, ◌≡◌, ◌≤◌, codes, drop, Err, IfErr, IfOk};
 ghost use Rattle.std.specs.Prelude.{IfSome, length, nat_le, Ok};
-ghost use Rattle.fc_print.specs.{blank, is_gap, words_from};
-ghost use Rattle.fc_record.specs.{after_header, fault_at, heading_of, heading_of_words};
-ghost use Rattle.fc_record.specs.{heading_seen, is_line_feed, is_name, variant_named, variant_word};
-ghost use Rattle.fc_record.specs.{with_header};
+ghost use Rattle.fc_text.specs.{Bytes.{blank, is_gap}, Lines.{words_from}};
+ghost use Rattle.fc_record.specs.Grammar.{after_header, fault_at, heading_of, heading_of_words};
+ghost use Rattle.fc_record.specs.Grammar.{heading_seen, is_line_feed, is_name, variant_named};
+ghost use Rattle.fc_record.specs.Grammar.{variant_word, with_header};
 ghost use Rattle.fc_record.specs.declared.record.RecordFaultKind.TheVariants.{BadHeader};
 
 use crate::printing::{BAKERS_GAME_FRONT, EIGHT_OFF_FRONT, FREECELL_FRONT, variant_word};

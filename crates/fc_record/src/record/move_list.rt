@@ -1,10 +1,12 @@
 //! Lists of moves, as the lines of records hold them.
 ghost use Rattle.std.specs.Prelude.{◌++◌, ◌≡◌, All, IfErr, IfOk, OnOk, Some};
-ghost use Rattle.fc_parts.specs.{eight_off, expansion_of, Fits, IsWellFormed, list_image};
-ghost use Rattle.fc_parts.specs.{list_verdict, ListFits, move_count, OneCard, run_refusal};
-ghost use Rattle.fc_parts.specs.{run_verdict, RunFits, Runs, RunStep, verdict};
-ghost use Rattle.fc_print.specs.{print};
-ghost use Rattle.fc_record.specs.{inside.{Expanded, verdict_of}, is_win, marks_of};
+ghost use Rattle.fc_board.specs.{Boards.{IsWellFormed}, Games.{eight_off}, Moves.{Fits}};
+ghost use Rattle.fc_board.specs.Moves.{list_image, ListFits, move_count, OneCard, RunFits, Runs};
+ghost use Rattle.fc_board.specs.Play.{expansion_of, list_verdict, run_verdict, verdict};
+ghost use Rattle.fc_board.specs.Steps.{run_refusal, RunStep};
+ghost use Rattle.fc_text.specs.Notation.{print};
+ghost use Rattle.fc_record.specs.{inside.{Expanded, verdict_of}, Printing.{marks_of}};
+ghost use Rattle.fc_record.specs.Tables.{is_win};
 
 use fc_board::{Board, Move, PlayFault, Rule, RunMove, StepFault};
 use fc_canon::Passage;
@@ -28,7 +30,7 @@ pub enum Form {
 }
 
 impl Model for MoveList {
-    ghost use Rattle.fc_parts.specs.{MoveList as SaidList};
+    ghost use Rattle.fc_board.specs.Moves.{MoveList as SaidList};
     ghost use Rattle.fc_record.specs.inside.Fitting.{list_seen};
 
     ghost Value = { SaidList };

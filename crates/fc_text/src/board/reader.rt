@@ -1,11 +1,13 @@
 //! The lines and words of a board's text, taken one after another.
 ghost use Rattle.std.specs.{Option.{option_to_list}, Prelude.{◌<◌, ◌∷◌, ◌≡◌, ◌≤◌, [], false}};
 ghost use Rattle.std.specs.Prelude.{IfErr, List, map, MatchOption, None, set, Some, ℕ};
-ghost use Rattle.{fc_card.specs.{IsCard, IsLowest, NoCard}, fc_parts.specs.{IsWellFormed}};
-ghost use Rattle.fc_print.specs.{Column, Foundations, Freecells};
-ghost use Rattle.fc_text.specs.{card_spelled, cards_at_home, reader.{board_known, ends_known}};
-ghost use Rattle.fc_text.specs.reader.{has_room, is_begun, is_seen, known_height, Lays, section_of};
-ghost use Rattle.fc_text.specs.reader.{seen_of, Sees, start_state, TakesPart};
+ghost use Rattle.{fc_board.specs.Boards.{IsWellFormed}, fc_card.specs.{IsCard, IsLowest, NoCard}};
+ghost use Rattle.fc_text.specs.{Faults.{cards_at_home}, reader.{board_known, ends_known, has_room}};
+ghost use Rattle.fc_text.specs.reader.{is_begun, is_named_suit, is_seen, known_height, Lays};
+ghost use Rattle.fc_text.specs.reader.{nothing_known, seen_of, Sees, TakesPart};
+ghost use Rattle.fc_text.specs.Spelling.{card_spelled};
+ghost use Rattle.fc_text.specs.declared.board.reader.Section.TheVariants.{Column, Foundations};
+ghost use Rattle.fc_text.specs.declared.board.reader.Section.TheVariants.{Freecells};
 
 use crate::BoardFaultKind;
 use crate::board::spelling::{Foundation, card_spelled, cell_spelled, foundation_spelled};
@@ -17,6 +19,13 @@ use std::marker::{Model, PhantomData};
 /// lines, heights, cells and columns that were read, and which cards were seen.
 #[derive(Drop)]
 pub(crate) struct Reader<R: Rule> {
+    kept: Kept,
+    rule: PhantomData<R>,
+}
+
+/// What a reader keeps of the lines and words that it took.
+#[derive(Drop)]
+struct Kept {
     foundations_line: bool,
     cells_line: bool,
     heights: [Option<Height>; 4],
@@ -29,29 +38,24 @@ pub(crate) struct Reader<R: Rule> {
     bounds: [u8; 9],
     column_lines: usize,
     seen: CardSet,
-    rule: PhantomData<R>,
 }
 
 impl<R: Rule> Model for Reader<R> {
-    ghost use Rattle.fc_text.specs.reader.{IsKept, known_of, ReadState, seen_of};
+    ghost use Rattle.fc_text.specs.reader.{IsKept, Known, known_of};
 
-    ghost Value = { ReadState };
+    ghost Value = { Known };
 
-    ghost view = { λ reader. known_of reader.foundations_line reader.cells_line reader.heights
-        reader.cells reader.cell_words reader.cards reader.card_count reader.bounds
-        reader.column_lines (seen_of reader.seen) };
+    ghost view = { λ reader. known_of reader.kept };
 
-    ghost invariant = { λ reader. IsKept R.CELLS reader.heights reader.cells reader.cell_words
-        reader.cards reader.card_count reader.bounds reader.column_lines
-        (seen_of reader.seen) };
+    ghost invariant = { λ reader. IsKept R.CELLS reader.kept };
 }
 
 impl<R: Rule> Reader<R> {
     /// Before the first line.
     pub(crate) fn new() -> Reader<R>
-        ensures { result ≡ start_state }
+        ensures { result ≡ nothing_known }
     {
-        Reader {
+        let kept = Kept {
             foundations_line: false,
             cells_line: false,
             heights: [None; 4],
@@ -62,6 +66,9 @@ impl<R: Rule> Reader<R> {
             bounds: [0; 9],
             column_lines: 0,
             seen: CardSet::new(),
+        };
+        Reader {
+            kept,
             rule: PhantomData,
         }
     }
@@ -70,96 +77,97 @@ impl<R: Rule> Reader<R> {
     pub(crate) fn is_begun(&self) -> bool
         ensures { result ≡ is_begun self.now }
     {
-        self.foundations_line || self.cells_line || self.column_lines > 0
+        self.kept.foundations_line || self.kept.cells_line || self.kept.column_lines > 0
     }
 
     /// Whether a further column may come.
     pub(crate) fn has_room(&self) -> bool
         ensures { result ≡ has_room self.now }
     {
-        self.column_lines < 8
+        self.kept.column_lines < 8
     }
 
     /// Takes the beginning of a line, or returns what is at fault in it.
-    pub(crate) fn take_line(&mut self, section: RowKind) -> Result<(), BoardFaultKind>
-        ensures taken { TakesPart R.game self.old (section_of section) None self.new result }
+    pub(crate) fn take_line(&mut self, section: Section) -> Result<(), BoardFaultKind>
+        ensures taken { TakesPart R.game self.old section None self.new result }
     {
         match section {
-            RowKind::Foundations => self.take_foundations_line(),
-            RowKind::Freecells => self.take_cells_line(),
-            RowKind::Column => self.take_column(),
+            Section::Foundations => self.take_foundations_line(),
+            Section::Freecells => self.take_cells_line(),
+            Section::Column => self.take_column(),
         }
     }
 
     fn take_foundations_line(&mut self) -> Result<(), BoardFaultKind>
         ensures taken { TakesPart R.game self.old Foundations None self.new result }
     {
-        if self.foundations_line {
+        if self.kept.foundations_line {
             return Err(BoardFaultKind::RepeatedLine);
         }
-        self.foundations_line = true;
+        self.kept.foundations_line = true;
         Ok(())
     }
 
     fn take_cells_line(&mut self) -> Result<(), BoardFaultKind>
         ensures taken { TakesPart R.game self.old Freecells None self.new result }
     {
-        if self.cells_line {
+        if self.kept.cells_line {
             return Err(BoardFaultKind::RepeatedLine);
         }
-        self.cells_line = true;
+        self.kept.cells_line = true;
         Ok(())
     }
 
     fn take_column(&mut self) -> Result<(), BoardFaultKind>
         ensures taken { TakesPart R.game self.old Column None self.new result }
     {
-        if self.column_lines >= 8 {
+        if self.kept.column_lines >= 8 {
             return Err(BoardFaultKind::TooManyColumns);
         }
-        self.bounds[self.column_lines] = self.card_count as u8;
-        self.column_lines += 1;
+        self.kept.bounds[self.kept.column_lines] = self.kept.card_count as u8;
+        self.kept.column_lines += 1;
         Ok(())
     }
 
     /// Takes a word of a line, or returns what is at fault in it.
-    pub(crate) fn take_word(&mut self, section: RowKind, word: &[u8]) -> Result<(), BoardFaultKind>
-        ensures taken { TakesPart R.game self.old (section_of section)
+    pub(crate) fn take_word(&mut self, section: Section, word: &[u8]) -> Result<(), BoardFaultKind>
+        ensures taken { TakesPart R.game self.old section
             (Some word.now) self.new result }
     {
         match section {
-            RowKind::Foundations => self.take_foundation(word),
-            RowKind::Freecells => self.take_cell(word),
-            RowKind::Column => self.take_card(word),
+            Section::Foundations => self.take_foundation(word),
+            Section::Freecells => self.take_cell(word),
+            Section::Column => self.take_card(word),
         }
     }
 
     fn take_foundation(&mut self, word: &[u8]) -> Result<(), BoardFaultKind>
         ensures taken { TakesPart R.game self.old Foundations (Some word.now) self.new result }
     {
-        let Some(Foundation { suit, height }) = foundation_spelled(word) else {
+        let Some(foundation) = foundation_spelled(word) else {
             return Err(BoardFaultKind::BadFoundation);
         };
-        if self.heights[usize::from(suit)].is_some() {
+        let Foundation { suit, height } = foundation;
+        if is_named(&self.kept.heights, suit) {
             return Err(BoardFaultKind::BadFoundation);
         }
-        mark_foundation(&mut self.seen, suit, height)?;
-        self.heights[usize::from(suit)] = Some(height);
+        mark_foundation(&mut self.kept.seen, suit, height)?;
+        self.kept.heights[usize::from(suit)] = Some(height);
         Ok(())
     }
 
     fn take_cell(&mut self, word: &[u8]) -> Result<(), BoardFaultKind>
         ensures taken { TakesPart R.game self.old Freecells (Some word.now) self.new result }
     {
-        if self.cell_words >= R::CELLS {
+        if self.kept.cell_words >= R::CELLS {
             return Err(BoardFaultKind::TooManyCells);
         }
         let Some(cell) = cell_spelled(word) else {
             return Err(BoardFaultKind::BadCard);
         };
-        mark_cell(&mut self.seen, &cell)?;
-        put_cell(&mut self.cells, self.cell_words, cell);
-        self.cell_words += 1;
+        mark_cell(&mut self.kept.seen, &cell)?;
+        put_cell(&mut self.kept.cells, self.kept.cell_words, cell);
+        self.kept.cell_words += 1;
         Ok(())
     }
 
@@ -179,8 +187,13 @@ impl<R: Rule> Reader<R> {
             → TakesPart R.game self.old Column (Some word) self.new result }
         ensures kept { IfErr result (λ _. self.new ≡ self.old) }
     {
-        mark_card(&mut self.seen, card)?;
-        self.card_count = lay(&mut self.cards, self.card_count, self.column_lines, card);
+        mark_card(&mut self.kept.seen, card)?;
+        self.kept.card_count = lay(
+            &mut self.kept.cards,
+            self.kept.card_count,
+            self.kept.column_lines,
+            card,
+        );
         Ok(())
     }
 
@@ -189,7 +202,7 @@ impl<R: Rule> Reader<R> {
         ensures { MatchOption result (NoCard (λ card. is_seen self.now.seen card ≡ false))
             (IsLowest (λ card. is_seen self.now.seen card ≡ false)) }
     {
-        self.seen.lowest_missing()
+        self.kept.seen.lowest_missing()
     }
 
     /// The board that was read, where it is one.
@@ -197,9 +210,26 @@ impl<R: Rule> Reader<R> {
         requires { IsWellFormed R.game (board_known R.game self) }
         ensures { result ≡ board_known R.game self }
     {
-        let ends = ends(self.bounds, self.column_lines, self.card_count);
-        Board::of_laid(known_heights(self.heights), self.cells, self.cards, ends)
+        let ends = ends(
+            self.kept.bounds,
+            self.kept.column_lines,
+            self.kept.card_count,
+        );
+        Board::of_laid(
+            known_heights(self.kept.heights),
+            self.kept.cells,
+            self.kept.cards,
+            ends,
+        )
     }
+}
+
+/// Whether the suit has a height.
+fn is_named(heights: &[Option<Height>; 4], suit: u8) -> bool
+    requires { suit < 4 }
+    ensures { result ≡ is_named_suit heights.now suit }
+{
+    heights[usize::from(suit)].is_some()
 }
 
 /// Puts what a cell holds at this place.
@@ -293,7 +323,7 @@ fn mark_foundation(seen: &mut CardSet, suit: u8, height: Height) -> Result<(), B
 
 /// What a line holds: the foundations, the cells or a column.
 #[derive(Clone, Copy, PartialEq, Eq, Debug)]
-pub enum RowKind {
+pub enum Section {
     /// The heights of the foundations.
     Foundations,
     /// The cells, from the first on.

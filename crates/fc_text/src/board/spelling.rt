@@ -1,8 +1,8 @@
 //! The words of cards, cells and heights, in either case.
 ghost use Rattle.std.specs.{Option.{option_map}, Prelude.{◌<◌, ◌∷◌, ◌≡◌, ◌≤◌, [], IfSome, Some}};
-ghost use Rattle.fc_text.specs.{card_spelled, cell_spelled, foundation_spelled, height_spelled};
-ghost use Rattle.fc_text.specs.{is_empty_mark, rank_spelled};
-ghost use Rattle.fc_text.specs.{reader.{clubs_number, foundation_of, suit_code}, suit_spelled};
+ghost use Rattle.fc_text.specs.{reader.{clubs_number, suit_code}, Spelling.{card_spelled}};
+ghost use Rattle.fc_text.specs.Spelling.{cell_spelled, foundation_spelled, height_spelled};
+ghost use Rattle.fc_text.specs.Spelling.{is_empty_mark, rank_spelled, suit_spelled};
 
 use fc_board::Height;
 use fc_card::Card;
@@ -110,7 +110,7 @@ pub(crate) fn cell_spelled(word: &[u8]) -> Option<Option<Card>>
 
 /// The foundation that a word spells: a suit of one letter, a dash, and a height.
 pub(crate) fn foundation_spelled(word: &[u8]) -> Option<Foundation>
-    ensures spelled { option_map foundation_of result ≡ foundation_spelled word.now }
+    ensures spelled { result ≡ foundation_spelled word.now }
     ensures of_a_suit { IfSome result (λ foundation. foundation.suit < 4) }
 {
     if word.len() < 2 || word[1] != b'-' {

@@ -1,15 +1,14 @@
 //! Reading a list of moves, of either kind.
 ghost use Rattle.std.specs.Prelude.{◌++◌, ◌<◌, ◌==◌, ◌∷◌, ◌≡◌, [], Err, IfErr, IfOk, IfSome};
 ghost use Rattle.std.specs.Prelude.{IsOkAnd, None, OnOk, ℕ};
-ghost use Rattle.fc_print.specs.{BadTokenAt, blank, Listed};
-ghost use Rattle.fc_print.specs.reader.{BeginsWithPair, BeginsWithToken, IsReadTo};
-ghost use Rattle.fc_print.specs.{separates_tokens, token, TooManyAt, words_from};
+ghost use Rattle.fc_text.specs.{Bytes.{blank}, Lines.{words_from}};
+ghost use Rattle.fc_text.specs.Notation.{BadTokenAt, Listed, separates_tokens, token, TooManyAt};
+ghost use Rattle.fc_text.specs.reader.{BeginsWithPair, BeginsWithToken, IsReadTo};
 ghost use Rattle.fc_text.specs.declared.fault.MovesFault.TheVariants.{BadToken, Memory, TooMany};
 
 use super::{MOST_MOVES, Notated};
-use crate::MovesFault;
+use crate::{MovesFault, Tokens};
 use fc_board::Rule;
-use fc_print::Tokens;
 use std::alloc::{AllocError, Global};
 
 pub(crate) fn read_list<R: Rule, M: Notated>(

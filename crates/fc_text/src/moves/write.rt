@@ -1,9 +1,9 @@
 //! Writing a list of moves, of either kind.
 ghost use Rattle.std.specs.{List.{join_with_byte}, Prelude.{◌++◌, ◌<◌, ◌==◌, ◌≡◌, [], All, IfOk}};
 ghost use Rattle.std.specs.Prelude.{IsOk, IsOkAnd, map, OnOk, slice_index};
-ghost use Rattle.fc_parts.specs.{eight_off, IsCount, PlaceFits, SourceFits};
-ghost use Rattle.fc_print.specs.{blank, column_digits, count_suffix, source_character};
-ghost use Rattle.fc_print.specs.{target_character};
+ghost use Rattle.fc_board.specs.{Games.{eight_off}, Moves.{IsCount, PlaceFits, SourceFits}};
+ghost use Rattle.fc_text.specs.{Bytes.{blank}, Notation.{column_digits, count_suffix}};
+ghost use Rattle.fc_text.specs.Notation.{source_character, target_character};
 
 use super::Notated;
 use fc_board::{Place, Source};

@@ -1,5 +1,7 @@
 //! What the help says.
 
+use crate::request::Task;
+
 pub(super) const ABOUT: &str =
     "fcanon reads boards of FreeCell, Baker's Game and Eight Off, and deals the first
 two.";
@@ -18,16 +20,38 @@ Examples: fcanon show < my.board
 Status: 0 if all was accepted, 1 if a record was refused, 2 if the command line
 was refused or the deal number is out of range, 3 if the run gave up.";
 
-/// What the help of a command that reads boards says: how it is used, what it does, and notes.
+/// What the help of a command says: how it is used, unless the parser says that by its arguments,
+/// what it does, and notes.
 #[derive(Clone, Copy)]
 pub(super) struct Help {
-    pub(super) usage: &'static str,
+    pub(super) usage: Option<&'static str>,
     pub(super) about: &'static str,
     pub(super) notes: &'static str,
 }
 
-pub(super) const SHOW: Help = Help {
-    usage: "fcanon show [OPTIONS] < FILE",
+impl Help {
+    /// That of the command of a task.
+    pub(super) fn of(task: Task) -> Help {
+        match task {
+            Task::Show => SHOW,
+            Task::Canon => CANON,
+            Task::Check => CHECK,
+            Task::Group => GROUP,
+            Task::Share => SHARE,
+            Task::Expand => EXPAND,
+            Task::Unique => UNIQUE,
+            Task::Table => TABLE,
+            Task::Same => SAME,
+            Task::Symmetries => SYMMETRIES,
+            Task::Count => COUNT,
+            Task::Import => IMPORT,
+            Task::Deal => DEAL,
+        }
+    }
+}
+
+const SHOW: Help = Help {
+    usage: Some("fcanon show [OPTIONS] < FILE"),
     about: "Print each record in one spelling, or name its first fault",
     notes: "freecell     4 cells, a card goes on one of the other colour
 bakers_game  4 cells, a card goes on one of its own suit
@@ -47,8 +71,8 @@ which gives its name or its number, the place of the first fault, in bytes from
 Example: fcanon show < my.board",
 };
 
-pub(super) const CANON: Help = Help {
-    usage: "fcanon canon [OPTIONS] < FILE",
+const CANON: Help = Help {
+    usage: Some("fcanon canon [OPTIONS] < FILE"),
     about: "Print the canonical board of each record",
     notes: "A record is a board, spelled as for show, and after it any number of lists of
 moves, each in a line of its own, as
@@ -77,8 +101,8 @@ record that is refused one line is printed, as
 Example: fcanon deal 1 | fcanon canon",
 };
 
-pub(super) const CHECK: Help = Help {
-    usage: "fcanon check [OPTIONS] < FILE",
+const CHECK: Help = Help {
+    usage: Some("fcanon check [OPTIONS] < FILE"),
     about: "Play each list of moves on the board of its record",
     notes: "Records with their lists of moves are read as by canon. Each list is played from
 its record's board, and one line is printed for it, with the record's name and
@@ -94,8 +118,8 @@ An illegal list leaves the status as it is.
 Example: (fcanon deal 1; echo '> 3a') | fcanon check",
 };
 
-pub(super) const GROUP: Help = Help {
-    usage: "fcanon group [OPTIONS] < FILE",
+const GROUP: Help = Help {
+    usage: Some("fcanon group [OPTIONS] < FILE"),
     about: "Print each group of equivalent boards, with its records' names",
     notes: "Records are read as by canon. Two of them are in one group if they are of one
 game and have one canonical board. Lists of moves make no difference here, and a
@@ -116,8 +140,8 @@ come before the groups.
 Example: fcanon group < my.collection",
 };
 
-pub(super) const SHARE: Help = Help {
-    usage: "fcanon share [OPTIONS] < FILE",
+const SHARE: Help = Help {
+    usage: Some("fcanon share [OPTIONS] < FILE"),
     about: "Print each board with a solution of its group, if there is one",
     notes: "Records are read as by canon, and grouped as by group. A list of moves that wins
 from one board of a group can be carried over to all of them. So of each group
@@ -136,8 +160,8 @@ come before the groups.
 Example: fcanon share < my.collection | fcanon check",
 };
 
-pub(super) const EXPAND: Help = Help {
-    usage: "fcanon expand [OPTIONS] < FILE",
+const EXPAND: Help = Help {
+    usage: Some("fcanon expand [OPTIONS] < FILE"),
     about: "Print each record with its lists as moves of one card",
     notes: "Records are read as by canon and printed as by show, but each list that its
 record's board allows is printed by moves of one card: a list with > as it is,
@@ -154,8 +178,8 @@ lines takes its place, with the number of the list:
 Example: fcanon expand < my.collection | fcanon check",
 };
 
-pub(super) const UNIQUE: Help = Help {
-    usage: "fcanon unique [OPTIONS] < FILE",
+const UNIQUE: Help = Help {
+    usage: Some("fcanon unique [OPTIONS] < FILE"),
     about: "Print the first record of each group of equivalent boards",
     notes: "Records are read as by canon, and grouped as by group. The first record of each
 group is printed as by show, with its lists, as soon as it is read; the others
@@ -167,8 +191,8 @@ For a record that is refused one line is printed, as by canon.
 Example: fcanon unique < my.collection",
 };
 
-pub(super) const TABLE: Help = Help {
-    usage: "fcanon table [OPTIONS] < FILE",
+const TABLE: Help = Help {
+    usage: Some("fcanon table [OPTIONS] < FILE"),
     about: "Print a line of columns for each record, for other programs",
     notes: "Records are read as by canon. Printed for each is one line of eight columns,
 with a tab between two:
@@ -193,8 +217,8 @@ or with --json an object, as
 Example: fcanon table < my.collection | cut -s -f 3 | sort | uniq -c",
 };
 
-pub(super) const SAME: Help = Help {
-    usage: "fcanon same [OPTIONS] < FILE",
+const SAME: Help = Help {
+    usage: Some("fcanon same [OPTIONS] < FILE"),
     about: "Print the passage from the first board to that of each later one",
     notes: "Records are read as by canon. Each is compared with the first one that is not
 refused, and for that one nothing is printed. For each later record one line is
@@ -211,8 +235,8 @@ For a record that is refused one line is printed, as by canon.
 Example: cat my.board my.collection | fcanon same",
 };
 
-pub(super) const SYMMETRIES: Help = Help {
-    usage: "fcanon symmetries [OPTIONS] < FILE",
+const SYMMETRIES: Help = Help {
+    usage: Some("fcanon symmetries [OPTIONS] < FILE"),
     about: "Print the symmetries of the board of each record",
     notes: "Records are read as by canon. A symmetry of a board is an exchange of suits that
 keeps the rule of building and with which the board becomes itself, but for the
@@ -227,8 +251,8 @@ For a record that is refused one line is printed, as by canon.
 Example: fcanon symmetries < my.collection",
 };
 
-pub(super) const COUNT: Help = Help {
-    usage: "fcanon count [OPTIONS] < FILE",
+const COUNT: Help = Help {
+    usage: Some("fcanon count [OPTIONS] < FILE"),
     about: "Print figures of the whole collection, in one line",
     notes: "Records are read as by canon, and grouped as by group. At the end one line is
 printed:
@@ -248,8 +272,8 @@ object, as by table. All these lines come before the figures.
 Example: fcanon count < my.collection",
 };
 
-pub(super) const IMPORT: Help = Help {
-    usage: "fcanon import [OPTIONS] < FILE",
+const IMPORT: Help = Help {
+    usage: Some("fcanon import [OPTIONS] < FILE"),
     about: "Make a collection of boards as other programs print them",
     notes: "Read are boards as sites, books and programs print them, one or many: suits as
 signs or letters, before or after the rank, 10 or T, in columns, in rows or in
@@ -263,6 +287,15 @@ and what to write instead. The last line counts all. The status is 1 if a board
 or a list is not taken.
 
 Example: fcanon import < found.txt > my.collection",
+};
+
+const DEAL: Help = Help {
+    usage: None,
+    about: "Print the board of one of Microsoft's numbered deals",
+    notes: "A deal has the same cards on the same eight columns in both games, and its cells
+and foundations are empty. Eight Off is dealt in another way, and not by number.
+
+Example: fcanon deal 617 | fcanon show",
 };
 
 /// What the help of `--variant` says in a command that reads boards.
@@ -293,11 +326,3 @@ columns as well";
 pub(super) const JSON: &str = "Print an object of JSON in place of a line";
 
 pub(super) const HEADER: &str = "Print a line with the names of the columns first";
-
-pub(super) const DEAL: &str = "Print the board of one of Microsoft's numbered deals";
-
-pub(super) const DEAL_NOTES: &str =
-    "A deal has the same cards on the same eight columns in both games, and its cells
-and foundations are empty. Eight Off is dealt in another way, and not by number.
-
-Example: fcanon deal 617 | fcanon show";

@@ -2,12 +2,12 @@
 ghost use Rattle.clap.specs.Words.{first_of, found_of, rows_of, subcommand_rows_of};
 ghost use Rattle.std.specs.{Option.{option_map}, Prelude.{◌<◌, ◌^◌, ◌≡◌, ◌≤◌, option_and_then}};
 ghost use Rattle.fc_tool.specs.{any_size_in, format_in, is_true, limits_in, limits_named, lines_in};
-ghost use Rattle.fc_tool.specs.{number_between, number_in, request_of, start_named, task_named};
-ghost use Rattle.fc_tool.specs.{variant_in, variant_of_argument};
+ghost use Rattle.fc_tool.specs.{number_between, number_in, request_of, start_named, variant_in};
+ghost use Rattle.fc_tool.specs.{variant_of_argument};
 
 use crate::request::{Options, Request, Task};
 use clap::ArgMatches;
-use fc_collect::{Format, Limits, MOST_COUNTABLE, RunKind, Variant};
+use fc_collect::{Format, Limits, MOST_COUNTABLE, Variant};
 use fc_import::LinesAre;
 
 /// What the command that was met asks for.
@@ -22,7 +22,7 @@ pub(super) fn request_of(matches: &ArgMatches<'_>) -> Option<Request>
 fn request_in(name: &str, own: &ArgMatches<'_>) -> Option<Request>
     ensures { result ≡ request_of (name.now, rows_of (found_of own.now)) }
 {
-    let task = task_named(name)?;
+    let task = Task::named(name)?;
     let variant = variant_in(own)?;
     match (task, variant) {
         (Task::Deal, Variant::EightOff) => None,
@@ -41,7 +41,7 @@ fn request_in(name: &str, own: &ArgMatches<'_>) -> Option<Request>
                 ..Options::plain()
             },
         }),
-        (Task::Run(_), _) => Some(Request {
+        _ => Some(Request {
             task,
             variant,
             number: None,
@@ -160,27 +160,6 @@ fn number_between(text: &str, least: u64, most: u64) -> Option<u64>
         return None;
     }
     Some(number)
-}
-
-fn task_named(name: &str) -> Option<Task>
-    ensures { result ≡ task_named name.now }
-{
-    match name {
-        "show" => Some(Task::Run(RunKind::Show)),
-        "canon" => Some(Task::Run(RunKind::Canon)),
-        "check" => Some(Task::Run(RunKind::Check)),
-        "group" => Some(Task::Run(RunKind::Group)),
-        "share" => Some(Task::Run(RunKind::Share)),
-        "expand" => Some(Task::Run(RunKind::Expand)),
-        "unique" => Some(Task::Run(RunKind::Unique)),
-        "table" => Some(Task::Run(RunKind::Table)),
-        "same" => Some(Task::Run(RunKind::Same)),
-        "symmetries" => Some(Task::Run(RunKind::Symmetries)),
-        "count" => Some(Task::Run(RunKind::Count)),
-        "import" => Some(Task::Import),
-        "deal" => Some(Task::Deal),
-        _ => None,
-    }
 }
 
 fn variant_of_argument(name: &str) -> Option<Variant>

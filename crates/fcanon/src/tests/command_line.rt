@@ -1,12 +1,12 @@
 //! What command lines ask for.
 use clap::error::ErrorKind;
-use fc_collect::RunKind::{
-    self, Canon, Check, Count, Expand, Group, Same, Share, Show, Symmetries, Table, Unique,
-};
 use fc_collect::Variant::{self, BakersGame, EightOff, FreeCell};
 use fc_collect::{Format, Limits};
 use fc_import::LinesAre;
-use fc_tool::{Options, Request, Task, WordsFault, read_words};
+use fc_tool::Task::{
+    self, Canon, Check, Count, Expand, Group, Same, Share, Show, Symmetries, Table, Unique,
+};
+use fc_tool::{Options, Request, WordsFault, read_words};
 use std::alloc::{AllocError, Global};
 
 // The options of a command that is given none.
@@ -36,7 +36,7 @@ fn is_read_as(alloc: Global, line: &str, request: &Request) -> bool {
     matches!(read_line(alloc, line), Ok(Some(answer)) if answer == *request)
 }
 
-static REQUESTS: [(&str, RunKind, Variant); 12] = [
+static REQUESTS: [(&str, Task, Variant); 12] = [
     ("./elsewhere show --variant eight_off", Show, EightOff),
     ("fcanon canon --variant bakers_game", Canon, BakersGame),
     ("fcanon check --variant freecell", Check, FreeCell),
@@ -54,9 +54,9 @@ static REQUESTS: [(&str, RunKind, Variant); 12] = [
 // The laws of `fc_tool` say the same of each command and game.
 #[test]
 fn requests(rt: HostRuntime) {
-    for &(line, kind, variant) in &REQUESTS {
+    for &(line, task, variant) in &REQUESTS {
         let request = Request {
-            task: Task::Run(kind),
+            task,
             variant,
             number: None,
             options: PLAIN,

@@ -1,7 +1,7 @@
 //! Solutions of real deals, each played to its end. Freecell Solver 5.0.0 found them, from what
 //! make-microsoft-freecell-board prints: `fc-solve -m -sn -to 01ABCDE`, with `-g bakers_game` or
 //! `-g eight_off`. Every move is of one card, and every move home is written.
-ghost use Rattle.{fc_parts.specs.{Fits}, std.specs.Prelude.{All, IsTrue}};
+ghost use Rattle.{fc_board.specs.Moves.{Fits}, std.specs.Prelude.{All, IsTrue}};
 
 use fc_board::{BakersGame, Board, EightOff, FreeCell, Move, PlayFault, Rule, StepFault};
 use fc_deal::{Numbered, deal_board};

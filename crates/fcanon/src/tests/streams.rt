@@ -1,6 +1,6 @@
 //! Runs over streams that hand over some bytes a call, or fail at a call.
 use fc_collect::{
-    Counted, Format, Limits, RunFault, RunKind, Seed, Summary, Variant, run_canon, run_check,
+    CountFormat, Counted, Limits, RunFault, RunKind, Seed, Summary, Variant, run_canon, run_check,
     run_expand, run_group, run_share, run_show, run_table, run_unique, run_within,
 };
 use std::alloc::{AllocError, Global};
@@ -126,16 +126,7 @@ fn run(alloc: Global, command: Command, reader: Pieces<'_>, writer: Taking) -> R
         Command::Table => run_table(alloc, variant, &mut input, &mut output),
         Command::Other(kind) => {
             let (limits, seed) = (Limits::STANDARD, Seed::KNOWN);
-            run_within(
-                alloc,
-                kind,
-                Format::Lines,
-                variant,
-                limits,
-                seed,
-                &mut input,
-                &mut output,
-            )
+            run_within(alloc, kind, variant, limits, seed, &mut input, &mut output)
         }
     };
     Ran {
@@ -489,7 +480,7 @@ two renaming CHDS
         0,
     ),
     (
-        Command::Other(RunKind::Count),
+        Command::Other(RunKind::Count(CountFormat::Words)),
         HEADERS_AND_STRAYS,
         b"# refused 1 at 31: stray line
 # refused 2 at 38: bad header

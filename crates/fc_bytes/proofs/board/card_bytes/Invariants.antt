@@ -1,6 +1,6 @@
 use Rattle.std.proofs.Common.{◌<◌, ◌≡◌, length, map, take}
 use Rattle.std.specs.List.{flat_map}
-use Rattle.fc_parts.specs.{IsWellFormed}
+use Rattle.fc_board.specs.Boards.{IsWellFormed}
 use Rattle.fc_bytes.specs.{padded}
 use Rattle.fc_bytes.specs.inside.{card_byte}
 use Rattle.fc_bytes.proofs.board.card_bytes.Given as goal

@@ -1,7 +1,7 @@
 use Rattle.std.proofs.Common.{◌<◌, ◌≡◌, length, map, take}
 use Rattle.std.specs.List.{flat_map}
 use Rattle.fc_card.specs.{pick}
-use Rattle.fc_parts.specs.{IsPassage, IsWellFormed}
+use Rattle.fc_board.specs.{Boards.{IsWellFormed}, Passages.{IsPassage}}
 use Rattle.fc_bytes.specs.{padded}
 use Rattle.fc_bytes.specs.inside.{card_byte}
 use Rattle.fc_bytes.proofs.carried.ordered_cards.Given as goal

@@ -1,8 +1,8 @@
 use Rattle.std.proofs.Common.{◌==◌, ◌≤◌, ap, arith, length, sym, take}
 use Rattle.std.proofs.lemmas.List.{take_all}
 use Rattle.std.specs.List.{position_or_len}
-use Rattle.fc_print.proofs.LetterLemmas.{first_byte-none, first_byte-some}
-use Rattle.fc_print.specs.{number_sign}
+use Rattle.fc_text.proofs.LetterLemmas.{first_byte-none, first_byte-some}
+use Rattle.fc_text.specs.Bytes.{number_sign}
 use Rattle.fc_import.proofs.cards.before_comment.Goals as goal
 
 pub returns-in-Some : goal.returns-in-Some

@@ -1,6 +1,6 @@
 use Rattle.std.proofs.Common.{◌++◌, ◌≡◌, drop}
 use Rattle.std.specs.List.{flat_map}
-use Rattle.fc_import.specs.{by_columns, ended}
+use Rattle.fc_import.specs.{Import.{by_columns}, Words.{ended}}
 use Rattle.fc_import.proofs.cards.by_columns.Given as goal
 
 abbrev pub invariant-loop-index : goal.invariant-loop-index

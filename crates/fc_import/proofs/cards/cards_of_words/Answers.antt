@@ -1,10 +1,10 @@
 use Rattle.std.proofs.Common.{◌++◌, ◌∙◌, ◌≡◌, ap, append-nil, ap₂, List, map, subst, sym, ℕ}
 use Rattle.std.specs.List.{flat_map}
 use Rattle.std.specs.Option.{option_to_list}
-use Rattle.fc_print.specs.{separates_tokens, words, words_from}
-use Rattle.fc_print.specs.Left.{tokens_left}
+use Rattle.fc_text.specs.{Lines.{words, words_from}, Notation.{separates_tokens}}
+use Rattle.fc_import.specs.Words.{named_card, plain_words}
+use Rattle.fc_text.specs.Left.{tokens_left}
 use Rattle.fc_import.proofs.TakingLemmas.{one_taken, without_ends}
-use Rattle.fc_import.specs.{named_card, plain_words}
 use Rattle.fc_import.proofs.cards.cards_of_words.Goals as goal
 
 abbrev cards_of : List ℕ → List ℕ

@@ -1,8 +1,8 @@
 use Rattle.std.proofs.Common.{◌++◌, ◌≡◌, map}
 use Rattle.std.specs.List.{flat_map}
 use Rattle.std.specs.Option.{option_to_list}
-use Rattle.fc_print.specs.Left.{tokens_left}
-use Rattle.fc_import.specs.{named_card, plain_words}
+use Rattle.fc_text.specs.Left.{tokens_left}
+use Rattle.fc_import.specs.Words.{named_card, plain_words}
 use Rattle.fc_import.proofs.cards.cards_of_words.Given as goal
 
 abbrev pub invariant-loop-token : goal.invariant-loop-token

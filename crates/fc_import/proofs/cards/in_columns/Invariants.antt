@@ -1,6 +1,6 @@
 use Rattle.std.proofs.Common.{◌++◌, ◌≡◌, drop}
 use Rattle.std.specs.List.{flat_map}
-use Rattle.fc_import.specs.{in_columns}
+use Rattle.fc_import.specs.Import.{in_columns}
 use Rattle.fc_import.proofs.cards.in_columns.Given as goal
 
 abbrev pub invariant-loop-index : goal.invariant-loop-index

@@ -4,7 +4,7 @@ use Rattle.std.specs.Option.{option_to_list}
 use Rattle.std.specs.Prelude.{slice_get}
 use Rattle.fc_card.specs.{places}
 use Rattle.fc_import.proofs.TakingLemmas.{all_places, one_place}
-use Rattle.fc_import.specs.{in_rows}
+use Rattle.fc_import.specs.Import.{in_rows}
 use Rattle.fc_import.proofs.cards.in_rows.Goals as goal
 
 pub loop-row-init : goal.loop-row-init

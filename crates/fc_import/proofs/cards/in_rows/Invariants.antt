@@ -3,7 +3,7 @@ use Rattle.std.specs.List.{flat_map}
 use Rattle.std.specs.Option.{option_to_list}
 use Rattle.std.specs.Prelude.{slice_get}
 use Rattle.fc_card.specs.{places}
-use Rattle.fc_import.specs.{in_rows}
+use Rattle.fc_import.specs.Import.{in_rows}
 use Rattle.fc_import.proofs.cards.in_rows.Given as goal
 
 abbrev pub invariant-loop-row : goal.invariant-loop-row

@@ -1,7 +1,7 @@
 use Rattle.std.proofs.Common.{◌++◌, ◌≡◌}
 use Rattle.std.specs.List.{flat_map}
-use Rattle.fc_print.specs.Left.{lines_left}
-use Rattle.fc_import.specs.{named_cards, named_in}
+use Rattle.fc_text.specs.Left.{lines_left}
+use Rattle.fc_import.specs.Words.{named_cards, named_in}
 use Rattle.fc_import.proofs.cards.named_in.Given as goal
 
 abbrev pub invariant-loop-line : goal.invariant-loop-line

@@ -1,7 +1,7 @@
 use Rattle.std.proofs.Common.{◌++◌, ◌≡◌}
 use Rattle.std.specs.List.{flat_map}
-use Rattle.fc_print.specs.Left.{lines_left}
-use Rattle.fc_import.specs.{ended, named_cards, named_lines}
+use Rattle.fc_text.specs.Left.{lines_left}
+use Rattle.fc_import.specs.Words.{ended, named_cards, named_lines}
 use Rattle.fc_import.proofs.cards.named_lines.Given as goal
 
 abbrev pub invariant-loop-line : goal.invariant-loop-line

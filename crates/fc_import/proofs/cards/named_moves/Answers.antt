@@ -1,9 +1,9 @@
 use Rattle.std.proofs.Common.{◌++◌, ◌∙◌, ◌≡◌, ap, append-nil, ap₂, map, subst, sym}
 use Rattle.std.specs.List.{flat_map}
-use Rattle.fc_print.specs.{separates_tokens, words, words_from}
-use Rattle.fc_print.specs.Left.{tokens_left}
+use Rattle.fc_text.specs.{Lines.{words, words_from}, Notation.{separates_tokens}}
+use Rattle.fc_import.specs.Words.{letters_of_move, named_moves}
+use Rattle.fc_text.specs.Left.{tokens_left}
 use Rattle.fc_import.proofs.TakingLemmas.{one_taken, without_ends}
-use Rattle.fc_import.specs.{letters_of_move, named_moves}
 use Rattle.fc_import.proofs.cards.named_moves.Goals as goal
 
 pub loop-token-init : goal.loop-token-init

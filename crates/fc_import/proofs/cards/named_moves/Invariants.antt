@@ -1,7 +1,7 @@
 use Rattle.std.proofs.Common.{◌++◌, ◌≡◌, map}
 use Rattle.std.specs.List.{flat_map}
-use Rattle.fc_print.specs.Left.{tokens_left}
-use Rattle.fc_import.specs.{letters_of_move, named_moves}
+use Rattle.fc_text.specs.Left.{tokens_left}
+use Rattle.fc_import.specs.Words.{letters_of_move, named_moves}
 use Rattle.fc_import.proofs.cards.named_moves.Given as goal
 
 abbrev pub invariant-loop-token : goal.invariant-loop-token

@@ -1,5 +1,5 @@
 use Rattle.std.proofs.Common.{◌++◌, ◌≡◌, length}
-use Rattle.fc_import.specs.{units_of}
+use Rattle.fc_import.specs.Words.{units_of}
 use Rattle.fc_import.proofs.decoding.units_of.Given as goal
 
 abbrev pub invariant-loop-left : goal.invariant-loop-left

@@ -1,4 +1,4 @@
-use Rattle.std.proofs.Common.{◌++◌, arith, drop, refl, subst, sym, take}
+use Rattle.std.proofs.Common.{arith, drop, refl, subst, sym, take}
 use Rattle.std.proofs.Math.Seq.{take-add}
 use Rattle.std.proofs.lemmas.List.{take_rest}
 use Rattle.fc_import.proofs.PieceLemmas.{lines_more}

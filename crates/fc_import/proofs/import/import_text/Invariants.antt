@@ -1,5 +1,5 @@
 use Rattle.std.proofs.Common.{◌-◌, ◌<◌, ◌≡◌, ◌≤◌, length, take, true}
-use Rattle.fc_record.specs.{ends_line}
+use Rattle.fc_record.specs.RecordTexts.{ends_line}
 use Rattle.fc_import.specs.inside.{IsMade}
 use Rattle.fc_import.proofs.import.import_text.Given as goal
 

@@ -1,6 +1,6 @@
 use Rattle.std.proofs.Common.{◌+◌, ◌-◌, ◌==◌, ◌∙◌, ◌≡◌, ◌≤◌, ap, arith, get_or, length, subst, suc, sym, take}
 use Rattle.std.proofs.lemmas.List.{take_all}
-use Rattle.fc_print.specs.{line_feed, lines_from}
+use Rattle.fc_text.specs.{Bytes.{line_feed}, Lines.{lines_from}}
 use Rattle.fc_record.proofs.TextLineLemmas.{ends_line-take}
 use Rattle.fc_import.proofs.PieceLemmas.{one_line}
 use Rattle.fc_import.proofs.import.line_len.Goals as goal

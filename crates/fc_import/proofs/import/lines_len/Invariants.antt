@@ -1,5 +1,5 @@
 use Rattle.std.proofs.Common.{◌-◌, length, take}
-use Rattle.fc_import.specs.{HasNoHeader}
+use Rattle.fc_import.specs.Import.{HasNoHeader}
 use Rattle.fc_import.specs.inside.{AreWhole}
 use Rattle.fc_import.proofs.import.lines_len.Given as goal
 

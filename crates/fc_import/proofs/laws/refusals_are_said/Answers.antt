@@ -1,6 +1,6 @@
 use Rattle.std.proofs.Common.{◌+◌, ap₂, refl}
 use Rattle.fc_import.proofs.SilenceLemmas.{all_taken}
-use Rattle.fc_import.specs.{counted}
+use Rattle.fc_import.specs.Notes.{counted}
 use Rattle.fc_import.proofs.laws.refusals_are_said.Goals as goal
 
 pub returns-clause-refusals : goal.returns-clause-refusals

@@ -1,5 +1,5 @@
 use Rattle.std.proofs.Common.{◌∙◌, ap, sym}
-use Rattle.fc_print.specs.{text_of}
+use Rattle.fc_text.specs.Printed.{text_of}
 use Rattle.fc_text.proofs.SpellingLemmas.{same_board}
 use Rattle.fc_import.proofs.made.is_same.Goals as goal
 

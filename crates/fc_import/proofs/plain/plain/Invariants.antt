@@ -1,5 +1,5 @@
 use Rattle.std.proofs.Common.{◌++◌, ◌≡◌, drop}
-use Rattle.fc_import.specs.{plain}
+use Rattle.fc_import.specs.Words.{plain}
 use Rattle.fc_import.proofs.plain.plain.Given as goal
 
 abbrev pub invariant-loop-byte : goal.invariant-loop-byte

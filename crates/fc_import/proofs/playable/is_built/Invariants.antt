@@ -1,7 +1,6 @@
 use Rattle.std.proofs.Common.{◌-◌, ◌<◌, ◌≤◌, ℕ}
 use Rattle.std.specs.Prelude.{slice_index}
-use Rattle.fc_parts.specs.{Builds}
-use Rattle.fc_import.specs.{most_dealt}
+use Rattle.{fc_board.specs.Games.{Builds}, fc_import.specs.Import.{most_dealt}}
 use Rattle.fc_import.proofs.playable.is_built.Given as goal
 
 -- the cards looked at so far go on those before them

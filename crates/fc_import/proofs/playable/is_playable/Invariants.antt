@@ -1,6 +1,6 @@
 use Rattle.std.proofs.Common.{◌<◌, [], ℕ}
 use Rattle.std.specs.Prelude.{slice_index_or}
-use Rattle.fc_import.specs.{IsBuilt}
+use Rattle.fc_import.specs.Import.{IsBuilt}
 use Rattle.fc_import.proofs.playable.is_playable.Given as goal
 
 -- the columns looked at so far

@@ -1,8 +1,8 @@
 use Rattle.std.proofs.Common.{◌≡◌, map}
 use Rattle.std.specs.List.{list_all}
 use Rattle.std.specs.Option.{is_some}
-use Rattle.fc_print.specs.Left.{tokens_left}
-use Rattle.fc_print.specs.reader.{run_named}
+use Rattle.fc_text.specs.Left.{tokens_left}
+use Rattle.fc_text.specs.reader.{run_named}
 use Rattle.fc_import.proofs.quiet.are_all_moves.Given as goal
 
 -- all words are moves exactly if those that are left are

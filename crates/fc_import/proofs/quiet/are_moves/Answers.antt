@@ -1,9 +1,9 @@
 use Rattle.std.proofs.Common.{◌∙◌, ◌∷◌, ap, map, not, sym}
-use Rattle.fc_print.specs.Left.{tokens_left}
-use Rattle.fc_print.specs.{separates_tokens, words_from}
+use Rattle.fc_text.specs.Left.{tokens_left}
+use Rattle.fc_text.specs.{Lines.{words_from}, Notation.{separates_tokens}}
+use Rattle.fc_import.specs.Words.{are_moves}
 use Rattle.fc_import.proofs.QuietLemmas.{all_are, first_is_none, one_is, second_is_none}
 use Rattle.fc_import.proofs.TakingLemmas.{without_ends}
-use Rattle.fc_import.specs.{are_moves}
 use Rattle.fc_import.proofs.quiet.are_moves.Goals as goal
 
 pub returns-in_default : goal.returns-in_default

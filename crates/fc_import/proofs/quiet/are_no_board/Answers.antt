@@ -1,6 +1,6 @@
 use Rattle.std.proofs.Common.{◌∙◌, All, ap, subst}
-use Rattle.fc_print.specs.Left.{lines_left}
-use Rattle.fc_import.specs.{IsNoBoard}
+use Rattle.fc_text.specs.Left.{lines_left}
+use Rattle.fc_import.specs.Import.{IsNoBoard}
 use Rattle.fc_import.proofs.quiet.are_no_board.Goals as goal
 
 pub loop-line-init : goal.loop-line-init

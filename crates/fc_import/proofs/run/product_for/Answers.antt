@@ -1,6 +1,6 @@
 use Rattle.std.proofs.Common.{◌++◌, ◌∙◌, ap, None, refl, subst, subst₂, sym}
 use Rattle.fc_import.proofs.RunLemmas.{collection_made, nothing_made, unshown_made}
-use Rattle.fc_import.specs.{Imported, IsShown, no_board_line}
+use Rattle.fc_import.specs.Import.{Imported, IsShown, no_board_line}
 use Rattle.fc_import.specs.inside.{ShownAs, state_of}
 use Rattle.fc_import.proofs.run.product_for.Goals as goal
 

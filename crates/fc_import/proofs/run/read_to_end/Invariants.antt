@@ -1,6 +1,6 @@
 use Rattle.std.proofs.Common.{◌≤◌, length}
 use Rattle.std.specs.Io.KnownBytes.{Consumes}
-use Rattle.fc_run.specs.{GrowsBy, inner_of, most_bytes}
+use Rattle.fc_collect.specs.{Limits.{most_bytes}, Streams.{GrowsBy, inner_of}}
 use Rattle.fc_import.proofs.run.read_to_end.Given as goal
 
 abbrev pub invariant-loop-turn : goal.invariant-loop-turn

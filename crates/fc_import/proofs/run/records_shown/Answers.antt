@@ -1,6 +1,6 @@
 use Rattle.std.proofs.Common.{◌∙◌, ap, Err, subst, sym}
 use Rattle.fc_import.proofs.RunLemmas.{within_limits}
-use Rattle.fc_import.specs.{IsShown}
+use Rattle.fc_import.specs.Import.{IsShown}
 use Rattle.fc_import.proofs.run.records_shown.Goals as goal
 
 pub returns-in-Err-TooLarge : goal.returns-in-Err-TooLarge

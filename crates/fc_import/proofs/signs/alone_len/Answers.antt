@@ -1,6 +1,6 @@
 use Rattle.std.proofs.Common.{◌++◌, ◌∙◌, ◌≡◌, ap, ap₂, arith, drop, sym, take}
 use Rattle.fc_import.proofs.SignLemmas.{run_stays}
-use Rattle.fc_import.specs.{text_after}
+use Rattle.fc_import.specs.Words.{text_after}
 use Rattle.fc_import.proofs.signs.alone_len.Goals as goal
 
 pub returns-clause-stays : goal.returns-clause-stays

@@ -1,7 +1,7 @@
 use Rattle.std.proofs.Common.{◌++◌, ◌∙◌, ◌∷◌, ◌≡◌, [], ap, append-nil, sym}
 use Rattle.std.specs.Option.{unwrap_or}
 use Rattle.fc_import.proofs.SignLemmas.{byte_stands, letters_stand, no_letters, sign_is}
-use Rattle.fc_import.specs.{sign_of, stands_for}
+use Rattle.fc_import.specs.Words.{sign_of, stands_for}
 use Rattle.fc_import.proofs.signs.push_sign.Goals as goal
 use Rattle.fc_import.proofs.signs.push_sign.Goals.{In_ok-push, Then-branch}
 

@@ -1,7 +1,7 @@
 use Rattle.std.proofs.Common.{◌++◌, ◌-◌, ◌∙◌, ◌≡◌, ap, ap₂, append_assoc, arith, drop, sym}
 use Rattle.std.specs.Prelude.{slice_index}
 use Rattle.fc_import.proofs.SignLemmas.{after_rest, after_sign}
-use Rattle.fc_import.specs.{sign_of, text_after}
+use Rattle.fc_import.specs.Words.{sign_of, text_after}
 use Rattle.fc_import.proofs.signs.take_byte.Goals as goal
 
 pub returns-then-skipped-gt0 : goal.returns-then-skipped-gt0

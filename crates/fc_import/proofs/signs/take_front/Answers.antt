@@ -1,6 +1,6 @@
-use Rattle.std.proofs.Common.{◌++◌, ◌+◌, ◌∙◌, ◌≡◌, ap, append_assoc, drop, subst, sym, take}
+use Rattle.std.proofs.Common.{◌++◌, ◌∙◌, ◌≡◌, ap, append_assoc, drop, subst, sym, take}
 use Rattle.std.proofs.lemmas.List.{drop-drop, take_rest}
-use Rattle.fc_import.specs.{text_after}
+use Rattle.fc_import.specs.Words.{text_after}
 use Rattle.fc_import.proofs.signs.take_front.Goals as goal
 use Rattle.fc_import.proofs.signs.take_front.Goals.{In_ok-extend_from_slice}
 

@@ -1,6 +1,6 @@
-use Rattle.std.proofs.Common.{◌++◌, ◌+◌, ◌∙◌, ◌≡◌, ◌≤◌, ap, arith, drop, length, subst, sym}
+use Rattle.std.proofs.Common.{◌++◌, ◌∙◌, ◌≡◌, ◌≤◌, ap, arith, drop, length, subst, sym}
 use Rattle.std.proofs.lemmas.List.{drop-drop, length-drop, take_rest}
-use Rattle.fc_import.specs.{text_after}
+use Rattle.fc_import.specs.Words.{text_after}
 use Rattle.fc_import.proofs.signs.with_letters.Goals as goal
 
 pub loop-at-preserved : goal.loop-at-preserved

@@ -1,5 +1,5 @@
 use Rattle.std.proofs.Common.{◌++◌, ◌-◌, ◌≡◌, ◌≤◌, drop, length}
-use Rattle.fc_import.specs.{text_after}
+use Rattle.fc_import.specs.Words.{text_after}
 use Rattle.fc_import.proofs.signs.with_letters.Given as goal
 
 abbrev pub invariant-loop-at : goal.invariant-loop-at

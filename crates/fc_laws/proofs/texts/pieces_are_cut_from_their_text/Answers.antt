@@ -1,4 +1,4 @@
-use Rattle.fc_print.proofs.PieceLemmas.{cut_out, cut_piece}
+use Rattle.fc_text.proofs.PieceLemmas.{cut_out, cut_piece}
 use Rattle.fc_laws.proofs.texts.pieces_are_cut_from_their_text.Goals as goal
 
 pub returns-clause-cut : goal.returns-clause-cut

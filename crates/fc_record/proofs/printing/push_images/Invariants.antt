@@ -1,6 +1,6 @@
 use Rattle.std.proofs.Common.{◌++◌, ◌≡◌}
 use Rattle.std.specs.List.{flat_map}
-use Rattle.fc_record.specs.{image_line}
+use Rattle.fc_record.specs.Printing.{image_line}
 use Rattle.fc_record.proofs.printing.push_images.Given as goal
 
 abbrev pub invariant-loop-list : goal.invariant-loop-list

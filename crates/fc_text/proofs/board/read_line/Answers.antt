@@ -3,10 +3,10 @@ use Rattle.std.proofs.Common.{List, None, Ok, refl, Some, subst, sym, take, ℕ}
 use Rattle.std.proofs.lemmas.Bool.{ne_eqb}
 use Rattle.std.proofs.lemmas.List.{take_rest}
 use Rattle.std.specs.List.{prefix_len, slice_get}
-use Rattle.fc_print.specs.{Blank, Comment, Content, is_gap, line_of, line_of_front, number_sign}
-use Rattle.fc_print.specs.{Piece, piece_of, row_of, trim_carriage_return}
-use Rattle.fc_text.specs.{items_of_row}
-use Rattle.fc_text.specs.reader.{items_of_line, ReadState, TakesItems}
+use Rattle.fc_text.specs.{Bytes.{is_gap, number_sign}, Faults.{items_of_row}}
+use Rattle.fc_text.specs.Lines.{Piece, piece_of, trim_carriage_return}
+use Rattle.fc_text.specs.Rows.{Blank, Comment, Content, line_of, line_of_front, row_of}
+use Rattle.fc_text.specs.reader.{items_of_line, Known, TakesItems}
 use Rattle.fc_text.proofs.board.read_line.Goals as goal
 
 -- a line is what is left of it once the blanks at its front are gone
@@ -25,7 +25,7 @@ comment : (start : ℕ) (bytes : List ℕ) (byte : ℕ) → Some byte ≡ slice_
 comment start [] byte e sign = absurd (cc)
 comment start (first ∷ rest) byte e sign = let same : first ≡ number_sign = cc in ap (λ first. line_of_front start (first ∷ rest)) same
 
-held : (known : ReadState) (start : ℕ) (bytes : List ℕ) (byte : ℕ) → Some byte ≡ slice_get bytes 0 → byte ≢ number_sign
+held : (known : Known) (start : ℕ) (bytes : List ℕ) (byte : ℕ) → Some byte ≡ slice_get bytes 0 → byte ≢ number_sign
     → items_of_line known (line_of_front start bytes) ≡ items_of_row (row_of start bytes)
 held known start [] byte e other = absurd (cc)
 held known start (first ∷ rest) byte e other =

@@ -1,9 +1,9 @@
 use Rattle.std.proofs.Common.{◌∙◌, All, arith, subst}
 use Rattle.std.proofs.lemmas.List.Elements.{All-tail}
 use Rattle.std.proofs.lemmas.Result.{err_from_is_err_and}
-use Rattle.fc_print.proofs.NextLineLemmas.{line_within}
-use Rattle.fc_print.specs.{IsPieceOf, piece_of}
-use Rattle.fc_print.specs.Left.{lines_left}
+use Rattle.fc_text.proofs.NextLineLemmas.{line_within}
+use Rattle.fc_text.specs.Lines.{IsPieceOf, piece_of}
+use Rattle.fc_text.specs.Left.{lines_left}
 use Rattle.fc_text.proofs.LeavingLemmas.{left_of_left, next_line_at_fault, next_line_taken}
 use Rattle.fc_text.proofs.board.read_lines.Goals as goal
 

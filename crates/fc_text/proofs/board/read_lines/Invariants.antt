@@ -1,7 +1,7 @@
 use Rattle.std.proofs.Common.{All, map}
 use Rattle.fc_text.proofs.board.read_lines.Given as goal
-use Rattle.fc_print.specs.{IsPieceOf, line_of, lines_from}
-use Rattle.fc_print.specs.Left.{lines_left}
+use Rattle.fc_text.specs.{Lines.{IsPieceOf, lines_from}, Rows.{line_of}}
+use Rattle.fc_text.specs.Left.{lines_left}
 use Rattle.fc_text.specs.reader.{items_left, Leaves}
 
 abbrev pub invariant-loop-line : goal.invariant-loop-line

@@ -1,7 +1,7 @@
 use Rattle.std.proofs.Common.{◌≤◌, All, arith}
 use Rattle.std.proofs.lemmas.Result.{IfOk-weaker}
-use Rattle.fc_parts.specs.{eight_off, Fits}
-use Rattle.fc_print.specs.{IsToken, Listed}
+use Rattle.fc_board.specs.{Games.{eight_off}, Moves.{Fits}}
+use Rattle.fc_text.specs.Notation.{IsToken, Listed}
 use Rattle.fc_text.proofs.ListedLemmas.{Listed-Fit}
 use Rattle.fc_text.proofs.ReadMovesLemmas.{fit_eight_off}
 use Rattle.fc_text.proofs.moves.read_moves.Goals as goal

@@ -1,7 +1,7 @@
 use Rattle.std.proofs.Common.{◌≤◌, All, arith}
 use Rattle.std.proofs.lemmas.Result.{IfOk-weaker}
-use Rattle.fc_parts.specs.{eight_off, RunFits}
-use Rattle.fc_print.specs.{IsRunToken, Listed}
+use Rattle.fc_board.specs.{Games.{eight_off}, Moves.{RunFits}}
+use Rattle.fc_text.specs.Notation.{IsRunToken, Listed}
 use Rattle.fc_text.proofs.ListedLemmas.{Listed-RunFit}
 use Rattle.fc_text.proofs.ReadMovesLemmas.{runs_fit_eight_off}
 use Rattle.fc_text.proofs.moves.read_runs.Goals as goal

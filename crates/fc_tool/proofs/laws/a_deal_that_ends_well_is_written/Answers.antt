@@ -1,12 +1,10 @@
 use Rattle.std.proofs.Common.{◌++◌, ◌∷◌, ◌≡◌, [], ap, arith, drop, Err, inl, inr, List, Ok, Option}
 use Rattle.std.proofs.Common.{Result, subst, subst₂, sym, ℕ}
 use Rattle.std.specs.{Io.KnownBytes.{Appends}, Prelude.{if◌then◌else◌, is_ok, ⊤}}
-use Rattle.fc_parts.specs.{Game}
-use Rattle.fc_print.specs.{text_of}
+use Rattle.{fc_board.specs.Games.{Game}, fc_text.specs.Printed.{text_of}}
+use Rattle.fc_collect.specs.{Promises.{WritesText}, Streams.{inner_of}}
 use Rattle.fc_deal.specs.{deal, dealt_board, IsDealNumber}
-use Rattle.fc_run.specs.{inner_of}
-use Rattle.fc_run.specs.declared.{counted.Counted.{Counted}, outcome.RunFault.{RunFault}}
-use Rattle.fc_engine.specs.{WritesText}
+use Rattle.fc_collect.specs.declared.streams.{counted.Counted.{Counted}, faults.RunFault.{RunFault}}
 use Rattle.fc_tool.specs.{EndsDealing, fault_line}
 use Rattle.fc_tool.proofs.laws.a_deal_that_ends_well_is_written.Goals as goal
 

@@ -1,6 +1,5 @@
 use Rattle.std.proofs.Common.{◌<◌, ◌≡◌, [], arith, Err, Ok, refl, Result}
-use Rattle.fc_run.specs.declared.outcome.RunFault.{RunFault}
-use Rattle.fc_run.specs.declared.outcome.Summary.{Summary}
+use Rattle.fc_collect.specs.declared.streams.faults.{RunFault.{RunFault}, Summary.{Summary}}
 use Rattle.fc_tool.specs.{fault_line, status_of}
 use Rattle.fc_tool.proofs.laws.good_runs_say_nothing.Goals as goal
 

@@ -1,11 +1,10 @@
-use Rattle.std.proofs.Common.{◌+◌, ◌≡◌, arith, Err, List, Ok, Option, Result, subst, ℕ}
+use Rattle.std.proofs.Common.{◌≡◌, arith, Err, List, Ok, Option, Result, subst, ℕ}
 use Rattle.std.specs.Io.KnownBytes.{Appends}
-use Rattle.fc_run.specs.{counts_of}
-use Rattle.fc_run.specs.declared.counted.Counted.{Counted}
-use Rattle.fc_run.specs.declared.outcome.RunFault.{RunFault}
-use Rattle.fc_run.specs.declared.outcome.RunFault.TheVariants.{Memory, Read, ReaderNeverEnds}
-use Rattle.fc_run.specs.declared.outcome.RunFault.TheVariants.{TooLarge, Write}
-use Rattle.fc_engine.specs.{WritesAsCounted, WritesText}
+use Rattle.fc_collect.specs.{Promises.{WritesAsCounted, WritesText}, Streams.{counts_of}}
+use Rattle.fc_collect.specs.declared.streams.{counted.Counted.{Counted}, faults.RunFault.{RunFault}}
+use Rattle.fc_collect.specs.declared.streams.faults.RunFault.TheVariants.{Memory, Read}
+use Rattle.fc_collect.specs.declared.streams.faults.RunFault.TheVariants.{ReaderNeverEnds, TooLarge}
+use Rattle.fc_collect.specs.declared.streams.faults.RunFault.TheVariants.{Write}
 use Rattle.fc_tool.proofs.laws.nothing_said_is_lost_in_silence.Goals as goal
 
 -- where no call failed, the whole text was written

@@ -1,5 +1,5 @@
 use Rattle.std.proofs.Common.{◌∙◌}
-use Rattle.fc_parts.specs.declared.rule.Variant.TheVariants.{BakersGame, EightOff, FreeCell}
+use Rattle.fc_board.specs.declared.rule.Variant.TheVariants.{BakersGame, EightOff, FreeCell}
 use Rattle.fc_tool.proofs.CommandLines.{by_variant}
 use Rattle.fc_tool.proofs.laws.variant_names_the_game.Goals as goal
 

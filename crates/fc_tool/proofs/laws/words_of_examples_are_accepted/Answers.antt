@@ -1,5 +1,5 @@
 use Rattle.clap.specs.Words.{kind_of}
-use Rattle.fc_parts.specs.declared.rule.Variant.TheVariants.{BakersGame, EightOff, FreeCell}
+use Rattle.fc_board.specs.declared.rule.Variant.TheVariants.{BakersGame, EightOff, FreeCell}
 use Rattle.fc_tool.proofs.CommandLines.{among_none, deal_accepted, task_accepted, variant_accepted}
 use Rattle.fc_tool.proofs.laws.words_of_examples_are_accepted.Goals as goal
 

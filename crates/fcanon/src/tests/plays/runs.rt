@@ -1,5 +1,5 @@
 //! Lists of moves of several cards: played, given one card at a time, and carried.
-ghost use Rattle.{fc_parts.specs.{RunFits}, std.specs.Prelude.{All, IsTrue}};
+ghost use Rattle.{fc_board.specs.Moves.{RunFits}, std.specs.Prelude.{All, IsTrue}};
 
 use super::*;
 use fc_board::RunMove;

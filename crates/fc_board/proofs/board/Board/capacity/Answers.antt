@@ -1,5 +1,5 @@
 use Rattle.std.proofs.Common.{◌∙◌, ◌≤◌, subst, sym}
-use Rattle.fc_parts.proofs.PlacesLemmas.{capacity_of_kings, capacity_small, capacity_there}
+use Rattle.fc_board.proofs.PlacesLemmas.{capacity_of_kings, capacity_small, capacity_there}
 use Rattle.fc_board.proofs.board.Board.capacity.Goals as goal
 
 pub returns-then-KINGS_ONLY-clause-value : goal.returns-then-KINGS_ONLY-clause-value

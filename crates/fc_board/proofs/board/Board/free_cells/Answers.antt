@@ -1,7 +1,7 @@
 use Rattle.std.proofs.Common.{arith}
 use Rattle.std.specs.Option.{is_none}
-use Rattle.fc_parts.proofs.PlacesLemmas.{found_place, left_place, nothing_held, room_left}
-use Rattle.fc_parts.specs.{cell_at}
+use Rattle.fc_board.proofs.PlacesLemmas.{found_place, left_place, nothing_held, room_left}
+use Rattle.fc_board.specs.Steps.{cell_at}
 use Rattle.fc_board.proofs.board.Board.free_cells.Goals.{else-is_none, then-is_none}
 use Rattle.fc_board.proofs.board.Board.free_cells.Goals as goal
 

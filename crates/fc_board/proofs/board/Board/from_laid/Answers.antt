@@ -1,15 +1,14 @@
-use Rattle.std.proofs.Common.{◌∙◌, ◌≡◌, arith, length, List, refl, rules, slice_index, subst, sym}
-use Rattle.std.proofs.Common.{take, ℕ}
+use Rattle.std.proofs.Common.{◌∙◌, ◌≡◌, arith, length, List, refl, rules, slice_index, sym, take, ℕ}
 use Rattle.std.specs.List.{flat_map}
-use Rattle.fc_parts.proofs.BoardLemmas.{game_cells}
-use Rattle.fc_parts.proofs.ColumnsLemmas.{all_cards_laid, length-columns_from}
-use Rattle.fc_parts.proofs.CountedLemmas.{fault-not_once, IsDeckFault-found, IsWellFormed-each_once}
-use Rattle.fc_parts.specs.{IsWellFormed}
-use Rattle.fc_parts.specs.inside.{AscendTo, columns_from}
+use Rattle.fc_board.proofs.BoardLemmas.{game_cells}
+use Rattle.fc_board.proofs.ColumnsLemmas.{all_cards_laid, length-columns_from}
+use Rattle.fc_board.proofs.CountedLemmas.{fault-not_once, IsDeckFault-found, IsWellFormed-each_once}
+use Rattle.fc_board.specs.inside.{AscendTo, columns_from}
 use Rattle.fc_board.proofs.board.Board.from_laid.Goals as goal
 
 -- the cards up to the last end are those of the columns
-laid : (cards ends : List ℕ) → length cards ≡ 52 → length ends ≡ 8 → AscendTo 0 ends 52 → take (slice_index ends 7) cards ≡ flat_map (λ column. column) (columns_from 0 cards ends)
+laid : (cards ends : List ℕ) → length cards ≡ 52 → length ends ≡ 8 → AscendTo 0 ends 52 →
+    take (slice_index ends 7) cards ≡ flat_map (λ column. column) (columns_from 0 cards ends)
 laid cards ends deck eight ascend = sym (all_cards_laid cards ends 52 eight ascend (omega (arith, deck)))
 
 pub of_laid-requires-clause-well_formed : goal.of_laid-requires-clause-well_formed
@@ -39,4 +38,4 @@ pub returns-in-Some-clause-deck : goal.returns-in-Some-clause-deck
 returns-in-Some-clause-deck g c = (λ unlike. absurd (cc), λ once. absurd (fault-not_once _ _ (returns-in-Some-clause-fault g c) once))
 
 pub returns-in-None-clause-deck : goal.returns-in-None-clause-deck
-returns-in-None-clause-deck g c = (λ same. (subst (IsWellFormed g.R.Rule.game) c.of_laid.ensures.parts c.of_laid.ensures.well_formed).one_place, λ once. refl)
+returns-in-None-clause-deck g c = (λ same. (rw c.of_laid.ensures.parts at c.of_laid.ensures.well_formed).one_place, λ once. refl)

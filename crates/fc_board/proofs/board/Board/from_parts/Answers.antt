@@ -1,10 +1,10 @@
-use Rattle.std.proofs.Common.{◌≡◌, ap, map, refl, rules, subst, sym}
+use Rattle.std.proofs.Common.{◌≡◌, ap, map, refl, rules}
 use Rattle.std.specs.List.{flat_map}
-use Rattle.fc_parts.proofs.BoardLemmas.{game_cells}
-use Rattle.fc_parts.proofs.CountedLemmas.{cards_of_vectors, fault-not_once, IsDeckFault-found}
-use Rattle.fc_parts.proofs.CountedLemmas.{IsWellFormed-vectors, room_in_vectors}
-use Rattle.fc_parts.specs.{board_of_parts, IsWellFormed}
-use Rattle.fc_parts.specs.inside.{board_of_laid}
+use Rattle.fc_board.proofs.BoardLemmas.{game_cells}
+use Rattle.fc_board.proofs.CountedLemmas.{cards_of_vectors, fault-not_once, IsDeckFault-found}
+use Rattle.fc_board.proofs.CountedLemmas.{IsWellFormed-vectors, room_in_vectors}
+use Rattle.fc_board.specs.Boards.{board_of_parts, IsWellFormed}
+use Rattle.fc_board.specs.inside.{board_of_laid}
 use Rattle.fc_board.proofs.board.Board.from_parts.Given.{Over}
 use Rattle.fc_board.proofs.board.Board.from_parts.Goals as goal
 
@@ -24,11 +24,12 @@ well g c =
     c.in-None.ensures.heights c.requires c.in-None.ensures.cells c.cards_of_columns-in_columns.ensures.in_deck (c.in-None.ensures.fault _ c.cards_of_columns-in_columns.ensures)
 
 -- the columns as they lie in the board are those that were given
-laid : (g : Over) (c : goal.After-of g) → board_of_laid g.R.Rule.CELLS c.args.heights c.args.cells c.of.result ≡ board_of_parts g.R.Rule.CELLS c.args.heights c.args.cells c.args.columns
+laid : (g : Over) (c : goal.After-of g) →
+    board_of_laid g.R.Rule.CELLS c.args.heights c.args.cells c.of.result ≡ board_of_parts g.R.Rule.CELLS c.args.heights c.args.cells c.args.columns
 laid g c = ap (board_of_laid g.R.Rule.CELLS c.args.heights c.args.cells) c.of.ensures
 
 pub invariant_of-result : goal.invariant_of-result
-invariant_of-result g c = (subst (IsWellFormed g.R.Rule.game) (sym (laid g c)) (well g c), c.requires)
+invariant_of-result g c = (rw (laid g c) (well g c), c.requires)
 
 pub returns-in-Some-clause-fault : goal.returns-in-Some-clause-fault
 returns-in-Some-clause-fault g c =
@@ -45,4 +46,4 @@ pub returns-in-None-clause-parts : goal.returns-in-None-clause-parts
 returns-in-None-clause-parts g c = laid g c
 
 pub returns-in-None-clause-well_formed : goal.returns-in-None-clause-well_formed
-returns-in-None-clause-well_formed g c = subst (IsWellFormed g.R.Rule.game) (sym (laid g c)) (well g c)
+returns-in-None-clause-well_formed g c = rw (laid g c) (well g c)

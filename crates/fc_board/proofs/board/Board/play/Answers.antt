@@ -1,8 +1,9 @@
-use Rattle.std.proofs.Common.{arith, refl, subst, sym}
+use Rattle.std.proofs.Common.{arith, refl, subst}
 use Rattle.std.proofs.lemmas.Grind.{common_steps}
-use Rattle.fc_parts.proofs.ListLemmas.{HasPlayed-more, legal_not_refused, refused_next}
-use Rattle.fc_parts.proofs.RunPlayLemmas.{one_card}
-use Rattle.fc_parts.specs.{Fits, IsWellFormed, Played, refusal, Step}
+use Rattle.fc_board.proofs.ListLemmas.{HasPlayed-more, legal_not_refused, refused_next}
+use Rattle.fc_board.proofs.RunPlayLemmas.{one_card}
+use Rattle.fc_board.specs.{Boards.{IsWellFormed}, Moves.{Fits}}
+use Rattle.fc_board.specs.Steps.{refusal, Step}
 use Rattle.fc_board.proofs.board.Board.play.Goals as goal
 
 pub loop-index-init : goal.loop-index-init
@@ -19,7 +20,7 @@ returns-in-Err-clause-refused g c =
     c.requires.fits c.loop-index.invariant.plays c.in-Err.ensures.refused
 
 pub returns-in-Err-clause-played_before : goal.returns-in-Err-clause-played_before
-returns-in-Err-clause-played_before g c = subst (Played (Step g.R.Rule.game) c.args.self.now _) (sym c.in-Err.ensures.unchanged) c.loop-index.invariant.plays
+returns-in-Err-clause-played_before g c = rw c.in-Err.ensures.unchanged c.loop-index.invariant.plays
 
 pub returns-in-Err-clause-legal : goal.returns-in-Err-clause-legal
 returns-in-Err-clause-legal g c = (

@@ -1,6 +1,6 @@
 use Rattle.std.proofs.Common.{take}
-use Rattle.fc_parts.proofs.ListLemmas.{HasPlayed}
-use Rattle.fc_parts.specs.{Step}
+use Rattle.fc_board.proofs.ListLemmas.{HasPlayed}
+use Rattle.fc_board.specs.Steps.{Step}
 use Rattle.fc_board.proofs.board.Board.play.Given as goal
 
 abbrev pub invariant-loop-index : goal.invariant-loop-index

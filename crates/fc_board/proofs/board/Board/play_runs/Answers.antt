@@ -1,12 +1,13 @@
-use Rattle.std.proofs.Common.{arith, refl, subst, sym}
+use Rattle.std.proofs.Common.{arith, refl}
 use Rattle.std.proofs.lemmas.Grind.{common_steps}
-use Rattle.fc_parts.proofs.ListLemmas.{HasPlayed-more, legal_not_refused, refused_next}
-use Rattle.fc_parts.proofs.RunPlayLemmas.{several}
-use Rattle.fc_parts.specs.{IsWellFormed, Played, run_refusal, RunFits, RunStep}
+use Rattle.fc_board.proofs.ListLemmas.{HasPlayed-more, legal_not_refused, refused_next}
+use Rattle.fc_board.proofs.RunPlayLemmas.{several}
+use Rattle.fc_board.specs.Moves.{RunFits}
+use Rattle.fc_board.specs.Steps.{run_refusal, RunStep}
 use Rattle.fc_board.proofs.board.Board.play_runs.Goals as goal
 
 pub loop-index-init : goal.loop-index-init
-loop-index-init g c = record { plays = refl; well_formed = (subst (IsWellFormed g.R.Rule.game) c.self.view_is c.self.invariant.0) }
+loop-index-init g c = record { plays = refl; well_formed = (rw c.self.view_is at c.self.invariant.0) }
 
 pub loop-index-preserved : goal.loop-index-preserved
 loop-index-preserved g c =
@@ -20,7 +21,7 @@ returns-in-Err-clause-refused g c =
 
 pub returns-in-Err-clause-played_before : goal.returns-in-Err-clause-played_before
 returns-in-Err-clause-played_before g c =
-    subst (Played (RunStep g.R.Rule.game) c.args.self.now _) (sym c.in-Err.ensures.unchanged) c.loop-index.invariant.plays
+    rw c.in-Err.ensures.unchanged c.loop-index.invariant.plays
 
 pub returns-in-Err-clause-legal : goal.returns-in-Err-clause-legal
 returns-in-Err-clause-legal g c = (

@@ -1,6 +1,6 @@
 use Rattle.std.proofs.Common.{take}
-use Rattle.fc_parts.proofs.ListLemmas.{HasPlayed}
-use Rattle.fc_parts.specs.{RunStep}
+use Rattle.fc_board.proofs.ListLemmas.{HasPlayed}
+use Rattle.fc_board.specs.Steps.{RunStep}
 use Rattle.fc_board.proofs.board.Board.play_runs.Given as goal
 
 abbrev pub invariant-loop-index : goal.invariant-loop-index

@@ -1,9 +1,8 @@
-use Rattle.std.proofs.Common.{All, subst, sym}
-use Rattle.std.specs.Prelude.{IsNone}
-use Rattle.fc_parts.proofs.BoardLemmas.{has_card}
-use Rattle.fc_parts.proofs.MoveInPlace.{IsMovedInPlace, moved_in_place, room_there}
-use Rattle.fc_parts.specs.{Board, IsWellFormed}
-use Rattle.fc_parts.specs.inside.{board_with, HasCard}
+use Rattle.std.proofs.Common.{subst, sym}
+use Rattle.fc_board.proofs.BoardLemmas.{has_card}
+use Rattle.fc_board.proofs.MoveInPlace.{IsMovedInPlace, moved_in_place, room_there}
+use Rattle.fc_board.specs.Boards.{Board}
+use Rattle.fc_board.specs.inside.{board_with, HasCard}
 use Rattle.fc_board.proofs.board.Board.step.Given
 use Rattle.fc_board.proofs.board.Board.step.Goals as goal
 
@@ -16,7 +15,7 @@ put_on-requires-clause-room g c =
     let before : Board = board_with c.self.inside.heights c.self.inside.cells c.self.inside.columns in
     let taken : Board = board_with c.self.inside.heights c.take_off.new.cells c.take_off.new.columns in
     room_there g.R.Rule.game g.R.Rule.CELLS c.args.self.now before c.args.mv c.in_ok-card.card g.met.R.Rule.rule_laws.cells_are c.self.view_is
-    (subst (IsWellFormed g.R.Rule.game) c.self.view_is c.self.invariant.0) c.requires.fits c.in_ok-card.ensures.card c.in_ok-card.ensures.allowed
+    (rw c.self.view_is at c.self.invariant.0) c.requires.fits c.in_ok-card.ensures.card c.in_ok-card.ensures.allowed
     taken (c.take_off.ensures c.self.inside.heights)
 
 moved : (g : Given.Over) (c : goal.After-put_on g) → IsMovedInPlace g.R.Rule.game g.R.Rule.CELLS c.args.self.now
@@ -26,11 +25,11 @@ moved g c =
     let taken : Board = board_with c.self.inside.heights c.take_off.new.cells c.take_off.new.columns in
     let after : Board = board_with c.put_on.new.heights c.put_on.new.cells c.put_on.new.columns in
     moved_in_place g.R.Rule.game g.R.Rule.CELLS c.args.self.now before c.args.mv c.in_ok-card.card g.met.R.Rule.rule_laws.cells_are c.self.view_is
-    (subst (IsWellFormed g.R.Rule.game) c.self.view_is c.self.invariant.0) c.requires.fits c.in_ok-card.ensures.card c.in_ok-card.ensures.allowed
+    (rw c.self.view_is at c.self.invariant.0) c.requires.fits c.in_ok-card.ensures.card c.in_ok-card.ensures.allowed
     taken (c.take_off.ensures c.self.inside.heights) after c.put_on.ensures
 
 pub invariant_of-self : goal.invariant_of-self
-invariant_of-self g c = ((moved g c).well, subst (All IsNone) (sym (moved g c).others) c.self.invariant.1)
+invariant_of-self g c = ((moved g c).well, rw (moved g c).others c.self.invariant.1)
 
 pub returns-clause-step : goal.returns-clause-step
 returns-clause-step g c = (moved g c).step

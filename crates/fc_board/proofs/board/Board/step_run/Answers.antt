@@ -1,8 +1,8 @@
 use Rattle.std.proofs.Common.{◌∙◌, ◌≡◌, ◌≤◌, [], ap, get_or, length, List, subst, sym, take, ℕ}
-use Rattle.fc_parts.proofs.BoardLemmas.{columns_together}
-use Rattle.fc_parts.proofs.MoveInPlace.{goes_over_at_once, GoesOver}
-use Rattle.fc_parts.specs.{IsWellFormed, run_moved, RunStep}
-use Rattle.fc_parts.specs.inside.{board_of_laid}
+use Rattle.fc_board.proofs.BoardLemmas.{columns_together}
+use Rattle.fc_board.proofs.MoveInPlace.{goes_over_at_once, GoesOver}
+use Rattle.fc_board.specs.Steps.{run_moved}
+use Rattle.fc_board.specs.inside.{board_of_laid}
 use Rattle.fc_board.proofs.board.Board.step_run.Given
 use Rattle.fc_board.proofs.board.Board.step_run.Goals as goal
 
@@ -10,14 +10,14 @@ goes_over : (g : Given.Over) (c : goal.After-take_over-arg-1 g) →
     GoesOver g.R.Rule.game c.args.self.now c.args.mv c.in-Run.from c.in-Run.to c.in_ok-count-in-Run.count
 goes_over g c =
     goes_over_at_once g.met.R.Rule.rule_laws c.args.self.now c.args.mv c.in-Run.from c.in-Run.to c.in_ok-count-in-Run.count c.in-Run.count
-    (subst (IsWellFormed g.R.Rule.game) c.self.view_is c.self.invariant.0) c.requires.fits c.in-Run.is c.in_ok-count-in-Run.ensures.allowed
+    (rw c.self.view_is at c.self.invariant.0) c.requires.fits c.in-Run.is c.in_ok-count-in-Run.ensures.allowed
     c.in_ok-count-in-Run.ensures.count
 
 went_over : (g : Given.Over) (c : goal.After-take_over g) →
     GoesOver g.R.Rule.game c.args.self.now c.args.mv c.in-Run.from c.in-Run.to c.in_ok-count-in-Run.count
 went_over g c =
     goes_over_at_once g.met.R.Rule.rule_laws c.args.self.now c.args.mv c.in-Run.from c.in-Run.to c.in_ok-count-in-Run.count c.in-Run.count
-    (subst (IsWellFormed g.R.Rule.game) c.self.view_is c.self.invariant.0) c.requires.fits c.in-Run.is c.in_ok-count-in-Run.ensures.allowed
+    (rw c.self.view_is at c.self.invariant.0) c.requires.fits c.in-Run.is c.in_ok-count-in-Run.ensures.allowed
     c.in_ok-count-in-Run.ensures.count
 
 pub take_over-requires-clause-there : goal.take_over-requires-clause-there
@@ -39,10 +39,10 @@ moved g c =
     ∙ ap (λ board. run_moved board c.in-Run.from c.in-Run.to c.in_ok-count-in-Run.count) c.self.view_is
 
 pub returns-in_ok-count-in-Run-clause-well_formed : goal.returns-in_ok-count-in-Run-clause-well_formed
-returns-in_ok-count-in-Run-clause-well_formed g c = subst (IsWellFormed g.R.Rule.game) (sym (moved g c)) (went_over g c).well
+returns-in_ok-count-in-Run-clause-well_formed g c = rw (moved g c) (went_over g c).well
 
 pub invariant_of-self : goal.invariant_of-self
 invariant_of-self g c = (returns-in_ok-count-in-Run-clause-well_formed g c, c.self.invariant.1)
 
 pub returns-in_ok-count-in-Run-clause-step : goal.returns-in_ok-count-in-Run-clause-step
-returns-in_ok-count-in-Run-clause-step g c = subst (RunStep g.R.Rule.game c.args.self.now c.args.mv) (sym (moved g c)) (went_over g c).step
+returns-in_ok-count-in-Run-clause-step g c = rw (moved g c) (went_over g c).step

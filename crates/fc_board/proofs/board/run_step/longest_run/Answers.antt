@@ -1,5 +1,5 @@
 use Rattle.std.proofs.Common.{◌∙◌, arith, sym}
-use Rattle.fc_parts.proofs.RunLemmas.{all_there, last_is_run, longer_there, stops_there}
+use Rattle.fc_board.proofs.RunLemmas.{all_there, last_is_run, longer_there, stops_there}
 use Rattle.fc_board.proofs.board.run_step.longest_run.Goals as goal
 
 pub loop-index-init : goal.loop-index-init

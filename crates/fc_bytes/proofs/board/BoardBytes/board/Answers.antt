@@ -1,7 +1,7 @@
 use Rattle.std.proofs.Common.{◌∙◌, ◌≡◌, All, ap, arith, drop, refl, rules, subst, sym}
 use Rattle.std.proofs.lemmas.Bool.{iff_false}
-use Rattle.fc_parts.proofs.ColumnsLemmas.{column_within}
-use Rattle.fc_parts.specs.{HasEachCardOnce}
+use Rattle.fc_board.proofs.ColumnsLemmas.{column_within}
+use Rattle.fc_board.specs.Boards.{HasEachCardOnce}
 use Rattle.fc_bytes.proofs.DecodedLemmas.{in_game_held}
 use Rattle.fc_bytes.proofs.ExactBytes.{exact_held, exact_of_held, zero_rest, zeros_none}
 use Rattle.fc_bytes.specs.{board_bytes}

@@ -1,7 +1,7 @@
 use Rattle.std.proofs.Common.{◌++◌, ◌+◌, ◌-◌, ◌∙◌, ◌∷◌, ◌≡◌, ◌≤◌, [], ap, arith, Bool, length, map}
 use Rattle.std.{proofs.Common.{Some, sym, ℕ}, specs.{List.{filter}, Option.{is_none}}}
-use Rattle.{fc_card.specs.{places}, fc_parts.specs.{run_refusal}}
-use Rattle.fc_parts.specs.declared.run_move.RunMove.{RunMove, TheVariants.{Run}}
+use Rattle.{fc_board.specs.Steps.{run_refusal}, fc_card.specs.{places}}
+use Rattle.fc_board.specs.declared.run_move.RunMove.{RunMove, TheVariants.{Run}}
 use Rattle.fc_bytes.proofs.calls.run_moves.push_runs_between.Goals.{else-allows_run}
 use Rattle.fc_bytes.proofs.calls.run_moves.push_runs_between.Goals.{then-allows_run}
 use Rattle.fc_bytes.proofs.RunMoves.{found_bytes, left_bytes, refused_past, rest_fails}

@@ -1,6 +1,6 @@
 use Rattle.std.proofs.Common.{◌∙◌, sym}
-use Rattle.fc_print.proofs.TokenLemmas.{letter_there}
-use Rattle.fc_print.specs.{column_digits}
+use Rattle.fc_text.proofs.TokenLemmas.{letter_there}
+use Rattle.fc_text.specs.Notation.{column_digits}
 use Rattle.fc_bytes.proofs.calls.runs.capacity_of.Goals as goal
 
 pub returns-clause-done : goal.returns-clause-done

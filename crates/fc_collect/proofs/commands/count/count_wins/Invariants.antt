@@ -1,6 +1,5 @@
 use Rattle.std.proofs.Common.{◌≡◌, ◌≤◌, filter, length, take}
-use Rattle.fc_parts.specs.{list_verdict}
-use Rattle.fc_record.specs.{is_win}
+use Rattle.{fc_board.specs.Play.{list_verdict}, fc_record.specs.Tables.{is_win}}
 use Rattle.fc_collect.proofs.commands.count.count_wins.Given as goal
 
 abbrev pub invariant-loop-list : goal.invariant-loop-list

@@ -1,8 +1,8 @@
 use Rattle.std.proofs.Common.{refl}
 use Rattle.std.proofs.lemmas.Result.{on_ok_weaker}
-use Rattle.fc_parts.specs.{game_of}
-use Rattle.fc_parts.specs.declared.rule.Variant.TheVariants.{BakersGame, EightOff, FreeCell}
-use Rattle.fc_groups.proofs.KeyedLemmas.{key-printed}
+use Rattle.fc_board.specs.Games.{game_of}
+use Rattle.fc_board.specs.declared.rule.Variant.TheVariants.{BakersGame, EightOff, FreeCell}
+use Rattle.fc_collect.proofs.KeyedLemmas.{key-printed}
 use Rattle.fc_collect.proofs.commands.group.push_canonical.Goals as goal
 
 pub returns-in-FreeCell : goal.returns-in-FreeCell

@@ -1,6 +1,6 @@
 use Rattle.std.proofs.Common.{subst, sym}
 use Rattle.fc_text.proofs.PrintedTextLemmas.{text_spells}
-use Rattle.fc_text.specs.{Spells}
+use Rattle.fc_text.specs.Spelling.{Spells}
 use Rattle.fc_import.proofs.import.Importer.take_printed.Goals as goal
 
 pub take_shown-requires : goal.take_shown-requires

@@ -1,6 +1,5 @@
 use Rattle.std.proofs.Common.{◌++◌, ◌∙◌, ap}
-use Rattle.fc_print.specs.{text_of}
-use Rattle.fc_record.specs.{header_text}
+use Rattle.{fc_record.specs.Printing.{header_text}, fc_text.specs.Printed.{text_of}}
 use Rattle.fc_import.proofs.made.Made.put_board.Goals as goal
 
 pub returns-clause-written : goal.returns-clause-written

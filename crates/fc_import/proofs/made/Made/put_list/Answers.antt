@@ -1,8 +1,7 @@
 use Rattle.std.proofs.Common.{◌++◌, ◌∙◌, ◌≡◌, ap, IfSome, Some, subst}
-use Rattle.fc_parts.specs.{Board, Legal}
-use Rattle.fc_record.specs.{list_line}
+use Rattle.{fc_board.specs.{Boards.{Board}, Play.{Legal}}, fc_record.specs.Printing.{list_line}}
+use Rattle.fc_import.specs.{Import.{a_list}, Notes.{after}}
 use Rattle.fc_import.proofs.TakingLemmas.{taken}
-use Rattle.fc_import.specs.{a_list, after}
 use Rattle.fc_import.specs.declared.tally.Fate.TheVariants.{AList}
 use Rattle.fc_import.proofs.made.Made.put_list.Goals as goal
 

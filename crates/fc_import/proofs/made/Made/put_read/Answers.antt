@@ -1,8 +1,7 @@
 use Rattle.std.proofs.Common.{◌++◌, ◌∙◌, [], append-nil, inl, inr, refl, sym}
-use Rattle.fc_print.specs.{text_of}
-use Rattle.fc_record.specs.{header_text}
+use Rattle.{fc_record.specs.Printing.{header_text}, fc_text.specs.Printed.{text_of}}
+use Rattle.fc_import.specs.Import.{a_board}
 use Rattle.fc_import.proofs.TakingLemmas.{taken}
-use Rattle.fc_import.specs.{a_board}
 use Rattle.fc_import.proofs.made.Made.put_read.Goals as goal
 
 pub returns-then-branch-clause-taken : goal.returns-then-branch-clause-taken

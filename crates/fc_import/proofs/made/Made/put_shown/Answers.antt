@@ -1,8 +1,7 @@
 use Rattle.std.proofs.Common.{◌++◌, ◌∙◌, [], append-nil, inl, refl, sym}
-use Rattle.fc_print.specs.{text_of}
-use Rattle.fc_record.specs.{header_text}
+use Rattle.{fc_record.specs.Printing.{header_text}, fc_text.specs.Printed.{text_of}}
+use Rattle.fc_import.specs.Import.{a_board}
 use Rattle.fc_import.proofs.TakingLemmas.{taken}
-use Rattle.fc_import.specs.{a_board}
 use Rattle.fc_import.proofs.made.Made.put_shown.Goals as goal
 
 pub returns-clause-taken : goal.returns-clause-taken

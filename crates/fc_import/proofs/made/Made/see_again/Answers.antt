@@ -1,6 +1,6 @@
 use Rattle.std.proofs.Common.{◌∙◌, [], inl, inr, refl}
 use Rattle.fc_import.proofs.TakingLemmas.{noted, silent}
-use Rattle.fc_import.specs.{once_more}
+use Rattle.fc_import.specs.Import.{once_more}
 use Rattle.fc_import.proofs.made.Made.see_again.Goals as goal
 
 pub returns-then-branch-clause-taken : goal.returns-then-branch-clause-taken

@@ -1,6 +1,5 @@
 use Rattle.std.proofs.Common.{◌∙◌, ap, ap₂, None, refl}
-use Rattle.fc_record.specs.{heading_of}
-use Rattle.fc_import.specs.{name_by, State}
+use Rattle.{fc_import.specs.Notes.{name_by, State}, fc_record.specs.Grammar.{heading_of}}
 use Rattle.fc_import.proofs.made.Made.take_name.Goals as goal
 
 pub returns : goal.returns

@@ -1,6 +1,6 @@
 use Rattle.std.proofs.Common.{◌∷◌}
-use Rattle.fc_parts.proofs.ExactLemmas.{exact}
-use Rattle.fc_parts.proofs.RunStepLemmas.{tested_run}
+use Rattle.fc_board.proofs.ExactLemmas.{exact}
+use Rattle.fc_board.proofs.RunStepLemmas.{tested_run}
 use Rattle.fc_laws.proofs.boards.capacities.capacity_is_exact.Goals as goal
 
 pub returns : goal.returns

@@ -1,4 +1,4 @@
-use Rattle.fc_parts.proofs.AlikeLemmas.{carries-PlaysAlike}
+use Rattle.fc_board.proofs.AlikeLemmas.{carries-PlaysAlike}
 use Rattle.fc_laws.proofs.boards.carried.boards_play_alike.Goals as goal
 
 pub returns : goal.returns

@@ -1,6 +1,6 @@
-use Rattle.fc_parts.proofs.AlikeLemmas.{list_legal-exactly, list_plays-exactly}
-use Rattle.fc_parts.proofs.AlikeLemmas.{list_refused-exactly, list_wins-exactly}
-use Rattle.fc_parts.proofs.RenamingLemmas.{fills-renamed_card}
+use Rattle.fc_board.proofs.AlikeLemmas.{list_legal-exactly, list_plays-exactly}
+use Rattle.fc_board.proofs.AlikeLemmas.{list_refused-exactly, list_wins-exactly}
+use Rattle.fc_board.proofs.RenamingLemmas.{fills-renamed_card}
 use Rattle.fc_laws.proofs.boards.carried.lists_are_carried.Goals as goal
 
 pub returns-clause-plays : goal.returns-clause-plays

@@ -1,7 +1,5 @@
-use Rattle.std.proofs.Common.{subst, sym}
-use Rattle.fc_parts.proofs.RenamingLemmas.{fills-renamed_card}
-use Rattle.fc_parts.proofs.RunPlayLemmas.{run_step-carried, run_step-there}
-use Rattle.fc_parts.specs.{carried, run_image, RunStep}
+use Rattle.fc_board.proofs.RenamingLemmas.{fills-renamed_card}
+use Rattle.fc_board.proofs.RunPlayLemmas.{run_step-carried, run_step-there}
 use Rattle.fc_laws.proofs.boards.carried.run_steps_are_carried.Goals as goal
 
 pub returns : goal.returns
@@ -9,6 +7,5 @@ returns g c = λ passage board other token is well.
     let laws = g.met.R.Rule.rule_laws in
     let fill = fills-renamed_card laws in (
       λ step. run_step-there is fill board other token well step,
-      λ (after, step, there). subst (RunStep g.R.Rule.game (carried passage board) (run_image passage.columns passage.cells token)) (sym there)
-          (run_step-carried is fill board after token well step),
+      λ (after, step, there). rw there (run_step-carried is fill board after token well step),
     )

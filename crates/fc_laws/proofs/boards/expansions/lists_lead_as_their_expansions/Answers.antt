@@ -1,4 +1,4 @@
-use Rattle.fc_parts.proofs.RunPlayLemmas.{list_expanded}
+use Rattle.fc_board.proofs.RunPlayLemmas.{list_expanded}
 use Rattle.fc_laws.proofs.boards.expansions.lists_lead_as_their_expansions.Goals as goal
 
 pub returns : goal.returns

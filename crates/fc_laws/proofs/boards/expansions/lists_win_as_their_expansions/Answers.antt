@@ -1,4 +1,4 @@
-use Rattle.fc_parts.proofs.RunPlayLemmas.{wins_expanded}
+use Rattle.fc_board.proofs.RunPlayLemmas.{wins_expanded}
 use Rattle.fc_laws.proofs.boards.expansions.lists_win_as_their_expansions.Goals as goal
 
 pub returns : goal.returns

@@ -1,4 +1,4 @@
-use Rattle.fc_parts.proofs.RunStepLemmas.{expansion_played, expansion_short}
+use Rattle.fc_board.proofs.RunStepLemmas.{expansion_played, expansion_short}
 use Rattle.fc_laws.proofs.boards.expansions.tokens_expand.Goals as goal
 
 pub returns-clause-expands : goal.returns-clause-expands

@@ -1,7 +1,6 @@
-use Rattle.std.proofs.Common.{◌∙◌, subst, sym}
-use Rattle.fc_parts.proofs.RunPlayLemmas.{step-RunFits, token_after}
-use Rattle.fc_parts.proofs.RunStepLemmas.{not_refused_exactly, one_board}
-use Rattle.fc_parts.specs.{RunStep}
+use Rattle.std.proofs.Common.{sym}
+use Rattle.fc_board.proofs.RunPlayLemmas.{step-RunFits, token_after}
+use Rattle.fc_board.proofs.RunStepLemmas.{not_refused_exactly, one_board}
 use Rattle.fc_laws.proofs.boards.lists.runs_are_what_is_not_refused.Goals as goal
 
 pub returns-clause-exactly : goal.returns-clause-exactly
@@ -9,7 +8,7 @@ returns-clause-exactly c = λ game board after token. (
   λ step. (let fits = step-RunFits game board after token step in
       (fits, (not_refused_exactly game board token fits).1 (after, step), sym (token_after game board after token step))),
   λ (fits, free, there). (let (other, step) = (not_refused_exactly game board token fits).0 free in
-      subst (RunStep game board token) (sym (there ∙ token_after game board other token step)) step),
+      rw (there, token_after game board other token step) step),
 )
 
 pub returns-clause-exists : goal.returns-clause-exists

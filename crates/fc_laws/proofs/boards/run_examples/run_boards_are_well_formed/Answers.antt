@@ -1,5 +1,5 @@
 use Rattle.std.proofs.Common.{refl}
-use Rattle.fc_parts.specs.{eight_off, freecell}
+use Rattle.fc_board.specs.Games.{eight_off, freecell}
 use Rattle.fc_laws.proofs.ExampleLemmas.{well_formed_by_tests}
 use Rattle.fc_laws.specs.BoardExamples.{eight_cells_full, helper_empty, nothing_empty, one_column_empty}
 use Rattle.fc_laws.specs.BoardExamples.{thirteen_in_a_run, three_clubs_left, three_columns_left, two_runs_left}

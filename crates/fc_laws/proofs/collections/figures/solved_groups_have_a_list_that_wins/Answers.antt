@@ -1,11 +1,10 @@
-use Rattle.std.proofs.Common.{◌↔◌, ◌∙◌, ◌≡◌, ap, Bool, Contains, is_some, List, None}
-use Rattle.std.proofs.Common.{Option, refl, Some, sym, true, true≢false, ℕ}
-use Rattle.std.specs.List.{find}
+use Rattle.std.proofs.Common.{◌↔◌, ◌∙◌, ◌≡◌, ap, Bool, Contains, is_some, List, None, Option, refl}
+use Rattle.std.{proofs.Common.{Some, sym, true, true≢false, ℕ}, specs.List.{find}}
 use Rattle.std.specs.Prelude.{slice_index_or}
-use Rattle.fc_parts.specs.{game_of, list_verdict, MoveList, Wins}
-use Rattle.fc_parts.specs.declared.rule.Variant.{Variant}
-use Rattle.fc_record.specs.{is_win}
-use Rattle.fc_engine.specs.{groups_of, Member, members_among, owner_among, records_of, solution_of}
+use Rattle.fc_board.specs.{Games.{game_of}, Moves.{MoveList}, Play.{list_verdict, Wins}}
+use Rattle.{fc_board.specs.declared.rule.Variant.{Variant}, fc_record.specs.Tables.{is_win}}
+use Rattle.fc_collect.specs.Groups.{groups_of, Member, members_among, owner_among, solution_of}
+use Rattle.fc_collect.specs.Records.{records_of}
 use Rattle.fc_laws.proofs.SolutionLemmas.{at-Contains, found, group-of_members, none_found}
 use Rattle.fc_laws.proofs.SolutionLemmas.{passes-Wins, Wins-passes}
 use Rattle.fc_laws.proofs.collections.figures.solved_groups_have_a_list_that_wins.Goals as goal
@@ -14,7 +13,8 @@ use Rattle.fc_laws.proofs.collections.figures.solved_groups_have_a_list_that_win
 abbrev passes : Member → MoveList → Bool
 passes member list = is_win (list_verdict (game_of member.heading.variant) member.contents.board list)
 
-some_found : {X : Type 0} (test : X → Bool) (items : List X) → is_some (find test items) ≡ true → (item : X) × Contains items item × (test item ≡ true)
+some_found : {X : Type 0} (test : X → Bool) (items : List X) → is_some (find test items) ≡ true
+    → (item : X) × Contains items item × (test item ≡ true)
 some_found {X} test items e = by (find test items) refl e
   where
     by : (o : Option X) → find test items ≡ o → is_some o ≡ true → (item : X) × Contains items item × (test item ≡ true)
@@ -28,9 +28,12 @@ found_some {X} test items item there passes = by (find test items) refl
     by (Some other) is = refl
     by None is = absurd (true≢false (sym passes ∙ none_found test items item is there))
 
-module _ (variant : Variant) (collection : List ℕ) (group : List Member) (known : Contains (groups_of (members_among variant (records_of collection))) group) where
+module _ (variant : Variant) (collection : List ℕ) (group : List Member)
+    (known : Contains (groups_of (members_among variant (records_of collection))) group) where
   abbrev HasWin : Type 0
-  HasWin = (member : Member) × (list : MoveList) × Contains group member × Contains member.contents.lists list × Wins (game_of member.heading.variant) member.contents.board list
+  HasWin =
+      (member : Member) × (list : MoveList) × Contains group member × Contains member.contents.lists list
+      × Wins (game_of member.heading.variant) member.contents.board list
 
   solved-exactly : (is_some (owner_among group) ≡ true) ↔ HasWin
   solved-exactly = (

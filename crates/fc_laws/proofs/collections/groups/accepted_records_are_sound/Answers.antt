@@ -1,4 +1,4 @@
-use Rattle.fc_engine.specs.{records_of}
+use Rattle.fc_collect.specs.Records.{records_of}
 use Rattle.fc_laws.proofs.MemberLemmas.{member-Can, member-IsWellFormed, one_of_a_number}
 use Rattle.fc_laws.proofs.collections.groups.accepted_records_are_sound.Goals as goal
 

@@ -1,11 +1,10 @@
-use Rattle.std.proofs.Common.{[], subst}
-use Rattle.fc_engine.specs.{nothing}
-use Rattle.fc_laws.proofs.HeaderLemmas.{cut-HasHeaders, cut-header_starts, HasHeaders}
+use Rattle.fc_collect.specs.Records.{nothing}
+use Rattle.fc_laws.proofs.HeaderLemmas.{cut-HasHeaders, cut-header_starts}
 use Rattle.fc_laws.proofs.collections.records.texts_begin_at_headers.Goals as goal
 
 pub returns : goal.returns
 returns c = record {
   starts = cut-header_starts;
-  first = λ collection text rest same. (subst (HasHeaders []) same (cut-HasHeaders nothing collection)).0;
-  others = λ collection text rest same. (subst (HasHeaders []) same (cut-HasHeaders nothing collection)).1;
+  first = λ collection text rest same. (rw same at (cut-HasHeaders nothing collection)).0;
+  others = λ collection text rest same. (rw same at (cut-HasHeaders nothing collection)).1;
 }

@@ -1,24 +1,20 @@
-use Rattle.std.proofs.Common.{◌++◌, ◌∙◌, ◌≡◌, ◌≤◌, [], All, ap, append-nil, ap₂, arith, length, List}
-use Rattle.std.proofs.Common.{map, Ok, Some, subst, sym, ℕ}
-use Rattle.std.proofs.lemmas.List.{append_cancel_left}
-use Rattle.std.proofs.lemmas.List.Elements.{All-weaker}
-use Rattle.std.specs.List.{count_by}
-use Rattle.fc_parts.specs.declared.rule.Variant.{Variant}
-use Rattle.fc_record.specs.{is_refused, printed, reading_of, show_lines}
-use Rattle.fc_run.specs.{most_countable, standard}
-use Rattle.fc_run.specs.declared.{config.Limits.{Limits}, outcome.Summary.{Summary}}
-use Rattle.fc_engine.specs.{cut, IsSmall, IsWithinLimits, nothing, output_of_records, records_from}
-use Rattle.fc_engine.specs.{records_of}
-use Rattle.fc_collect.specs.{ending_of_kind, output_of_kind, TransfersWithin}
-use Rattle.fc_collect.specs.declared.commands.{Format.{Format}, RunKind.{RunKind}}
-use Rattle.fc_collect.specs.declared.commands.RunKind.TheVariants.{Show}
+use Rattle.std.proofs.Common.{◌++◌, ◌∙◌, ◌≡◌, ◌≤◌, [], All, append-nil, ap₂, arith, length, List}
+use Rattle.std.proofs.{Common.{Ok, Some, sym, ℕ}, lemmas.List.{append_cancel_left}}
+use Rattle.std.{proofs.lemmas.List.Elements.{All-weaker}, specs.List.{count_by}}
+use Rattle.fc_board.specs.declared.rule.Variant.{Variant}
+use Rattle.fc_record.specs.Printing.{is_refused, printed, show_lines}
+use Rattle.fc_collect.specs.{Limits.{most_countable, standard}, Promises.{IsSmall, IsWithinLimits}}
+use Rattle.fc_collect.specs.Records.{cut, nothing, output_of_records, records_from, records_of}
+use Rattle.fc_collect.specs.Runs.{ending_of_kind, output_of_kind, TransfersWithin}
+use Rattle.fc_collect.specs.declared.commands.RunKind.{RunKind, TheVariants.{Show}}
+use Rattle.fc_collect.specs.declared.streams.{faults.Summary.{Summary}, limits.Limits.{Limits}}
 use Rattle.fc_laws.proofs.{PrintedRecordLemmas.{shown-records}, ReadAgainLemmas.{among-All}}
 use Rattle.fc_laws.proofs.collections.records.the_output_of_another_input_does_not_fit.Goals as goal
 
-module _ (limits : Limits) (kind : RunKind) (format : Format) (variant : Variant) where
+module _ (limits : Limits) (kind : RunKind) (variant : Variant) where
   -- what is due for these bytes
   abbrev due : List ℕ → List ℕ
-  due read = output_of_kind kind format variant (records_from limits read) ++ ending_of_kind kind format variant (records_from limits read)
+  due read = output_of_kind kind variant (records_from limits read) ++ ending_of_kind kind variant (records_from limits read)
 
   -- what a run wrote and counted, by what it read
   record Wrote (read held after : List ℕ) (summary : Summary) : Type 0 where
@@ -27,11 +23,12 @@ module _ (limits : Limits) (kind : RunKind) (format : Format) (variant : Variant
     records : summary.records ≡ length (records_from limits read)
     refused : summary.refused ≡ count_by (is_refused variant) (records_from limits read)
 
-  wrote : (read held after : List ℕ) (summary : Summary) → TransfersWithin limits kind format variant (Some read) (Some []) (Some held) (Some after) (Ok summary) → Wrote read held after summary
+  wrote : (read held after : List ℕ) (summary : Summary)
+      → TransfersWithin limits kind variant (Some read) (Some []) (Some held) (Some after) (Ok summary) → Wrote read held after summary
   wrote read held after summary run =
       let (within, ended, is, counts) = run.fits in
-      subst (λ read. Wrote read held after summary) (sym (run.consumed ∙ append-nil run.read))
-      (record { within = within; written = run.appended ∙ ap (λ written. held ++ written) is; records = counts.records; refused = counts.refused })
+      rw (run.consumed, append-nil run.read)
+      (record { within = within; written = rw (run.appended, is); records = counts.records; refused = counts.refused })
 
 same_summary : (summary counts : Summary) → summary.records ≡ counts.records → summary.refused ≡ counts.refused → summary ≡ counts
 same_summary summary counts = ap₂ (λ records refused. record { records = records; refused = refused })
@@ -43,19 +40,17 @@ few read within =
     (All-weaker (IsSmall standard) (λ text. text.number ≤ most_countable) (λ text small. omega (arith, small.number)) (cut nothing read) within.texts)
 
 pub returns-clause-one : goal.returns-clause-one
-returns-clause-one c limits kind format variant read held after other summary counts run again =
-    let first = wrote limits kind format variant read held after summary run in
-    let next = wrote limits kind format variant read held other counts again in
+returns-clause-one c limits kind variant read held after other summary counts run again =
+    let first = wrote limits kind variant read held after summary run in
+    let next = wrote limits kind variant read held other counts again in
     (first.written ∙ sym next.written, same_summary summary counts (first.records ∙ sym next.records) (first.refused ∙ sym next.refused))
 
 pub returns-clause-show : goal.returns-clause-show
-returns-clause-show c format variant read another held after summary counts run again =
-    let first = wrote standard Show format variant read held after summary run in
-    let next = wrote standard Show format variant another held after counts again in
+returns-clause-show c variant read another held after summary counts run again =
+    let first = wrote standard Show variant read held after summary run in
+    let next = wrote standard Show variant another held after counts again in
     let printed = output_of_records (printed show_lines variant) in
     let same = append_cancel_left held (printed read ++ []) (printed another ++ []) (sym first.written ∙ next.written) in
     let one = append-nil (printed read) in
     let other = append-nil (printed another) in
-    sym (shown-records variant read (few read first.within))
-    ∙ ap (λ text. map (λ text. reading_of variant text.bytes) (records_of text)) (sym one ∙ same ∙ other)
-    ∙ shown-records variant another (few another next.within)
+    rw (← shown-records variant read (few read first.within), ← one, same, other, shown-records variant another (few another next.within))

@@ -1,4 +1,4 @@
-use Rattle.fc_engine.specs.{canonical_text}
+use Rattle.fc_collect.specs.Groups.{canonical_text}
 use Rattle.fc_laws.proofs.SideBySideLemmas.{side_by_side-back}
 use Rattle.fc_laws.proofs.TableLawLemmas.{canonical_is_text}
 use Rattle.fc_laws.proofs.collections.table.boards_are_read_from_their_column.Goals as goal

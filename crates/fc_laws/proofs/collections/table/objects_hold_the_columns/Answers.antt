@@ -2,10 +2,10 @@ use Rattle.fc_laws.proofs.TableLawLemmas.{object_with_null, object_with_number, 
 use Rattle.fc_laws.proofs.collections.table.objects_hold_the_columns.Goals as goal
 
 pub returns-clause-none : goal.returns-clause-none
-returns-clause-none c number heading contents name variant board renaming columns cells lists are = object_with_null number heading contents name variant board renaming columns cells lists are
+returns-clause-none c = object_with_null
 
 pub returns-clause-first : goal.returns-clause-first
-returns-clause-first c number heading contents name variant board renaming columns cells lists win are some = object_with_number number heading contents name variant board renaming columns cells lists win are some
+returns-clause-first c = object_with_number
 
 pub returns-clause-apart : goal.returns-clause-apart
 returns-clause-apart c = strings_apart

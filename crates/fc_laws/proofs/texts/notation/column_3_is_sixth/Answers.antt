@@ -1,8 +1,8 @@
-use Rattle.std.proofs.Common.{refl}
-use Rattle.fc_card.specs.laws.OrderLaws.{places-IsOrder}
-use Rattle.fc_parts.proofs.ImageLemmas.{IsOrder-leads_back}
+use Rattle.{fc_card.specs.laws.OrderLaws.{places-IsOrder}, std.proofs.Common.{refl}}
+use Rattle.fc_board.proofs.ImageLemmas.{IsOrder-leads_back}
 use Rattle.fc_laws.specs.BoardExamples.{column_3_sixth}
 use Rattle.fc_laws.proofs.texts.notation.column_3_is_sixth.Goals as goal
 
 pub returns-clause-orders : goal.returns-clause-orders
-returns-clause-orders c = record { of_columns = IsOrder-leads_back column_3_sixth refl; eight_columns = refl; of_cells = places-IsOrder 4; all_cells = refl }
+returns-clause-orders c =
+    record { of_columns = IsOrder-leads_back column_3_sixth refl; eight_columns = refl; of_cells = places-IsOrder 4; all_cells = refl }

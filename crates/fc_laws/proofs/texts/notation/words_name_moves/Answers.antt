@@ -1,4 +1,4 @@
-use Rattle.fc_print.proofs.TokenLemmas.{IsToken-named, named-IsToken, one_move}
+use Rattle.fc_text.proofs.TokenLemmas.{IsToken-named, named-IsToken, one_move}
 use Rattle.fc_laws.proofs.texts.notation.words_name_moves.Goals as goal
 
 pub returns-clause-named : goal.returns-clause-named

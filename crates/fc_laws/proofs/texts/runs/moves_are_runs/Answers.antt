@@ -1,4 +1,4 @@
-use Rattle.fc_print.proofs.RunTokenLemmas.{listed-as_runs, one-IsToken, print-as_runs, run-IsToken}
+use Rattle.fc_text.proofs.RunTokenLemmas.{listed-as_runs, one-IsToken, print-as_runs, run-IsToken}
 use Rattle.fc_laws.proofs.texts.runs.moves_are_runs.Goals as goal
 
 pub returns-clause-listed : goal.returns-clause-listed

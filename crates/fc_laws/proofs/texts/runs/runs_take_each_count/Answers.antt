@@ -1,4 +1,4 @@
-use Rattle.fc_print.proofs.RunTokenLemmas.{count-IsRunToken}
+use Rattle.fc_text.proofs.RunTokenLemmas.{count-IsRunToken}
 use Rattle.fc_laws.proofs.texts.runs.runs_take_each_count.Goals as goal
 
 pub returns : goal.returns

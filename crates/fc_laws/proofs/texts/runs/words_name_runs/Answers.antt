@@ -1,4 +1,4 @@
-use Rattle.fc_print.proofs.RunTokenLemmas.{one_run, runs-Reads}
+use Rattle.fc_text.proofs.RunTokenLemmas.{one_run, runs-Reads}
 use Rattle.fc_laws.proofs.texts.runs.words_name_runs.Goals as goal
 
 pub returns-clause-named : goal.returns-clause-named

@@ -1,5 +1,5 @@
 use Rattle.fc_record.proofs.LineLemmas.{shown}
-use Rattle.fc_record.specs.{contents_seen, heading_seen}
+use Rattle.fc_record.specs.Grammar.{contents_seen, heading_seen}
 use Rattle.fc_record.proofs.printing.ShowLinesPrintsRecord.print.Goals as goal
 
 pub returns : goal.returns

@@ -1,5 +1,5 @@
 use Rattle.std.proofs.Common.{◌++◌, ◌+◌, ◌≡◌, drop}
-use Rattle.fc_record.specs.{expanded_line, numbered_lines}
+use Rattle.fc_record.specs.Printing.{expanded_line, numbered_lines}
 use Rattle.fc_record.proofs.printing.lists.push_expanded_lines.Given as goal
 
 abbrev pub invariant-loop-index : goal.invariant-loop-index

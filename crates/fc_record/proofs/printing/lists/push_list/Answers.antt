@@ -1,8 +1,8 @@
 use Rattle.std.proofs.Common.{◌++◌, ◌∙◌, ◌∷◌, ◌≡◌, [], ap, append-nil, append_assoc, arith, rules}
 use Rattle.std.proofs.Common.{sym}
-use Rattle.fc_print.specs.{blank, line_feed, print}
+use Rattle.fc_text.specs.{Bytes.{blank, line_feed}, Notation.{print}}
+use Rattle.fc_record.specs.Printing.{after_blank, marks_of}
 use Rattle.fc_record.proofs.LineLemmas.{no_tokens-after_blank, three_parts, tokens-after_blank}
-use Rattle.fc_record.specs.{after_blank, marks_of}
 use Rattle.fc_record.proofs.printing.lists.push_list.Goals as goal
 use Rattle.fc_record.proofs.printing.lists.push_list.Goals.{else-len-gt0}
 use Rattle.fc_record.proofs.printing.lists.push_list.Goals.{then-len-gt0+in_ok-push+in_ok-push_tokens}

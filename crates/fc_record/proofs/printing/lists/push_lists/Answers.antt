@@ -5,9 +5,9 @@ use Rattle.std.proofs.lemmas.Grind.{flat_map-append}
 use Rattle.std.proofs.lemmas.List.{take_all}
 use Rattle.std.proofs.lemmas.Result.{IfOk-from_err}
 use Rattle.std.specs.List.{flat_map}
-use Rattle.fc_parts.specs.{eight_off, ListFits, MoveList}
+use Rattle.fc_board.specs.{Games.{eight_off}, Moves.{ListFits, MoveList}}
+use Rattle.fc_record.specs.Printing.{list_line}
 use Rattle.fc_record.proofs.LineLemmas.{all_printed}
-use Rattle.fc_record.specs.{list_line}
 use Rattle.fc_record.proofs.printing.lists.push_lists.Goals as goal
 
 -- the lines of one more list

@@ -1,6 +1,6 @@
 use Rattle.std.proofs.Common.{◌++◌, ◌≡◌, take}
 use Rattle.std.specs.List.{flat_map}
-use Rattle.fc_record.specs.{list_line}
+use Rattle.fc_record.specs.Printing.{list_line}
 use Rattle.fc_record.proofs.printing.lists.push_lists.Given as goal
 
 abbrev pub invariant-loop-list : goal.invariant-loop-list

@@ -1,7 +1,7 @@
 -- Each arm appends the words of its reason.
 use Rattle.std.proofs.Common.{ap, sym}
 use Rattle.fc_record.proofs.LineLemmas.{appended_text}
-use Rattle.fc_record.specs.{step_reason}
+use Rattle.fc_record.specs.Printing.{step_reason}
 use Rattle.fc_record.proofs.printing.refusal.push_step_reason.Goals as goal
 
 pub returns-in-SamePile : goal.returns-in-SamePile

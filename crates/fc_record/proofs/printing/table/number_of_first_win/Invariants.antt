@@ -1,5 +1,5 @@
 use Rattle.std.proofs.Common.{◌+◌, ◌≡◌, drop}
-use Rattle.fc_record.specs.{first_win}
+use Rattle.fc_record.specs.Tables.{first_win}
 use Rattle.fc_record.proofs.printing.table.number_of_first_win.Given as goal
 
 abbrev pub invariant-loop-index : goal.invariant-loop-index

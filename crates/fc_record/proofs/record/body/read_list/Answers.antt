@@ -2,9 +2,9 @@
 use Rattle.std.proofs.Common.{◌+◌, ◌-◌, ◌∙◌, ◌≡◌, ap, drop, Err, false, IfOk, if◌then◌else◌, length}
 use Rattle.std.proofs.Common.{List, Ok, subst, sym, take, true, ℕ}
 use Rattle.std.proofs.lemmas.List.{take_rest}
-use Rattle.fc_parts.specs.{Game, OneCard, Runs}
-use Rattle.fc_text.specs.{moves_read, runs_read}
-use Rattle.fc_record.specs.{has_two_marks, list_read, list_with}
+use Rattle.fc_board.specs.{Games.{Game}, Moves.{OneCard, Runs}}
+use Rattle.fc_record.specs.Grammar.{has_two_marks, list_read, list_with}
+use Rattle.fc_text.specs.Readings.{moves_read, runs_read}
 use Rattle.fc_record.specs.inside.{IfFault}
 use Rattle.fc_record.proofs.record.body.read_list.Goals as goal
 

@@ -1,12 +1,11 @@
 use Rattle.std.proofs.Common.{◌+◌, ◌^◌, ◌∙◌, ◌≡◌, ◌≤◌, ap, arith, Err, Ok, subst, sym}
-use Rattle.fc_parts.specs.{OneCard}
-use Rattle.fc_print.specs.{IsToken}
+use Rattle.{fc_board.specs.Moves.{OneCard}, fc_text.specs.Notation.{IsToken}}
+use Rattle.fc_record.specs.Grammar.{list_with}
 use Rattle.fc_text.proofs.MovesReadLemmas.{moves_read-BadTokenAt, moves_read-Listed}
 use Rattle.fc_text.proofs.MovesReadLemmas.{moves_read-TooManyAt}
-use Rattle.fc_text.specs.{moves_read}
+use Rattle.fc_text.specs.Readings.{moves_read}
 use Rattle.fc_record.proofs.ContentsLemmas.{fault-near, IfFaultOf-weaker, unread-fault}
 use Rattle.fc_record.proofs.ContentsLemmas.{unread-small}
-use Rattle.fc_record.specs.{list_with}
 use Rattle.fc_record.specs.inside.{IfFaultOf, unread_for}
 use Rattle.fc_record.proofs.record.body.read_moves_after.Goals as goal
 

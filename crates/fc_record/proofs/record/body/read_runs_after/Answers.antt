@@ -1,12 +1,11 @@
 use Rattle.std.proofs.Common.{◌+◌, ◌^◌, ◌∙◌, ◌≡◌, ◌≤◌, ap, arith, Err, Ok, subst, sym}
-use Rattle.fc_parts.specs.{ListFits, Runs}
-use Rattle.fc_print.specs.{IsRunToken}
+use Rattle.{fc_board.specs.Moves.{ListFits, Runs}, fc_text.specs.Notation.{IsRunToken}}
+use Rattle.fc_record.specs.Grammar.{list_with}
 use Rattle.fc_text.proofs.MovesReadLemmas.{runs_read-BadTokenAt, runs_read-Listed}
 use Rattle.fc_text.proofs.MovesReadLemmas.{runs_read-TooManyAt}
-use Rattle.fc_text.specs.{runs_read}
+use Rattle.fc_text.specs.Readings.{runs_read}
 use Rattle.fc_record.proofs.ContentsLemmas.{fault-near, IfFaultOf-weaker, unread-fault}
 use Rattle.fc_record.proofs.ContentsLemmas.{unread-small}
-use Rattle.fc_record.specs.{list_with}
 use Rattle.fc_record.specs.inside.{IfFaultOf, unread_for}
 use Rattle.fc_record.proofs.record.body.read_runs_after.Goals as goal
 

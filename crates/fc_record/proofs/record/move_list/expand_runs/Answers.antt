@@ -2,11 +2,11 @@ use Rattle.std.proofs.Common.{◌++◌, ◌+◌, ◌∙◌, ◌≡◌, ap, appen
 use Rattle.std.proofs.Common.{take_all}
 use Rattle.std.proofs.lemmas.List.{drop_all, drop_more}
 use Rattle.std.specs.Prelude.{Err, IfErr, Ok, OnOk, Result}
-use Rattle.fc_parts.proofs.ListLemmas.{HasPlayed-more, refused_next, verdict-Stops}
-use Rattle.fc_parts.proofs.RunPlayLemmas.{several}
-use Rattle.fc_parts.specs.{expansion_of, expansions, IsWellFormed, ListFits, OneCard, run_refusal}
-use Rattle.fc_parts.specs.{RunFits, Runs, RunStep}
-use Rattle.fc_parts.specs.laws.ListWords.{RunPlays}
+use Rattle.fc_board.proofs.ListLemmas.{HasPlayed-more, refused_next, verdict-Stops}
+use Rattle.fc_board.proofs.RunPlayLemmas.{several}
+use Rattle.fc_board.specs.{Boards.{IsWellFormed}, Moves.{ListFits, OneCard, RunFits, Runs}}
+use Rattle.fc_board.specs.{Play.{expansion_of, expansions}, Steps.{run_refusal, RunStep}}
+use Rattle.fc_board.specs.laws.ListWords.{RunPlays}
 use Rattle.fc_record.proofs.LineLemmas.{expansions-next, one_card_moves-Fit, played-verdict}
 use Rattle.fc_record.proofs.record.move_list.expand_runs.Given as given
 use Rattle.fc_record.proofs.record.move_list.expand_runs.Goals as goal

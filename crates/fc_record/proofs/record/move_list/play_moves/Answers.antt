@@ -1,9 +1,9 @@
 use Rattle.std.proofs.Common.{◌≡◌, if◌then◌else◌, subst, sym}
-use Rattle.fc_parts.proofs.ListLemmas.{verdict-Stops}
-use Rattle.fc_parts.proofs.MoveListLemmas.{list_verdict-played}
-use Rattle.fc_parts.proofs.RunPlayLemmas.{one_card}
-use Rattle.fc_parts.specs.{IsWellFormed, OneCard, OnlyLegal, verdict, Won}
-use Rattle.fc_parts.specs.laws.ListWords.{MovesRefusedAt}
+use Rattle.fc_board.proofs.ListLemmas.{verdict-Stops}
+use Rattle.fc_board.proofs.MoveListLemmas.{list_verdict-played}
+use Rattle.fc_board.proofs.RunPlayLemmas.{one_card}
+use Rattle.fc_board.specs.{Boards.{IsWellFormed}, Moves.{OneCard}, Play.{OnlyLegal, verdict, Won}}
+use Rattle.fc_board.specs.laws.ListWords.{MovesRefusedAt}
 use Rattle.fc_record.proofs.record.move_list.play_moves.Goals as goal
 
 pub returns-in-Ok-clause-verdict : goal.returns-in-Ok-clause-verdict

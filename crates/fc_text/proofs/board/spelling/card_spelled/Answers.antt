@@ -3,7 +3,7 @@ use Rattle.std.proofs.Common.{length, List, None, Option, refl, slice_index_or, 
 use Rattle.std.specs.Option.{option_and_then, option_map, SomeIff}
 use Rattle.fc_card.specs.{card_of, IsCard}
 use Rattle.fc_text.proofs.CardLemmas.{rank-below, suit-below}
-use Rattle.fc_text.specs.{card_spelled, rank_spelled, suit_spelled}
+use Rattle.fc_text.specs.Spelling.{card_spelled, rank_spelled, suit_spelled}
 use Rattle.fc_text.proofs.board.spelling.card_spelled.Goals as goal
 
 two_letters : (word : List ℕ) → 2 ≤ length word → length word < 3 → word ≡ slice_index_or word 0 0 ∷ slice_index_or word 1 0 ∷ []

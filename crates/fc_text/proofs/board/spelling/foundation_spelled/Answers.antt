@@ -3,9 +3,9 @@ use Rattle.std.proofs.Common.{inr, length, List, None, Option, refl, slice_index
 use Rattle.std.proofs.lemmas.Bool.{eq-eqb, ne_eqb}
 use Rattle.std.proofs.lemmas.List.{take_rest}
 use Rattle.std.specs.Option.{option_and_then, option_map}
-use Rattle.fc_print.specs.{dash}
-use Rattle.fc_text.specs.{Foundation, foundation_spelled, height_spelled, suit_spelled}
-use Rattle.fc_text.specs.reader.{foundation_of}
+use Rattle.fc_text.specs.Bytes.{dash}
+use Rattle.fc_text.specs.Spelling.{foundation_spelled, height_spelled, suit_spelled}
+use Rattle.fc_text.specs.declared.board.spelling.Foundation.{Foundation}
 use Rattle.fc_text.proofs.board.spelling.foundation_spelled.Goals as goal
 use Rattle.fc_text.proofs.board.spelling.foundation_spelled.Goals.{then-word-lt2-via-else-word-lt2+then-word-ne45}
 use Rattle.fc_text.proofs.board.spelling.foundation_spelled.Goals.{then-word-lt2-via-then-word-lt2}
@@ -37,13 +37,13 @@ returns-then-word-lt2-clause-spelled c =
 
 pub returns-in_err-suit-clause-spelled : goal.returns-in_err-suit-clause-spelled
 returns-in_err-suit-clause-spelled c =
-    ap (option_map foundation_of) c.from_residual.ensures
+    c.from_residual.ensures
     ∙ ap (with_suit (drop 2 c.args.word.now)) c.in_err-suit.ensures
     ∙ parts c.args.word.now c.if-word-lt2.false c.if-word-ne45.false
 
 pub returns-in_err-height-clause-spelled : goal.returns-in_err-height-clause-spelled
 returns-in_err-height-clause-spelled c =
-    ap (option_map foundation_of) c.from_residual-in_err-height.ensures
+    c.from_residual-in_err-height.ensures
     ∙ ap (with_height c.in_ok-suit.suit) (c.in_err-height.ensures ∙ ap height_spelled (take_rest c.args.word.now 2))
     ∙ ap (with_suit (drop 2 c.args.word.now)) c.in_ok-suit.ensures
     ∙ parts c.args.word.now c.if-word-lt2.false c.if-word-ne45.false

@@ -1,7 +1,7 @@
 use Rattle.std.proofs.Common.{◌<◌, ◌∷◌, ◌≡◌, ◌≤◌, [], arith, inl, inr, length, List, None}
 use Rattle.std.proofs.Common.{slice_index_or, ℕ}
 use Rattle.std.proofs.lemmas.Bool.{cases_eq, ne_eqb}
-use Rattle.fc_text.specs.{rank_spelled}
+use Rattle.fc_text.specs.Spelling.{rank_spelled}
 use Rattle.fc_text.proofs.board.spelling.rank_spelled.Goals as goal
 
 no_ten : (word : List ℕ) → 2 ≤ length word → length word < 3 → (slice_index_or word 0 0 ≡ 49 → slice_index_or word 1 0 ≡ 48 → ⊥) → None ≡ rank_spelled word

@@ -1,7 +1,7 @@
 use Rattle.std.proofs.Common.{◌∷◌, [], arith}
-use Rattle.fc_print.proofs.LetterLemmas.{high_is_none, low_is_some}
+use Rattle.fc_text.proofs.LetterLemmas.{high_is_none, low_is_some}
 use Rattle.fc_text.proofs.CardLemmas.{suit-below}
-use Rattle.fc_text.specs.{suit_spelled}
+use Rattle.fc_text.specs.Spelling.{suit_spelled}
 use Rattle.fc_text.proofs.board.spelling.suit_of_letter.Goals as goal
 
 pub returns-then-suit-lt4 : goal.returns-then-suit-lt4

@@ -1,5 +1,5 @@
 use Rattle.std.proofs.Common.{◌++◌, ◌∷◌, ◌≡◌, [], ap, arith, Err, length, rules, subst}
-use Rattle.fc_print.specs.{BadTokenAt, most_moves, TooManyAt}
+use Rattle.fc_text.specs.Notation.{BadTokenAt, most_moves, TooManyAt}
 use Rattle.fc_text.proofs.ListedLemmas.{bad_or_too_many, listed_or_bad, one_bad_token}
 use Rattle.fc_text.proofs.ReadMovesLemmas.{begins_not_empty, read_all, read_bad, read_next}
 use Rattle.fc_text.proofs.ReadMovesLemmas.{read_too_many, reads_from, some_word}

@@ -1,7 +1,7 @@
 use Rattle.std.proofs.Common.{map}
-use Rattle.fc_print.specs.{separates_tokens, words_from}
-use Rattle.fc_print.specs.Left.{tokens_left}
-use Rattle.fc_print.specs.reader.{ReadSoFar}
+use Rattle.fc_text.specs.{Lines.{words_from}, Notation.{separates_tokens}}
+use Rattle.fc_text.specs.Left.{tokens_left}
+use Rattle.fc_text.specs.reader.{ReadSoFar}
 use Rattle.fc_text.proofs.moves.read.read_list.Given as goal
 
 abbrev pub invariant-loop-token : goal.invariant-loop-token

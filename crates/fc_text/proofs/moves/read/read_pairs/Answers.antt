@@ -1,7 +1,7 @@
 use Rattle.std.proofs.Common.{◌++◌, ◌∷◌, ◌≡◌, [], arith, drop, false, is_none, length, rules, subst}
 use Rattle.std.proofs.Common.{sym}
 use Rattle.std.proofs.lemmas.List.{take_rest}
-use Rattle.fc_print.specs.{most_moves}
+use Rattle.fc_text.specs.Notation.{most_moves}
 use Rattle.fc_text.proofs.ReadMovesLemmas.{begins_with_token, if_err, IsLeft, pair_read}
 use Rattle.fc_text.proofs.moves.read.read_pairs.Goals as goal
 

@@ -1,6 +1,6 @@
 use Rattle.std.proofs.Common.{◌++◌, ◌≡◌, map, take}
 use Rattle.std.specs.List.{join_with_byte}
-use Rattle.fc_print.specs.{blank}
+use Rattle.fc_text.specs.Bytes.{blank}
 use Rattle.fc_text.proofs.moves.write.push_list.Given as goal
 
 abbrev pub invariant-loop-index : goal.invariant-loop-index

@@ -1,6 +1,6 @@
 -- A later member is printed by the first one.
 use Rattle.std.proofs.lemmas.Result.{on_ok_weaker}
-use Rattle.fc_record.specs.{contents_seen, heading_seen}
+use Rattle.fc_record.specs.Grammar.{contents_seen, heading_seen}
 use Rattle.fc_collect.proofs.SameLemmas.{same-printed}
 use Rattle.fc_collect.proofs.commands.same.SameLinesCommand.accept.Goals as goal
 

@@ -1,7 +1,7 @@
 -- The moves are copied, in the form that the list has.
 use Rattle.std.proofs.Common.{◌++◌, ◌∙◌, ap, ap₂, sym}
 use Rattle.std.proofs.lemmas.Result.{IfOk-from_err}
-use Rattle.fc_parts.specs.{OneCard, Runs}
+use Rattle.fc_board.specs.Moves.{OneCard, Runs}
 use Rattle.fc_record.specs.inside.Fitting.{list_seen}
 use Rattle.fc_record.proofs.record.move_list.MoveList.copy.Goals as goal
 

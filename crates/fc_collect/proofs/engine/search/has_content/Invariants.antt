@@ -1,0 +1,9 @@
+-- No line so far holds something.
+use Rattle.std.proofs.Common.{◌≡◌, not}
+use Rattle.std.specs.List.{list_any}
+use Rattle.{fc_collect.specs.Records.{has_content}, fc_text.specs.Rows.{is_empty, line_of}}
+use Rattle.fc_text.specs.Left.{lines_left}
+use Rattle.fc_collect.proofs.engine.search.has_content.Given as goal
+
+abbrev pub invariant-loop-line : goal.invariant-loop-line
+invariant-loop-line l = has_content l.fn.bytes ≡ list_any (λ line. not (is_empty (line_of line))) (lines_left l.line-iterator)

@@ -1,0 +1,101 @@
+-- What a run promises of its counts and of its bytes.
+use Rattle.std.specs.{Io.KnownBytes.{Appends, Consumes, IsAtEnd}, List.{count_by}, Prelude.{◌++◌}}
+use Rattle.std.specs.Prelude.{◌+◌, ◌≡◌, ◌≤◌, All, Bool, Err, length, List, Ok, OnOk, Option, Result}
+use Rattle.std.specs.Prelude.{true, ℕ}
+use Rattle.fc_record.specs.RecordTexts.{RecordText}
+use Rattle.fc_collect.specs.Limits.{most_record_bytes}
+use Rattle.fc_collect.specs.Records.{cut, finished_from, first_of, records_from}
+use Rattle.fc_collect.specs.Streams.{CallCounts, GrowsBy, is_flushed}
+use Rattle.fc_collect.specs.declared.streams.{counted.Counted.{Counted}, faults.RunFault.{RunFault}}
+use Rattle.fc_collect.specs.declared.streams.faults.RunFault.TheVariants.{Read, ReaderNeverEnds}
+use Rattle.fc_collect.specs.declared.streams.faults.RunFault.TheVariants.{TooLarge, Write}
+use Rattle.fc_collect.specs.declared.streams.{faults.Summary.{Summary}, limits.Limits.{Limits}}
+
+-- -------- What a run reads to its end, and which records. From: this project's profile.
+
+-- a record, or what comes before the first header, has no byte too many, and is not one record too many
+pub record IsSmall (limits : Limits) (text : RecordText) : Type 0 where
+  pub bytes : length text.bytes ≤ most_record_bytes
+  pub number : text.number ≤ limits.records
+
+-- what a run reads passes no limit of size
+-- said again: pieces_are_placed.within
+pub record IsWithinLimits (limits : Limits) (read : List ℕ) : Type 0 where
+  pub bytes : limits.place + length read ≤ limits.bytes
+  pub texts : All (IsSmall limits) (cut (first_of limits) read)
+
+-- -------- What writes promise of the bytes that go out: a whole text, or some front of it where a write fails.
+
+-- what they add to its failures at a fault
+abbrev pub fault_failures : RunFault → ℕ
+fault_failures Write = 1
+fault_failures fault = 0
+
+-- what writes and a flush at their end add to the counts of their output
+abbrev pub flushed_counts : {A : Type 0} → Result A RunFault → CallCounts
+flushed_counts (Ok _) = record { failures = 0; fills = 0; ends = 0; flushes = 1 }
+flushed_counts (Err fault) = record { failures = fault_failures fault; fills = 0; ends = 0; flushes = 0 }
+
+-- where they succeeded, the output was flushed once, after its last write
+pub record WritesAsCounted {W A : Type 0} (old new : Counted W) (result : Result A RunFault) : Type 0 where
+  pub grows : GrowsBy old new (flushed_counts result)
+  pub flushed : OnOk result (is_flushed new ≡ true)
+
+-- the text begins with these bytes
+abbrev pub Begins : List ℕ → List ℕ → Type 0
+Begins front text = (rest : List ℕ) × (front ++ rest ≡ text)
+
+-- the whole text was written, or some front of it where a write failed, and there is no other fault
+abbrev pub WritingFits : {A : Type 0} → List ℕ → List ℕ → Result A RunFault → Type 0
+WritingFits text written (Ok _) = written ≡ text
+WritingFits text written (Err Write) = Begins written text
+WritingFits text written (Err fault) = ⊥
+
+-- some bytes were written
+pub record WritesText {A : Type 0} (text : List ℕ) (before after : Option (List ℕ)) (result : Result A RunFault) : Type 0 where
+  pub written : List ℕ
+  pub appended : Appends before after written
+  pub fits : WritingFits text written result
+
+-- -------- What a run over the records of a collection promises of its counts and of its bytes, by its result, within these limits. From: this project's profile.
+
+-- ---- counts
+
+-- what the result says of what a run added to the counts of its input: it succeeds where the input gave its end once
+abbrev pub ResultCounts : {A : Type 0} → Limits → Result A RunFault → CallCounts → Type 0
+ResultCounts limits (Ok _) counts = (counts.failures ≡ 0) × (counts.ends ≡ 1)
+ResultCounts limits (Err Read) counts = (counts.failures ≡ 1) × (counts.ends ≡ 0)
+ResultCounts limits (Err TooLarge) counts = (counts.failures ≡ 0) × (counts.ends ≡ 0)
+ResultCounts limits (Err ReaderNeverEnds) counts = (counts.failures ≡ 0) × (counts.fills ≡ limits.reads) × (counts.ends ≡ 0)
+ResultCounts limits (Err fault) counts = counts.failures ≡ 0
+
+-- the input's counts grow as the result says, by no more reads than a run makes
+pub record ReadsAsCounted {R A : Type 0} (limits : Limits) (old new : Counted R) (result : Result A RunFault) : Type 0 where
+  pub counts : CallCounts
+  pub grows : GrowsBy old new counts
+  pub few : counts.failures + counts.fills + counts.ends ≤ limits.reads
+  pub fits : ResultCounts limits result counts
+
+-- ---- bytes
+
+-- the counts of a run are those of the records that were read
+pub record CountsRecords (limits : Limits) (refuses : RecordText → Bool) (read : List ℕ) (summary : Summary) : Type 0 where
+  pub records : summary.records ≡ length (records_from limits read)
+  pub refused : summary.refused ≡ count_by refuses (records_from limits read)
+
+-- how what was read, what the input has left and what was written go with each result, where this is printed for records as they come, and that at the end for all of them
+abbrev pub ResultFits : Limits → (List RecordText → List ℕ) → (RecordText → Bool) → (List RecordText → List ℕ) → List ℕ → Option (List ℕ) → List ℕ → Result Summary RunFault → Type 0
+ResultFits limits output refuses ending read left written (Ok summary) =
+    IsWithinLimits limits read × IsAtEnd left × (written ≡ output (records_from limits read) ++ ending (records_from limits read)) × CountsRecords limits refuses read summary
+ResultFits limits output refuses ending read left written (Err Read) = IsWithinLimits limits read × (written ≡ output (finished_from limits read))
+ResultFits limits output refuses ending read left written (Err ReaderNeverEnds) = IsWithinLimits limits read × (written ≡ output (finished_from limits read))
+ResultFits limits output refuses ending read left written (Err TooLarge) = (¬ IsWithinLimits limits read) × Begins written (output (records_from limits read) ++ ending (records_from limits read))
+ResultFits limits output refuses ending read left written (Err fault) = IsWithinLimits limits read × Begins written (output (records_from limits read) ++ ending (records_from limits read))
+
+-- some bytes went in and some went out, and they fit the result
+pub record Transfers (Fits : (read : List ℕ) → (left : Option (List ℕ)) → (written : List ℕ) → Result Summary RunFault → Type 0) (input left before after : Option (List ℕ)) (result : Result Summary RunFault) : Type 0 where
+  pub read : List ℕ
+  pub written : List ℕ
+  pub consumed : Consumes input left read
+  pub appended : Appends before after written
+  pub fits : Fits read left written result

@@ -1,0 +1,97 @@
+-- What a run of each kind promises.
+use Rattle.std.specs.{List.{flat_map}, Prelude.{◌++◌, ◌∷◌, [], codes, if◌then◌else◌, List, None}}
+use Rattle.std.specs.Prelude.{Option, Result, Some, ℕ}
+use Rattle.fc_board.specs.{declared.rule.Variant.{Variant}, Passages.{Passage}}
+use Rattle.fc_text.specs.Bytes.{line_feed}
+use Rattle.fc_record.specs.{Grammar.{Contents, Heading}, Printing.{canon_lines, check_lines}}
+use Rattle.fc_record.specs.Printing.{expand_lines, is_refused, name_of, passage_words, printed}
+use Rattle.fc_record.specs.Printing.{printed_with, show_lines, symmetry_lines}
+use Rattle.fc_record.specs.RecordTexts.{RecordText}
+use Rattle.fc_record.specs.Tables.{refusal_object, table_header, table_line, table_object}
+use Rattle.fc_collect.specs.Groups.{belong_together, figures, figures_line, figures_object}
+use Rattle.fc_collect.specs.Groups.{group_lines, grouped, Member, members_among, passage_between}
+use Rattle.fc_collect.specs.Groups.{share_lines, summary_of, unique_output}
+use Rattle.fc_collect.specs.Promises.{ReadsAsCounted, ResultFits, Transfers, WritesAsCounted}
+use Rattle.fc_collect.specs.{Records.{outputs_after}, Streams.{inner_of}}
+use Rattle.fc_collect.specs.declared.commands.CountFormat.{CountFormat, TheVariants.{Words}}
+use Rattle.fc_collect.specs.declared.commands.Format.{Format, TheVariants.{Header, Json, Lines}}
+use Rattle.fc_collect.specs.declared.commands.RunKind.{RunKind, TheVariants.{Canon, Check, Count}}
+use Rattle.fc_collect.specs.declared.commands.RunKind.TheVariants.{Expand, Group, Same, Share, Show}
+use Rattle.fc_collect.specs.declared.commands.RunKind.TheVariants.{Symmetries, Table, Unique}
+use Rattle.fc_collect.specs.declared.streams.{counted.Counted.{Counted}, faults.RunFault.{RunFault}}
+use Rattle.fc_collect.specs.declared.streams.{faults.Summary.{Summary}, limits.Limits.{Limits}}
+use Rattle.fc_collect.specs.declared.commands.CountFormat.TheVariants as count
+
+-- -------- What `same` prints for each accepted record after the first: the passage from the first one's board, or that there is none. From: this project's profile.
+
+-- the passage from the first member's board to that of another, where they belong together
+abbrev pub passage_to : Member → Member → Option Passage
+passage_to first member = if belong_together first member then Some (passage_between first member) else None
+
+-- the passage in the words of `canon`, or that there is none
+abbrev pub passage_found : Option Passage → List ℕ
+passage_found (Some passage) = passage_words passage
+passage_found None = codes " apart" ++ line_feed ∷ []
+
+-- nothing for the first member, and for each later one its name and the passage from the first
+abbrev pub same_lines : List Member → ℕ → Heading → Contents → List ℕ
+same_lines [] number heading contents = []
+same_lines (first ∷ others) number heading contents =
+    name_of number heading.name ++ passage_found (passage_to first (record { number = number; heading = heading; contents = contents }))
+
+-- what is printed for records as they come, where records without a header have this variant
+abbrev pub same_output : Variant → List RecordText → List ℕ
+same_output variant records = outputs_after (λ earlier. printed (same_lines (members_among variant earlier)) variant) [] records
+
+-- -------- What a run of each kind writes, by the variant of records without a header. From: this project's profile.
+
+-- a line for each record that is refused, and nothing for the others
+abbrev pub refusals : Variant → List RecordText → List ℕ
+refusals variant = flat_map (printed (λ number heading contents. []) variant)
+
+-- an object for each
+abbrev pub refusal_objects : Variant → List RecordText → List ℕ
+refusal_objects variant = flat_map (printed_with refusal_object (λ number heading contents. []) variant)
+
+-- for records as they come. The kinds without a line here print at the end, and before it refusals alone
+abbrev pub output_of_kind : RunKind → Variant → List RecordText → List ℕ
+output_of_kind Show variant = flat_map (printed show_lines variant)
+output_of_kind Canon variant = flat_map (printed canon_lines variant)
+output_of_kind Check variant = flat_map (printed check_lines variant)
+output_of_kind Expand variant = flat_map (printed expand_lines variant)
+output_of_kind Symmetries variant = flat_map (printed symmetry_lines variant)
+output_of_kind Unique variant = unique_output variant
+output_of_kind Same variant = same_output variant
+output_of_kind (Table Lines) variant = flat_map (printed table_line variant)
+output_of_kind (Table Header) variant = λ records. table_header ++ flat_map (printed table_line variant) records
+output_of_kind (Table Json) variant = flat_map (printed_with refusal_object table_object variant)
+output_of_kind (Count count.Json) variant = refusal_objects variant
+output_of_kind kind variant = refusals variant
+
+-- the format of figures where a table has this one
+abbrev pub count_format : Format → CountFormat
+count_format Lines = Words
+count_format Header = Words
+count_format Json = count.Json
+
+-- at the end, for all of them; most kinds print nothing then
+abbrev pub ending_of_kind : RunKind → Variant → List RecordText → List ℕ
+ending_of_kind Group variant = grouped group_lines variant
+ending_of_kind Share variant = grouped share_lines variant
+ending_of_kind (Count Words) variant = λ records. figures_line (figures (summary_of variant records) (members_among variant records))
+ending_of_kind (Count count.Json) variant = λ records. figures_object (figures (summary_of variant records) (members_among variant records))
+ending_of_kind kind variant = λ records. []
+
+-- -------- What a run promises. From: this project's profile.
+
+-- what it transfers within these limits, by the input's bytes and those that it has left, the output's before and after, and the result
+abbrev pub TransfersWithin : Limits → RunKind → Variant → (input left before after : Option (List ℕ)) → Result Summary RunFault → Type 0
+TransfersWithin limits kind variant = Transfers (ResultFits limits (output_of_kind kind variant) (is_refused variant) (ending_of_kind kind variant))
+
+-- what it promises over an input, of which some bytes remain, and an output, which holds some: its counts, and what it transfers
+pub record RunsWithin {R W : Type 0} (limits : Limits) (remaining : R → Option (List ℕ)) (contents : W → Option (List ℕ))
+    (transfers : (input left before after : Option (List ℕ)) → Result Summary RunFault → Type 0)
+    (input left : Counted R) (before after : Counted W) (result : Result Summary RunFault) : Type 0 where
+  pub read_counted : ReadsAsCounted limits input left result
+  pub write_counted : WritesAsCounted before after result
+  pub wrote : transfers (remaining (inner_of input)) (remaining (inner_of left)) (contents (inner_of before)) (contents (inner_of after)) result

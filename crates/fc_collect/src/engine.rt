@@ -1,0 +1,160 @@
+//! The engine: it reads a collection record by record, within limits and without a second try.
+ghost use Rattle.std.specs.List.{count_by};
+ghost use Rattle.std.specs.Prelude.{◌+◌, ◌<◌, ◌^◌, ◌↔◌, ◌≡◌, ◌≤◌, [], IsTrue, length, List};
+ghost use Rattle.fc_record.specs.{Printing.{is_refused}, RecordTexts.{RecordText}};
+ghost use Rattle.fc_collect.specs.inside.{ConsumesRead, ended, Finishes, IsAllowed, last_output};
+ghost use Rattle.fc_collect.specs.inside.{output_counts, printed_after, Remembers, text_at};
+ghost use Rattle.fc_collect.specs.Limits.{AreCountable};
+ghost use Rattle.fc_collect.specs.Promises.{ReadsAsCounted, ResultFits, Transfers, WritesAsCounted};
+ghost use Rattle.fc_collect.specs.{Records.{outputs_after}, Streams.{GrowsBy, HasRoom, inner_of}};
+
+use crate::{Counted, Limits, MOST_RECORD_BYTES, RunConfig, RunFault, Summary};
+use std::alloc::Global;
+use std::io::{Read, Write};
+
+mod command;
+mod progress;
+mod search;
+mod window;
+mod writing;
+
+pub use command::Command;
+use progress::{Printed, Progress, are_small, take_complete_records, take_text};
+use window::Window;
+use writing::{FULL, write_out};
+pub use writing::{write_bytes, write_full, write_text};
+
+/// How many bytes of output have room from the start: twice as many as are pending before they are
+/// written, and the lines of one short record.
+const PENDING_ROOM: usize = 2 * FULL + 1_024;
+
+/// Reads a collection to its end, and writes what is printed for its records before it reads on.
+///
+/// A run takes its buffers before it reads, counts what a read gave against the limits before it
+/// prints any of it, writes once `FULL` bytes are pending and before each read, and flushes the
+/// output at the end. A call that fails is not tried again, also where it was interrupted.
+pub fn run_records<C: Command, Rd: Read, Wr: Write>(
+    alloc: Global,
+    config: RunConfig,
+    input: &mut Counted<Rd>,
+    output: &mut Counted<Wr>,
+) -> Result<Summary, RunFault>
+    requires limits { AreCountable config.limits }
+    requires input_low { HasRoom input.old }
+    requires output_low { HasRoom output.old }
+    ensures read_counted { ReadsAsCounted config.limits input.old input.new result }
+    ensures write_counted { WritesAsCounted output.old output.new result }
+    ensures wrote { Transfers (ResultFits config.limits
+        (outputs_after (printed_after C.Refusal.text C.lines config.variant) [])
+        (is_refused config.variant) (ended C.ending config.variant))
+        (Rd.remaining (inner_of input.old)) (Rd.remaining (inner_of input.new))
+        (Wr.contents (inner_of output.old)) (Wr.contents (inner_of output.new)) result }
+{
+    let Ok(mut window) = Window::new(alloc) else {
+        return Err(RunFault::Memory);
+    };
+    let Ok(pending) = Vec::with_capacity(alloc, PENDING_ROOM) else {
+        return Err(RunFault::Memory);
+    };
+    let mut printed = Printed {
+        kept: C::start(alloc, config.seed),
+        progress: Progress {
+            number: config.limits.number,
+            start: config.limits.place,
+            refused: 0,
+        },
+        pending,
+    };
+    for _turn in 0..config.limits.reads {
+        let searched = window.as_slice().len();
+        let Ok(given) = window.fill(input) else {
+            return Err(RunFault::Read);
+        };
+        if given == 0 {
+            return finish::<C, Wr>(alloc, config, &mut printed, window.as_slice(), output);
+        }
+        consume::<C, Wr>(alloc, config, &mut printed, &mut window, searched, output)?;
+    }
+    Err(RunFault::ReaderNeverEnds)
+}
+
+// Prints and writes the records that a header ends, if what is held passes no limit.
+fn consume<C: Command, Wr: Write>(
+    alloc: Global,
+    config: RunConfig,
+    printed: &mut Printed<C::Kept>,
+    window: &mut Window,
+    searched: usize,
+    output: &mut Counted<Wr>,
+) -> Result<(), RunFault>
+    requires limits { AreCountable config.limits }
+    requires low { HasRoom output.old }
+    requires within { searched ≤ length window.old }
+    requires few { printed.old.progress.start ≤ config.limits.bytes }
+    requires fewer { printed.old.progress.refused < printed.old.progress.number }
+    requires none { printed.old.pending.items ≡ [] }
+    ensures counted { GrowsBy output.old output.new (output_counts result) }
+    ensures bytes { (seen : List RecordText)
+        → Remembers C.keeps config.variant printed.old.kept seen
+        → ConsumesRead config.limits (outputs_after (printed_after C.Refusal.text C.lines config.variant) seen)
+        (is_refused config.variant) (Remembers C.keeps config.variant printed.old.kept)
+        (Remembers C.keeps config.variant printed.new.kept)
+        printed.old.progress printed.new.progress
+        window.old searched window.new printed.new.pending.items
+        (Wr.contents (inner_of output.old)) (Wr.contents (inner_of output.new)) result }
+{
+    let held = window.as_slice();
+    if !is_allowed(config.limits, printed.progress, held, searched) {
+        return Err(RunFault::TooLarge);
+    }
+    let front = take_complete_records::<C, Wr>(alloc, config, printed, held, searched, output)?;
+    write_out(&mut printed.pending, output)?;
+    window.drop_front(front);
+    Ok(())
+}
+
+// Whether what is held passes no limit of size.
+fn is_allowed(limits: Limits, progress: Progress, held: &[u8], searched: usize) -> bool
+    requires limits { AreCountable limits }
+    requires within { searched ≤ length held.now }
+    requires few { progress.start ≤ limits.bytes }
+    ensures { IsTrue result ↔ IsAllowed limits progress held.now searched }
+{
+    if progress.start + held.len() > limits.bytes {
+        return false;
+    }
+    are_small(limits, progress, held, searched)
+}
+
+// Prints and writes the last record and the end, and flushes the output.
+fn finish<C: Command, Wr: Write>(
+    alloc: Global,
+    config: RunConfig,
+    printed: &mut Printed<C::Kept>,
+    held: &[u8],
+    output: &mut Counted<Wr>,
+) -> Result<Summary, RunFault>
+    requires low { HasRoom output.old }
+    requires few { printed.old.progress.start + length held.now ≤ 2 ^ 60 }
+    requires small { printed.old.progress.number ≤ 2 ^ 60 }
+    requires later { config.limits.number ≤ printed.old.progress.number }
+    requires fewer { printed.old.progress.refused < printed.old.progress.number }
+    requires none { printed.old.pending.items ≡ [] }
+    ensures counted { WritesAsCounted output.old output.new result }
+    ensures bytes { (seen : List RecordText)
+        → Remembers C.keeps config.variant printed.old.kept seen
+        → printed.old.progress.number ≡ config.limits.number + length seen
+        → printed.old.progress.refused ≡ count_by (is_refused config.variant) seen
+        → Finishes config.limits.number
+        (last_output (outputs_after (printed_after C.Refusal.text C.lines config.variant) seen)
+        (ended C.ending config.variant) seen (text_at printed.old.progress held.now))
+        (is_refused config.variant) printed.old.progress
+        (text_at printed.old.progress held.now)
+        (Wr.contents (inner_of output.old)) (Wr.contents (inner_of output.new)) result }
+{
+    take_text::<C, Wr>(alloc, config.variant, printed, held, output)?;
+    let summary = printed.progress.summary(config.limits.number);
+    C::end(alloc, &printed.kept, summary, &mut printed.pending, output)?;
+    write_text(output, printed.pending.as_slice())?;
+    Ok(summary)
+}

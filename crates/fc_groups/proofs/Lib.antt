@@ -1,3 +1,0 @@
-pub mod GroupLemmas
-pub mod KeyedLemmas
-pub mod ShareLemmas

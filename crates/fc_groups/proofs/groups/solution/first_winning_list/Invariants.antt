@@ -1,8 +1,0 @@
-use Rattle.std.proofs.Common.{◌≡◌, None}
-use Rattle.std.specs.List.{find}
-use Rattle.fc_parts.specs.{list_verdict}
-use Rattle.fc_record.specs.{is_win}
-use Rattle.fc_groups.proofs.groups.solution.first_winning_list.Given as goal
-
-abbrev pub invariant-loop-list : goal.invariant-loop-list
-invariant-loop-list g l = find (λ moves. is_win (list_verdict g.R.Rule.game l.board moves)) l.yielded ≡ None

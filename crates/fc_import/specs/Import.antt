@@ -1,0 +1,197 @@
+-- What a text is imported as.
+use Rattle.std.specs.{Fmt.{decimal}, Io.KnownBytes.{IsAtEnd}, List.{flat_map}}
+use Rattle.std.specs.{Option.{option_to_list}, Prelude.{◌*◌, ◌++◌, ◌+◌, ◌-◌, ◌<◌, ◌==◌, ◌↔◌, ◌∷◌}}
+use Rattle.std.specs.Prelude.{◌≡◌, ◌≢◌, ◌≤◌, ◌⊎◌, [], All, codes, Err, false, if◌then◌else◌, length}
+use Rattle.std.specs.Prelude.{List, None, Ok, Option, Result, slice_get, slice_index}
+use Rattle.std.specs.Prelude.{slice_index_or, Some, take, true, ℕ}
+use Rattle.{fc_board.specs.declared.rule.Variant.{Variant}, fc_card.specs.{places}}
+use Rattle.fc_board.specs.{Boards.{Board, IsWellFormed}, Games.{Builds, Game, game_of}}
+use Rattle.fc_board.specs.{Moves.{MoveList}, Play.{Legal}}
+use Rattle.fc_text.specs.{Bytes.{line_feed}, Lines.{lines_from}, Printed.{text_of}}
+use Rattle.fc_text.specs.Spelling.{Spells}
+use Rattle.fc_record.specs.{Grammar.{begins_with}, Printing.{header_text, list_line}}
+use Rattle.fc_record.specs.RecordTexts.{ends_line as ends_lines, header_mark}
+use Rattle.fc_collect.specs.{Limits.{most_bytes, standard}, Promises.{Begins}}
+use Rattle.fc_collect.specs.Runs.{TransfersWithin}
+use Rattle.fc_collect.specs.declared.commands.RunKind.TheVariants.{Show}
+use Rattle.fc_collect.specs.declared.streams.faults.RunFault.{RunFault}
+use Rattle.fc_collect.specs.declared.streams.faults.RunFault.TheVariants.{TooLarge, Write}
+use Rattle.fc_collect.specs.declared.streams.faults.Summary.{Summary}
+use Rattle.fc_import.specs.Notes.{after, after_heading, counted, first_state, IsNote, State}
+use Rattle.fc_import.specs.Words.{ended, is_list, named_cards, named_in, named_lines, named_moves}
+use Rattle.fc_import.specs.Words.{text_read, words_of_line}
+use Rattle.fc_import.specs.declared.tally.Fate.TheVariants.{ABoard, AList, LeftOut, Passed}
+use Rattle.fc_import.specs.declared.tally.Fate.TheVariants.{RefusedBoard, RefusedList}
+use Rattle.fc_import.specs.declared.tally.Tally.{Tally}
+
+-- -------- When lines are a board. From: the layouts that people and programs write, and the rules of the games.
+
+abbrev pub in_cells : Board → List ℕ
+in_cells board = flat_map option_to_list board.cells
+
+abbrev pub in_columns : Board → List ℕ
+in_columns board = flat_map (λ column. column) board.columns
+
+-- the first card of each column, then the second of each, and so on
+abbrev pub in_rows : Board → List ℕ
+in_rows board = flat_map (λ row. flat_map (λ column. option_to_list (slice_get column row)) board.columns) (places 52)
+
+-- the cards in the cells, and those of each column
+abbrev pub by_columns : Board → List ℕ
+by_columns board = ended (in_cells board) ++ flat_map ended board.columns
+
+-- no cell before a taken one is empty
+abbrev pub ArePacked : List (Option ℕ) → Type 0
+ArePacked cells = (place : ℕ) → 1 ≤ place → place < length cells → slice_index_or cells (place - 1) None ≡ None → slice_index_or cells place None ≡ None
+
+-- no column is empty, and no cell before a taken one
+pub record IsPacked (board : Board) : Type 0 where
+  pub columns : All (λ column. column ≢ []) board.columns
+  pub cells : ArePacked board.cells
+
+-- `show` reads the lines as the board; or each line that names cards names those of the cells or of the next column, and none of these is empty
+abbrev pub SpellsOut : Game → (piece : List ℕ) → Board → Type 0
+SpellsOut game piece board = Spells game piece board ⊎ ((named_lines piece ≡ by_columns board) × IsPacked board)
+
+-- the lines name the cards of the board in order, those of the cells first or last: column by column, or row by row
+abbrev pub HasCards : (piece : List ℕ) → Board → Type 0
+HasCards piece board =
+    (named_in piece ≡ in_cells board ++ in_columns board) ⊎ (named_in piece ≡ in_columns board ++ in_cells board)
+    ⊎ (named_in piece ≡ in_cells board ++ in_rows board) ⊎ (named_in piece ≡ in_rows board ++ in_cells board)
+
+-- how many cards a deal puts into a column at most
+abbrev pub most_dealt : ℕ
+most_dealt = 7
+
+-- each card of a column that comes after as many as a deal has there goes on the card before it
+abbrev pub IsBuilt : Game → (column : List ℕ) → Type 0
+IsBuilt game column = (place : ℕ) → most_dealt ≤ place → place < length column → Builds game (slice_index column place) (slice_index column (place - 1))
+
+-- play can make the columns of the board, or the lines are the board as it is printed
+abbrev pub CanBe : Game → (piece : List ℕ) → Board → Type 0
+CanBe game piece board = All (IsBuilt game) board.columns ⊎ (piece ≡ text_of board)
+
+-- a name and the number of the board that has it, in at most 64 bytes
+abbrev pub numbered : List ℕ → ℕ → List ℕ
+numbered name number = take (63 - length (decimal number)) name ++ codes "_" ++ decimal number
+
+-- the first board after a header with a name has that name, and each later one has it with its number
+abbrev pub IsNamed : State → (name : List ℕ) → Type 0
+IsNamed state name = state.place.name ≢ [] → name ≡ (if state.named == 0 then state.place.name else numbered state.place.name (counted (state.named + 1)))
+
+-- -------- What each piece of a text becomes: some whole lines, and what is written and said for them. From: this project's profile.
+
+-- the line of a header
+pub record IsHeading (line : List ℕ) : Type 0 where
+  pub mark : begins_with header_mark line ≡ true
+  pub one : length (lines_from 0 line) ≤ 1
+
+-- no line of the piece is a header
+abbrev pub HasNoHeader : (piece : List ℕ) → Type 0
+HasNoHeader piece = All (λ line. begins_with header_mark line.bytes ≡ false) (lines_from 0 piece)
+
+-- a line that passes in silence names no card, and is no list
+pub record IsQuiet (game : Game) (line : List ℕ) : Type 0 where
+  pub no_card : named_cards line ≡ []
+  pub no_list : is_list game line ≡ false
+
+-- at most half of the words of the line name cards
+abbrev pub HasFewCards : (line : List ℕ) → Type 0
+HasFewCards line = 2 * length (named_cards line) ≤ length (words_of_line line)
+
+-- a line that is left out is no list, and has few cards
+pub record IsProse (game : Game) (line : List ℕ) : Type 0 where
+  pub no_list : is_list game line ≡ false
+  pub few : HasFewCards line
+
+-- a line that is no board's: a list, or one that has few cards
+pub data IsNoBoard (game : Game) (line : List ℕ) : Type 0 where
+  of_moves : is_list game line ≡ true → IsNoBoard game line
+  of_words : HasFewCards line → IsNoBoard game line
+
+-- after a list that is not taken the last board stays, if no line of it may be another board's
+abbrev pub StaysLast : Game → (piece : List ℕ) → (before after : Option Board) → Type 0
+StaysLast game piece before after = (after ≡ None) ⊎ ((after ≡ before) × All (λ line. IsNoBoard game line.bytes) (lines_from 0 piece))
+
+-- the state before and after the piece, what is written, and what is said
+pub data Reading (variant : Variant) (game : Game) (state : State) (piece : List ℕ) : (next : State) → (written said : List ℕ) → Type 0 where
+  -- lines that name nothing
+  passed : All (λ line. IsQuiet game line.bytes) (lines_from 0 piece) → Reading variant game state piece (after state piece state.last Passed) [] []
+  -- a line of prose that names cards
+  left_out : (said : List ℕ) → named_in piece ≢ [] → All (λ line. IsProse game line.bytes) (lines_from 0 piece) → IsNote state.place piece said → Reading variant game state piece (after state piece state.last LeftOut) [] said
+  -- a board: nothing is said of one that its lines spell out
+  a_board : (name : List ℕ) (board : Board) (said : List ℕ) → IsNamed state name → IsWellFormed game board → CanBe game piece board
+      → ((said ≡ []) × SpellsOut game piece board) ⊎ (IsNote state.place piece said × HasCards piece board)
+      → Reading variant game state piece (after state piece (Some board) ABoard) (header_text variant name ++ text_of board) said
+  -- the last board once more, as solvers draw it before its solution: nothing is said of one that the lines spell out
+  once_more : (board : Board) (said : List ℕ) → state.last ≡ Some board
+      → ((said ≡ []) × SpellsOut game piece board) ⊎ (IsNote state.place piece said × HasCards piece board)
+      → Reading variant game state piece (after state piece state.last Passed) [] said
+  -- a list of moves that is legal on the last board: nothing is said of one whose moves the lines name
+  a_list : (board : Board) (list : MoveList) (said : List ℕ) → state.last ≡ Some board → Legal game board list
+      → ((said ≡ []) × (named_moves game piece ≡ named_moves game (list_line list))) ⊎ IsNote state.place piece said
+      → Reading variant game state piece (after state piece state.last AList) (list_line list) said
+  -- a board that is not taken: no list may follow it
+  refused_board : (said : List ℕ) → IsNote state.place piece said → Reading variant game state piece (after state piece None RefusedBoard) [] said
+  -- a list that is not taken
+  refused_list : (last : Option Board) (said : List ℕ) → StaysLast game piece state.last last → IsNote state.place piece said
+      → Reading variant game state piece (after state piece last RefusedList) [] said
+
+-- a text by its headers and the pieces between them, each of which begins a line and has one fate
+pub data Imported (variant : Variant) (game : Game) : (text : List ℕ) → State → (written said : List ℕ) → Type 0 where
+  none_yet : Imported variant game [] first_state [] []
+  -- a header: no list may follow it
+  headed : (text : List ℕ) (state : State) (written said : List ℕ) → Imported variant game text state written said → ends_lines text ≡ true
+      → (line : List ℕ) → IsHeading line → Imported variant game (text ++ line) (after_heading variant state line) written said
+  one_more : (text : List ℕ) (state : State) (written said : List ℕ) → Imported variant game text state written said → ends_lines text ≡ true
+      → (piece : List ℕ) → HasNoHeader piece → (next : State) (more says : List ℕ) → Reading variant game state piece next more says
+      → Imported variant game (text ++ piece) next (written ++ more) (said ++ says)
+
+-- -------- What a run promises that imports its input. From: this project's profile.
+
+-- so many of these, in words
+abbrev pub count_text : ℕ → (noun : List ℕ) → List ℕ
+count_text number noun = decimal number ++ codes " " ++ noun ++ (if number == 1 then [] else codes "s")
+
+-- the last line of the notes
+abbrev pub tally_line : Tally → List ℕ
+tally_line tally =
+    codes "fcanon: " ++ count_text tally.boards (codes "board") ++ codes ", " ++ count_text tally.lists (codes "list")
+    ++ codes "; not taken: " ++ count_text tally.refused_boards (codes "board") ++ codes ", " ++ count_text tally.refused_lists (codes "list")
+    ++ codes "; " ++ count_text tally.left_out (codes "line") ++ codes " left out" ++ line_feed ∷ []
+
+abbrev pub with_tally : Tally → (notes : List ℕ) → List ℕ
+with_tally tally [] = []
+with_tally tally (byte ∷ notes) = byte ∷ notes ++ tally_line tally
+
+-- the boards and lists that are not taken
+abbrev pub refusals : Tally → ℕ
+refusals tally = counted (tally.refused_boards + tally.refused_lists)
+
+abbrev pub no_board_line : List ℕ
+no_board_line = codes "fcanon: there is no board in the input" ++ line_feed ∷ []
+
+abbrev pub too_much_line : List ℕ
+too_much_line = codes "fcanon: not imported: this makes more than one collection holds: import it in parts" ++ line_feed ∷ []
+
+-- `show` takes the whole text as so many records, prints it as it is, and refuses none of them
+abbrev pub IsShown : Variant → (text : List ℕ) → (records : ℕ) → Type 0
+IsShown variant text records = TransfersWithin standard Show variant (Some text) (Some []) (Some []) (Some text) (Ok (record { records = records; refused = 0 }))
+
+-- what is made of the text that these bytes are read as, what is said of it, and the summary
+pub data Makes (variant : Variant) (bytes : List ℕ) : (made said : List ℕ) → Summary → Type 0 where
+  -- a collection that `show` takes
+  collection : (state : State) (made notes : List ℕ) (records : ℕ) → Imported variant (game_of variant) (text_read bytes) state made notes → IsShown variant made records
+      → Makes variant bytes made (with_tally state.tally notes) (record { records = counted (records + refusals state.tally); refused = refusals state.tally })
+  -- nothing, since the text has no board
+  no_board : (state : State) (notes : List ℕ) → Imported variant (game_of variant) (text_read bytes) state [] notes → refusals state.tally ≡ 0
+      → Makes variant bytes [] (with_tally state.tally notes ++ no_board_line) (record { records = 1; refused = 1 })
+  -- nothing, since `show` does not take what is made of it
+  too_much : (state : State) (made notes : List ℕ) → Imported variant (game_of variant) (text_read bytes) state made notes → ((records : ℕ) → ¬ IsShown variant made records)
+      → Makes variant bytes [] (notes ++ too_much_line) (record { records = 1; refused = 1 })
+
+-- how what was read, what the input has left and what was written go with each result of an import that said this: all was read, at most 16 MiB, and what is made of it was written or, where a write failed, a beginning of that; else nothing was written or said, and more than 16 MiB are `TooLarge`
+abbrev pub ImportFits : Variant → (said read : List ℕ) → (left : Option (List ℕ)) → (written : List ℕ) → Result Summary RunFault → Type 0
+ImportFits variant said read left written (Ok summary) = IsAtEnd left × (length read ≤ most_bytes) × Makes variant read written said summary
+ImportFits variant said read left written (Err Write) = IsAtEnd left × (length read ≤ most_bytes) × ((made : List ℕ) × (summary : Summary) × Makes variant read made said summary × Begins written made)
+ImportFits variant said read left written (Err fault) = (written ≡ []) × (said ≡ []) × ((fault ≡ TooLarge) ↔ (most_bytes < length read))

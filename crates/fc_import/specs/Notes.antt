@@ -1,0 +1,95 @@
+-- Where an import is in its text, and what is said of a place there.
+use Rattle.{fc_board.specs.Boards.{Board}, memchr.specs.Find.{is_byte, places as places_of}}
+use Rattle.std.specs.{Fmt.{decimal}, Option.{unwrap_or}, Prelude.{◌++◌, ◌+◌, ◌-◌, ◌<◌, ◌==◌, ◌^◌}}
+use Rattle.std.specs.Prelude.{◌∷◌, ◌≡◌, ◌⊎◌, [], All, codes, Err, if◌then◌else◌, IsTrue, length}
+use Rattle.std.specs.Prelude.{List, min, None, Ok, Option, Result, take, ℕ}
+use Rattle.{fc_board.specs.declared.rule.Variant.{Variant}, fc_text.specs.Bytes.{line_feed}}
+use Rattle.{fc_import.specs.Words.{is_between}, fc_record.specs.Grammar.{Heading, heading_of}}
+use Rattle.fc_record.specs.declared.record.RecordFault.{RecordFault}
+use Rattle.fc_import.specs.declared.tally.Fate.{Fate, TheVariants.{ABoard, AList, LeftOut, Passed}}
+use Rattle.fc_import.specs.declared.tally.Fate.TheVariants.{RefusedBoard, RefusedList}
+use Rattle.fc_import.specs.declared.tally.Tally.{Tally}
+
+-- -------- What an import has so far. From: this project's profile.
+
+-- a count goes up to what a computer's word holds
+abbrev pub counted : ℕ → ℕ
+counted number = min number (2 ^ 64 - 1)
+
+-- what a piece of a text counts as
+abbrev pub tally_of : Fate → Tally
+tally_of Passed = record { boards = 0; lists = 0; refused_boards = 0; refused_lists = 0; left_out = 0 }
+tally_of ABoard = record { boards = 1; lists = 0; refused_boards = 0; refused_lists = 0; left_out = 0 }
+tally_of AList = record { boards = 0; lists = 1; refused_boards = 0; refused_lists = 0; left_out = 0 }
+tally_of RefusedBoard = record { boards = 0; lists = 0; refused_boards = 1; refused_lists = 0; left_out = 0 }
+tally_of RefusedList = record { boards = 0; lists = 0; refused_boards = 0; refused_lists = 1; left_out = 0 }
+tally_of LeftOut = record { boards = 0; lists = 0; refused_boards = 0; refused_lists = 0; left_out = 1 }
+
+abbrev pub plus : Tally → Tally → Tally
+plus one more = record {
+  boards = counted (one.boards + more.boards);
+  lists = counted (one.lists + more.lists);
+  refused_boards = counted (one.refused_boards + more.refused_boards);
+  refused_lists = counted (one.refused_lists + more.refused_lists);
+  left_out = counted (one.left_out + more.left_out);
+}
+
+-- the name that the last header gives, the number of its line, and that of the next line
+pub record Place : Type 0 where
+  pub name : List ℕ
+  pub header : ℕ
+  pub line : ℕ
+
+-- the last board, if a list of moves may follow it; the place of the next line; how many boards the last header names; and how much was taken and was not
+pub record State : Type 0 where
+  pub last : Option Board
+  pub place : Place
+  pub named : ℕ
+  pub tally : Tally
+
+abbrev pub first_state : State
+first_state = record { last = None; place = record { name = []; header = 0; line = 1 }; named = 0; tally = tally_of Passed }
+
+abbrev pub line_feeds : List ℕ → ℕ
+line_feeds text = length (places_of (is_byte line_feed) text)
+
+abbrev pub line_after : (line : ℕ) → (text : List ℕ) → ℕ
+line_after line text = counted (line + line_feeds text)
+
+-- the state after the lines of a piece of this fate, with this last board
+abbrev pub after : State → (piece : List ℕ) → (last : Option Board) → Fate → State
+after state piece last fate = record {
+  last = last;
+  place = record { name = state.place.name; header = state.place.header; line = line_after state.place.line piece };
+  named = counted (state.named + (tally_of fate).boards);
+  tally = plus state.tally (tally_of fate);
+}
+
+-- the name that a header gives, or nothing
+abbrev pub name_by : Result Heading RecordFault → List ℕ
+name_by (Ok heading) = unwrap_or heading.name []
+name_by (Err fault) = []
+
+abbrev pub after_heading : Variant → State → (line : List ℕ) → State
+after_heading variant state line = record {
+  last = None;
+  place = record { name = name_by (heading_of variant line); header = state.place.line; line = line_after state.place.line line };
+  named = 0;
+  tally = state.tally;
+}
+
+-- -------- What is said. From: this project's profile; editors open a file at NAME:LINE:COLUMN.
+
+-- NAME and the line counted from its header, or the line alone
+abbrev pub place_text : Place → (line column : ℕ) → List ℕ
+place_text place line column =
+    (if length place.name == 0 then decimal line else place.name ++ codes ":" ++ decimal (line - place.header)) ++ codes ":" ++ decimal column
+
+-- a line that names one of the lines of the piece, and says in printing ASCII what is to be said of it
+pub record IsNote (place : Place) (piece said : List ℕ) : Type 0 where
+  pub at : ℕ
+  pub column : ℕ
+  pub words : List ℕ
+  pub within : (at ≡ 0) ⊎ (at < length piece)
+  pub printing : All (λ byte. IsTrue (is_between 0x20 0x7E byte)) words
+  pub is : said ≡ codes "fcanon: " ++ place_text place (line_after place.line (take at piece)) column ++ codes ": " ++ words ++ line_feed ∷ []

@@ -1,0 +1,157 @@
+-- The cards that the words of a text name.
+use Rattle.std.specs.Char.{is_ascii_alphanumeric, is_ascii_digit, Utf16.{utf16_lossy_chars}}
+use Rattle.std.specs.List.{before_first, flat_map, list_all}
+use Rattle.std.specs.{Option.{is_some, option_or, option_to_list}, Prelude.{◌%◌, ◌&&◌, ◌*◌, ◌++◌}}
+use Rattle.std.specs.Prelude.{◌+◌, ◌-◌, ◌/◌, ◌==◌, ◌||◌, ◌∷◌, [], Bool, codes, drop, false}
+use Rattle.std.specs.Prelude.{if◌then◌else◌, List, map, nat_le, None, not, Option, slice_index}
+use Rattle.std.specs.Prelude.{Some, suc, take, true, zero, ℕ}
+use Rattle.std.specs.Str.{encode_utf8_all, str_to_ascii_lowercase}
+use Rattle.fc_board.specs.Games.{Game}
+use Rattle.fc_text.specs.{Bytes.{blank, line_feed, number_sign}, Lines.{lines_from, words}}
+use Rattle.fc_text.specs.{Notation.{separates_tokens}, reader.{run_named}, Spelling.{card_spelled}}
+use Rattle.fc_record.specs.{Grammar.{begins_with, list_mark}, RecordTexts.{header_mark}}
+
+-- -------- The text that the bytes of a file are. From: Unicode's UTF-16 and UTF-8, and the byte order mark.
+
+-- the units of two bytes, of which the first is the high one or the low one; a byte alone at the end is a sign that cannot be read
+abbrev pub units_of : Bool → List ℕ → List ℕ
+units_of high_first [] = []
+units_of high_first (byte ∷ []) = 0xFFFD ∷ []
+units_of high_first (first ∷ second ∷ rest) = (if high_first then 256 * first + second else 256 * second + first) ∷ units_of high_first rest
+
+-- UTF-16 by its mark, and else the bytes as they are
+abbrev pub decoded : List ℕ → List ℕ
+decoded bytes =
+    if slice_index bytes 0 == 0xFF && slice_index bytes 1 == 0xFE then encode_utf8_all (utf16_lossy_chars (units_of false (drop 2 bytes)))
+    else if slice_index bytes 0 == 0xFE && slice_index bytes 1 == 0xFF then encode_utf8_all (utf16_lossy_chars (units_of true (drop 2 bytes)))
+    else bytes
+
+-- -------- What each sign stands for. From: Unicode's signs of suits and playing cards, its letters as wide as signs of Chinese, its ends of lines and its spaces, as UTF-8 has them.
+
+abbrev pub is_between : ℕ → ℕ → ℕ → Bool
+is_between low high number = nat_le low number && nat_le number high
+
+-- ---- one sign
+
+-- its number in Unicode, and how many bytes it has
+abbrev pub number_of : ℕ → ℕ → ℕ → ℕ → ℕ × ℕ
+number_of first second third fourth =
+    if is_between 0xC2 0xDF first && is_between 0x80 0xBF second then (64 * (first % 32) + second % 64, 2)
+    else if is_between 0xE0 0xEF first && is_between 0x80 0xBF second && is_between 0x80 0xBF third
+    then (4096 * (first % 16) + 64 * (second % 64) + third % 64, 3)
+    else if is_between 0xF0 0xF4 first && is_between 0x80 0xBF second && is_between 0x80 0xBF third && is_between 0x80 0xBF fourth
+    then (262144 * (first % 8) + 4096 * (second % 64) + 64 * (third % 64) + fourth % 64, 4)
+    else (first, 1)
+
+-- ♠ ♡ ♢ ♣ ♤ ♥ ♦ ♧
+abbrev pub is_suit_sign : ℕ → Bool
+is_suit_sign number = is_between 0x2660 0x2667 number
+
+-- the playing cards from 🂡 to 🃞, of which each suit has the ranks from 1 to 14, and a knight for 12
+abbrev pub is_card_sign : ℕ → Bool
+is_card_sign number = is_between 0x1F0A0 0x1F0DF number && (is_between 1 11 (number % 16) || is_between 13 14 (number % 16))
+
+-- the letters, digits and marks that are as wide as signs of Chinese
+abbrev pub is_wide : ℕ → Bool
+is_wide number = is_between 0xFF01 0xFF5E number
+
+-- line tabulation, form feed and carriage return, next line, and the separators of lines and of paragraphs
+abbrev pub ends_line : ℕ → Bool
+ends_line number = is_between 0x0B 0x0D number || number == 0x85 || is_between 0x2028 0x2029 number
+
+-- marks that no reader sees: of direction, of joining, of how a sign looks, the soft hyphen and the byte order mark
+abbrev pub is_unseen : ℕ → Bool
+is_unseen number =
+    number == 0xAD || number == 0x61C || is_between 0x200C 0x200F number || is_between 0x202A 0x202E number || is_between 0x2060 0x206F number
+    || is_between 0xFE00 0xFE0F number || number == 0xFEFF
+
+-- the spaces, dashes and quotes of general punctuation, the no-break space, and the space as wide as a sign of Chinese
+abbrev pub is_space : ℕ → Bool
+is_space number = number == 0xA0 || is_between 0x2000 0x205F number || number == 0x3000
+
+-- what stands for a sign, if that is not the sign itself: the letter of a suit, the two letters of a card and a blank, a letter, a line feed, nothing, or a blank
+abbrev pub stands_for : ℕ → Option (List ℕ)
+stands_for number =
+    if is_suit_sign number then Some (slice_index (codes "SHDC") (number % 4) ∷ [])
+    else if is_card_sign number then Some (slice_index (codes "?A23456789TJ?QK?") (number % 16) ∷ slice_index (codes "SHDC") (number / 16 - 0x1F0A) ∷ blank ∷ [])
+    else if is_wide number then Some ((number - 0xFEE0) ∷ [])
+    else if ends_line number then Some (line_feed ∷ [])
+    else if is_unseen number then Some []
+    else if is_space number then Some (blank ∷ [])
+    else None
+
+-- a byte by itself, or a sign of so many bytes with what stands for it
+abbrev pub sign_by : ℕ → ℕ → Option (List ℕ) → ℕ × List ℕ
+sign_by first count None = (1, first ∷ [])
+sign_by first count (Some letters) = (count, letters)
+
+-- how many bytes the sign at the front has, and what stands for it; a carriage return before a line feed is nothing
+abbrev pub sign_of : ℕ → ℕ → ℕ → ℕ → ℕ × List ℕ
+sign_of first second third fourth =
+    if first == 0x0D && second == line_feed then (1, [])
+    else let number = number_of first second third fourth in sign_by first number.1 (stands_for number.0)
+
+-- ---- a text
+
+-- what stands for the text after so many bytes of it, which belong to a sign before
+abbrev pub text_after : ℕ → List ℕ → List ℕ
+text_after skipped [] = []
+text_after zero (byte ∷ rest) =
+    let sign = sign_of byte (slice_index rest 0) (slice_index rest 1) (slice_index rest 2) in
+    sign.1 ++ text_after (sign.0 - 1) rest
+text_after (suc skipped) (byte ∷ rest) = text_after skipped rest
+
+-- the text of a file, with a line feed at the end of each line and letters for the signs of suits
+abbrev pub text_read : List ℕ → List ℕ
+text_read bytes = text_after 0 (decoded bytes)
+
+-- letters, digits and each byte of a sign that is none of ASCII, with a blank for each other byte
+abbrev pub plain : List ℕ → List ℕ
+plain text = map (λ byte. if is_ascii_alphanumeric byte || nat_le 128 byte then byte else blank) text
+
+-- the words of a text, of letters and digits alone
+abbrev pub plain_words : List ℕ → List (List ℕ)
+plain_words text = words separates_tokens (plain text)
+
+-- -------- The cards and the moves that the words of a line name. From: how sites, books and solvers write them.
+
+-- the card that a word names: as a board's text spells it, or with its suit first
+abbrev pub named_card : List ℕ → Option ℕ
+named_card word = option_or (card_spelled word) (card_spelled (drop 1 word ++ take 1 word))
+
+-- the words of a line before a comment
+abbrev pub words_of_line : List ℕ → List (List ℕ)
+words_of_line line = plain_words (before_first (λ byte. byte == number_sign) line)
+
+-- the cards that the words of a line name, in their order; a header names none
+abbrev pub named_cards : List ℕ → List ℕ
+named_cards line = if begins_with header_mark line then [] else flat_map (λ word. option_to_list (named_card word)) (words_of_line line)
+
+-- cards in one place and then 52, which is no card, as their end; nothing where there are none
+abbrev pub ended : List ℕ → List ℕ
+ended [] = []
+ended (card ∷ cards) = card ∷ cards ++ 52 ∷ []
+
+-- the cards that each line of a text names, and all of them in their order
+abbrev pub named_lines : List ℕ → List ℕ
+named_lines text = flat_map (λ line. ended (named_cards line.bytes)) (lines_from 0 text)
+
+abbrev pub named_in : List ℕ → List ℕ
+named_in text = flat_map (λ line. named_cards line.bytes) (lines_from 0 text)
+
+-- the two letters of each word that is a move of the game, in lower case
+abbrev pub letters_of_move : Game → List ℕ → List ℕ
+letters_of_move game word = if is_some (run_named game word) then str_to_ascii_lowercase (take 2 word) else []
+
+abbrev pub named_moves : Game → List ℕ → List ℕ
+named_moves game text = flat_map (letters_of_move game) (plain_words text)
+
+-- each of the words is a move of the game; a word alone is no number
+abbrev pub are_moves : Game → List (List ℕ) → Bool
+are_moves game [] = false
+are_moves game (word ∷ []) = is_some (run_named game word) && not (list_all is_ascii_digit word)
+are_moves game (word ∷ next ∷ words) = list_all (λ word. is_some (run_named game word)) (word ∷ next ∷ words)
+
+-- the line begins as fcanon's lists do, or its words are moves
+abbrev pub is_list : Game → List ℕ → Bool
+is_list game line = begins_with list_mark line || are_moves game (plain_words line)

@@ -1,7 +1,0 @@
-use Rattle.std.proofs.Common.{◌≡◌, length, take}
-use Rattle.std.specs.List.{count_by}
-use Rattle.std.specs.Prelude.{◌==◌}
-use Rattle.fc_parts.proofs.columns.Columns.count_empty.Given as goal
-
-abbrev pub invariant-loop-i : goal.invariant-loop-i
-invariant-loop-i l = l.count ≡ count_by (λ column. length column == 0) (take l.i l.self)

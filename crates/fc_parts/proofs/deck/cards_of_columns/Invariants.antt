@@ -1,7 +1,0 @@
-use Rattle.std.proofs.Common.{take}
-use Rattle.std.specs.List.{flat_map}
-use Rattle.fc_card.specs.{AreCountsOf}
-use Rattle.fc_parts.proofs.deck.cards_of_columns.Given as goal
-
-abbrev pub invariant-loop-column : goal.invariant-loop-column
-invariant-loop-column l = AreCountsOf l.cards (flat_map (λ column. column.items) (take l.column-index l.columns))

@@ -1,9 +1,0 @@
-use Rattle.std.specs.List.{flat_map}
-use Rattle.std.specs.Option.{option_to_list}
-use Rattle.fc_parts.proofs.CountedLemmas.{fault_found}
-use Rattle.fc_parts.proofs.deck.deck_fault.Goals as goal
-
-pub returns-clause-fault : goal.returns-clause-fault
-returns-clause-fault c = λ cards are.
-    fault_found c.args.heights.now (flat_map option_to_list c.args.cells.now) cards c.args.in_columns c.count_home.new.cards c.count_cells.new.cards c.fault_of.result are
-    c.count_home.ensures.counted c.count_cells.ensures.counted c.fault_of.ensures

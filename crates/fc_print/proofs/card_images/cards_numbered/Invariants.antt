@@ -1,5 +1,0 @@
-use Rattle.fc_print.proofs.BoardViewLemmas.{AreTaken}
-use Rattle.fc_print.proofs.card_images.cards_numbered.Given as goal
-
-abbrev pub invariant-loop-place : goal.invariant-loop-place
-invariant-loop-place l = AreTaken l.numbers l.cards l.place

@@ -1,5 +1,0 @@
-use Rattle.fc_print.proofs.WriterLemmas.{AreAwaiting}
-use Rattle.fc_print.proofs.writer.put_board.Given as goal
-
-abbrev pub invariant-loop-index : goal.invariant-loop-index
-invariant-loop-index g l = AreAwaiting l.view l.text l.end l.index

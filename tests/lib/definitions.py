@@ -1,0 +1,148 @@
+"""The definitions of the crates, and what contracts and laws cite of them."""
+
+import re
+
+from lib.paths import CRATES
+from lib.trust import names_in, tables_of_trust
+
+ASIDE = {"inside", "laws", "packing", "reader", "writer"}
+WORD = re.compile(r"[A-Za-z_◌][\w'◌-]*")
+DEFINED = re.compile(r"\s*(?:(?:abbrev|unfoldable|pub|record|data|mutual)\s+)*([^\s:({]+)")
+HEADING = re.compile(r"-- (?:={8}|-{8}) ")
+USE = re.compile(r"^(?:pub |ghost )*use ([^;]*?)(?:;|$(?!\n  ))", re.M | re.S)
+PUBLIC = re.compile(r"^( *)pub (?:const |unsafe |extern \"C\" )*fn (\w+)(.*?)^\1\{", re.M | re.S)
+SEEN = re.compile(r"^(?:pub trait (\w+)|pub struct (\w+)|impl\b[^\n]* Model for (\w+)).*?^\}", re.M | re.S)
+GHOST = re.compile(r"ghost \w+ ?[:=] \{(.*?)\}", re.S)
+
+
+class Definition:
+    """Some lines of a file of definitions: its name, the crate, whether it is aside, its text and the laws that say it again;
+    the same lines with their comments, and the heading that they are under."""
+
+    def __init__(self, name, crate, module, text, laws, lines, heading):
+        self.name, self.crate, self.module, self.text, self.laws = name, crate, module, text, laws
+        self.commented, self.heading = lines, heading
+        self.aside = bool(ASIDE & set(module.split(".")))
+        self.lines = len(text.splitlines())
+
+
+def used(tree, front=""):
+    """The names that the tree of a `use` brings in: the last of each path, or what comes after `as`, with its module."""
+    parts, depth, part = [], 0, ""
+    for sign in tree:
+        depth += (sign == "{") - (sign == "}")
+        if sign == "," and not depth:
+            parts.append(part)
+            part = ""
+        else:
+            part += sign
+    for part in (it.strip() for it in [*parts, part]):
+        path, brace, inner = part.partition("{")
+        if brace:
+            yield from used(inner.rsplit("}", 1)[0], front + path)
+        elif part:
+            path, _, name = part.partition(" as ")
+            module, _, last = (front + path.strip()).rpartition(".")
+            yield (name or last).strip(), (module, last)
+
+
+def imports_of(text):
+    return {name: home for tree in USE.findall(text) for name, home in used(re.sub(r"\s+", " ", tree))}
+
+
+def definitions_of(path, crate, module):
+    """The definitions of a file: each is what is between two blank lines, but for what begins with `use` or `mod`."""
+    text, heading = re.sub(r"^(?:pub )?use .*\{\n(?: .*\n)*\}\n", "", path.read_text(), flags=re.M), ""
+    for paragraph in text.split("\n\n"):
+        lines = [line for line in paragraph.splitlines() if line.strip()]
+        heading = ([line for line in lines if HEADING.match(line)] or [heading])[-1]
+        body = [line for line in lines if not re.match(r"\s*--|(?:pub )?(?:use|mod) ", line)]
+        laws = [law for line in lines for law in re.findall(r"[\w.]+", (re.match(r"\s*-- said again: (.*)", line) or ["", ""])[1])]
+        if body:
+            own = [line for line in body if not re.match(r"\s*(?:module|mutual)\b|    \(", line)] or body
+            yield Definition(DEFINED.match(own[0])[1], crate, module, "\n".join(body), laws, lines, heading)
+
+
+def public_types(crate):
+    """The names that the crate's root brings out."""
+    root = CRATES[crate] / "src" / "lib.rt"
+    brought = re.findall(r"^pub use ([^;]*);", root.read_text(), re.M) if root.exists() else []
+    return set(re.findall(r"\w+", " ".join(brought)))
+
+
+class Repository:
+    """All definitions by module and name, the imports of each module, and the clauses of contracts and laws."""
+
+    def __init__(self):
+        self.found, self.imports = {}, {}
+        for crate, folder in CRATES.items():
+            for path in sorted((folder / "specs").rglob("*.antt")):
+                parts = path.relative_to(folder / "specs").with_suffix("").parts
+                module = ".".join(["Rattle", crate, "specs", *([] if parts == ("Lib",) else parts)])
+                self.imports[module] = imports_of(path.read_text())
+                self.found |= {(module, it.name): it for it in definitions_of(path, crate, module)}
+        self.contracts, self.laws = {crate: [] for crate in CRATES}, {}
+        for crate, folder in CRATES.items():
+            for path in sorted((folder / "src").rglob("*.rt")):
+                self.take_contracts(crate, path)
+
+    def take_contracts(self, crate, path):
+        """The clauses of each public function, and the ghost fields of public traits, structs and models: each with its name and
+        what it cites."""
+        text = path.read_text()
+        names = imports_of(text)
+        is_law = crate == "fc_laws" or path.stem == "laws"
+        for _, name, clauses in PUBLIC.findall(text):
+            clauses = re.split(r"\b(?:ensures|requires)\b", clauses)[1:]
+            if is_law:
+                for clause in clauses:
+                    cited = self.homes_in(clause, names)
+                    self.laws.setdefault(name, set()).update(cited)
+                    self.laws.setdefault(f"{name}.{clause.split()[0]}", set()).update(cited)
+            else:
+                self.contracts[crate].append((f"{crate}::{name}", self.homes_in(" ".join(clauses), names)))
+        for block in [] if is_law else SEEN.finditer(text):
+            if public_types(crate) & {*block.groups()}:
+                name = f"{crate}::{block[1] or block[2] or block[3]}"
+                self.contracts[crate].append((name, self.homes_in(" ".join(GHOST.findall(block[0])), names)))
+
+    def home_of(self, name, module):
+        """Where the definition is that this name means in a module, if it is one of this repository."""
+        seen = set()
+        while (module, name) not in self.found and name in self.imports.get(module, {}) and (module, name) not in seen:
+            seen.add((module, name))
+            module, name = self.imports[module][name]
+        return (module, name) if (module, name) in self.found else None
+
+    def homes_in(self, text, names):
+        homes = {self.home_of(names[word][1], names[word][0]) for word in WORD.findall(text) if word in names}
+        return homes - {None}
+
+    def cited_by(self, home):
+        words = set(WORD.findall(self.found[home].text)) - {home[1]}
+        return {self.home_of(word, home[0]) for word in words} - {None, home}
+
+    def reached(self, roots, without=()):
+        """What these cite, and what that cites, each with what cites it first: what is to be believed, and what is said again,
+        in whose place its laws are followed. Definitions and crates to do without are left out."""
+        believed, again, left = {}, {}, [(home, name) for name, homes in roots for home in homes]
+        while left:
+            home, by = left.pop()
+            it = self.found[home]
+            if home in believed or home in again or {it.name, it.crate} & set(without):
+                continue
+            (again if it.laws else believed)[home] = by
+            homes = set().union(*(self.laws.get(law, set()) for law in it.laws)) if it.laws else self.cited_by(home)
+            left += [(other, it.name) for other in homes - {home}]
+        return believed, again
+
+    def contracts_of(self, crates):
+        return [it for crate in crates for it in self.contracts[crate]]
+
+    def promised_laws(self):
+        """The laws that carry a promise: those in the place of a function, or all of a row that has `the laws` there."""
+        names = {name for _, cells in tables_of_trust() for name in names_in(cells[3 if cells[1] == "the laws" else 1])}
+        return [(name, self.laws[name]) for name in sorted(names & set(self.laws))]
+
+    def lines(self, homes):
+        return sum(self.found[home].lines for home in homes)
