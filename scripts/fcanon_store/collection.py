@@ -265,6 +265,8 @@ def texts_in(stream: BinaryIO) -> Iterator[bytes]:
     rest = b""
     while chunk := stream.read(PIECE_BYTES):
         rest += chunk
+        if len(chunk) < PIECE_BYTES:  # as is read at the end alone
+            break
         end = rest.rfind(b"\n@") + 1 or (len(rest) if len(rest) > PIECE_BYTES else 0)
         if end:
             yield rest[:end]
