@@ -50,12 +50,8 @@ pub fn run_records<C: Command, Rd: Read, Wr: Write>(
         (Rd.remaining (inner_of input.old)) (Rd.remaining (inner_of input.new))
         (Wr.contents (inner_of output.old)) (Wr.contents (inner_of output.new)) result }
 {
-    let Ok(mut window) = Window::new(alloc) else {
-        return Err(RunFault::Memory);
-    };
-    let Ok(pending) = Vec::with_capacity(alloc, PENDING_ROOM) else {
-        return Err(RunFault::Memory);
-    };
+    let mut window = Window::new(alloc)?;
+    let pending = Vec::with_capacity(alloc, PENDING_ROOM)?;
     let mut printed = Printed {
         kept: C::start(alloc, config.seed),
         progress: Progress {

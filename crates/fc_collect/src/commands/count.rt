@@ -92,9 +92,7 @@ impl<P: PrintsFigures> Command for Count<P> {
         pending: &mut Vec<u8>,
         output: &mut Counted<Wr>,
     ) -> Result<(), RunFault> {
-        let Ok(()) = P::print(&tally.figures(summary), pending) else {
-            return Err(RunFault::Memory);
-        };
+        P::print(&tally.figures(summary), pending)?;
         write_full(pending, output)
     }
 }

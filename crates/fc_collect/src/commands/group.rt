@@ -60,9 +60,7 @@ impl Gathering for GroupLines {
         pending: &mut Vec<u8>,
         output: &mut Counted<Wr>,
     ) -> Result<(), RunFault> {
-        let Ok(()) = push_group(key, kept, pending) else {
-            return Err(RunFault::Memory);
-        };
+        push_group(key, kept, pending)?;
         write_full(pending, output)
     }
 }

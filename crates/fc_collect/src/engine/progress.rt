@@ -230,9 +230,7 @@ fn take_record_text<C: Command>(
         bytes,
     };
     let kept = &mut printed.kept;
-    let Ok(refused) = take_record::<C>(alloc, variant, kept, text, &mut printed.pending) else {
-        return Err(RunFault::Memory);
-    };
+    let refused = take_record::<C>(alloc, variant, kept, text, &mut printed.pending)?;
     printed.progress.refused += usize::from(refused);
     Ok(())
 }

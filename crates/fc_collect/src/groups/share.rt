@@ -138,9 +138,7 @@ fn send_member<Wr: Write>(
         → SendingFits (member_lines owner said) pending.old.items pending.new.items
         (Wr.contents (inner_of output.old)) (Wr.contents (inner_of output.new)) result }
 {
-    let Ok(()) = push_member(alloc, member, solution, pending) else {
-        return Err(RunFault::Memory);
-    };
+    push_member(alloc, member, solution, pending)?;
     write_full(pending, output)
 }
 

@@ -1,7 +1,9 @@
 //! What a run gives: how many records it took up, or why it gave up.
 ghost use Rattle.std.specs.Prelude.{◌≡◌, ◌≤◌, length};
 ghost use Rattle.fc_collect.specs.Limits.{fault_words};
+ghost use Rattle.fc_collect.specs.declared.streams.faults.RunFault.TheVariants.{Memory};
 
+use std::alloc::AllocError;
 use thiserror::Error;
 
 /// How many records a run took up, and how many of them it refused.
@@ -25,6 +27,14 @@ pub enum RunFault {
     TooLarge,
     /// The reader gave no end within the reads that a run makes.
     ReaderNeverEnds,
+}
+
+impl From<AllocError> for RunFault {
+    ghost from_gives = { λ _ fault. fault ≡ Memory };
+
+    fn from(_: AllocError) -> RunFault {
+        RunFault::Memory
+    }
 }
 
 impl RunFault {
