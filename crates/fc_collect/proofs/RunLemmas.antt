@@ -3,58 +3,85 @@ use Rattle.std.proofs.Common.{◌++◌, ◌+◌, ◌<◌, ◌∙◌, ◌∷◌, 
 use Rattle.std.proofs.Common.{append_assoc, arith, Bool, cond, drop, Err, length, length-append}
 use Rattle.std.proofs.Common.{List, Ok, Option, refl, Result, subst, sym, take, true, ℕ}
 use Rattle.std.proofs.KnownBytes.{Appends-nil, Appends-trans, Consumes-nil, Consumes-trans}
-use Rattle.std.proofs.Math.Seq.{drop-append_seam, take-append_seam}
 use Rattle.std.proofs.lemmas.List.Elements.{All-append, All-cons, All-head, All-nil}
 use Rattle.std.proofs.lemmas.List.Sums.{sum_by-append}
-use Rattle.std.specs.Io.KnownBytes.{Appends, Consumes}
-use Rattle.std.specs.List.{count_by}
+use Rattle.std.proofs.Math.Seq.{drop-append_seam, take-append_seam}
+use Rattle.std.specs.{Io.KnownBytes.{Appends, Consumes}, List.{count_by}}
 use Rattle.fc_board.proofs.BoardLemmas.{All-left, All-right}
+use Rattle.fc_board.specs.declared.rule.Variant.{Variant}
+use Rattle.fc_record.specs.{Grammar.{Contents, Heading}, Printing.{is_refused}}
 use Rattle.fc_record.specs.RecordTexts.{RecordText}
-use Rattle.fc_collect.specs.{Limits.{AreCountable}, Promises.{Begins, CountsRecords, IsSmall}}
-use Rattle.fc_collect.specs.Promises.{IsWithinLimits, ReadsAsCounted, ResultCounts, ResultFits}
-use Rattle.fc_collect.specs.{Promises.{Transfers}, Records.{begun, cut, finished, finished_from}}
-use Rattle.fc_collect.specs.Records.{first_of, if_record, outputs_after, records_among}
-use Rattle.fc_collect.specs.Records.{records_from}
-use Rattle.fc_collect.specs.Streams.{counts_of, GrowsBy, HasRoom, one_more_if}
+use Rattle.fc_record.specs.declared.record.RecordFault.{RecordFault}
+use Rattle.fc_collect.{
+  proofs.{PrintingLemmas.{outputs_after-append}, RecordLemmas.{begun-append, begun-number}},
+  proofs.RecordLemmas.{begun-place, cut-append, finished_among-append, records_among-last},
+  specs.{Groups.{Member}, inside.{begun_in, ConsumedRead, cut_in, FillsWindow, Finished}},
+  specs.inside.{finished_in, Finishes, IsAllowed, last_output, printed_after, records_in},
+  specs.{inside.{SendsSome, TakeUpFault, text_at}, Limits.{AreCountable}, Promises.{Begins}},
+  specs.Promises.{CountsRecords, IsSmall, IsWithinLimits, ReadsAsCounted, ResultCounts, ResultFits},
+  specs.{Promises.{Transfers}, Records.{begun, cut, finished, finished_from, first_of, if_record}},
+  specs.Records.{outputs_after, records_among, records_from},
+  specs.Streams.{counts_of, GrowsBy, HasRoom, inner_of, one_more_if},
+}
+use Rattle.fc_collect.specs.declared.engine.progress.Progress.{Progress}
 use Rattle.fc_collect.specs.declared.streams.{counted.Counted.{Counted}, faults.RunFault.{RunFault}}
 use Rattle.fc_collect.specs.declared.streams.faults.RunFault.TheVariants.{Memory, Read}
 use Rattle.fc_collect.specs.declared.streams.faults.RunFault.TheVariants.{ReaderNeverEnds, TooLarge}
 use Rattle.fc_collect.specs.declared.streams.faults.RunFault.TheVariants.{Write}
 use Rattle.fc_collect.specs.declared.streams.{faults.Summary.{Summary}, limits.Limits.{Limits}}
-use Rattle.fc_collect.proofs.PrintingLemmas.{outputs_after-append}
-use Rattle.fc_collect.proofs.RecordLemmas.{begun-append, begun-number, begun-place, cut-append}
-use Rattle.fc_collect.proofs.RecordLemmas.{finished_among-append, records_among-last}
-use Rattle.fc_collect.specs.inside.{begun_in, ConsumedRead, cut_in, FillsWindow, Finished}
-use Rattle.fc_collect.specs.inside.{finished_in, Finishes, IsAllowed, last_output, records_in}
-use Rattle.fc_collect.specs.inside.{SendsSome, TakeUpFault, text_at}
-use Rattle.fc_collect.specs.declared.engine.progress.Progress.{Progress}
 
--- ---- what is printed for what was read
+-- ---- a run, and what it has between two turns
 
--- for the records that a header ends
-abbrev pub output_to : Limits → (List RecordText → RecordText → List ℕ) → List ℕ → List ℕ
-output_to limits output_of read = outputs_after output_of [] (finished_from limits read)
+-- a run by its limits, what is printed for a record after those before it, and which records are refused
+pub record Run : Type 0 where
+  pub limits : Limits
+  pub output_of : List RecordText → RecordText → List ℕ
+  pub refuses : RecordText → Bool
 
--- for all records, as they come and at the end
-abbrev pub all_output : Limits → (List RecordText → RecordText → List ℕ) → (List RecordText → List ℕ) → List ℕ → List ℕ
-all_output limits output_of ending read = outputs_after output_of [] (records_from limits read) ++ ending (records_from limits read)
+-- the run of a command with these lines, where records without a header have this variant
+abbrev pub run_of : (refusal : RecordText → Option (List ℕ) → RecordFault → List ℕ) → (lines : List Member → ℕ → Heading → Contents → List ℕ) → Variant → Limits → Run
+run_of refusal lines variant limits = record { limits = limits; output_of = printed_after refusal lines variant; refuses = is_refused variant }
 
--- ---- between two turns
+-- what is printed for the records that a header ends
+abbrev pub output_to : Run → (read : List ℕ) → List ℕ
+output_to run read = outputs_after run.output_of [] (finished_from run.limits read)
 
--- what was read so far is within limits, its finished records are printed and written, and what is held is begun
-pub record Running {R W : Type 0} (limits : Limits) (output_of : List RecordText → RecordText → List ℕ) (refuses : RecordText → Bool) (held_now : List RecordText → Type 0) (first now : Counted R) (first_out now_out : Counted W)
-    (input left before after : Option (List ℕ)) (progress : Progress) (held pending : List ℕ) (turns : ℕ) : Type 0 where
+-- what is printed for all records, as they come and at the end
+abbrev pub all_output : Run → (ending : List RecordText → List ℕ) → (read : List ℕ) → List ℕ
+all_output run ending read = outputs_after run.output_of [] (records_from run.limits read) ++ ending (records_from run.limits read)
+
+-- both streams, with what the input has left and what is written to the output
+pub record Ends (R W : Type 0) : Type 0 where
+  pub input : Counted R
+  pub left : Option (List ℕ)
+  pub output : Counted W
+  pub written : Option (List ℕ)
+
+-- both streams, as they are now
+abbrev pub ends_of : {R W : Type 0} → (remaining : R → Option (List ℕ)) → (contents : W → Option (List ℕ)) → Counted R → Counted W → Ends R W
+ends_of remaining contents input output = record { input = input; left = remaining (inner_of input); output = output; written = contents (inner_of output) }
+
+-- the streams, the place in the collection, and what is held and pending, after so many turns
+pub record State (R W : Type 0) : Type 0 where
+  pub ends : Ends R W
+  pub progress : Progress
+  pub held : List ℕ
+  pub pending : List ℕ
+  pub turns : ℕ
+
+-- what was read so far is within limits, its finished records are printed, written and kept, and what is held is begun
+pub record Running {R W : Type 0} (run : Run) (keeps : List RecordText → Type 0) (start : Ends R W) (now : State R W) : Type 0 where
   pub read : List ℕ
-  pub consumed : Consumes input left read
-  pub written : Appends before after (output_to limits output_of read)
-  pub none : pending ≡ []
-  pub within : IsWithinLimits limits read
-  pub holds : held_now (finished_from limits read)
-  pub refused : progress.refused ≡ count_by refuses (finished_from limits read)
-  pub fewer : progress.refused < progress.number
-  pub begins : begun (first_of limits) read ≡ text_at progress held
-  pub reads : GrowsBy first now (record { failures = 0; fills = turns; ends = 0; flushes = 0 })
-  pub writes : GrowsBy first_out now_out (record { failures = 0; fills = 0; ends = 0; flushes = 0 })
+  pub consumed : Consumes start.left now.ends.left read
+  pub written : Appends start.written now.ends.written (output_to run read)
+  pub none : now.pending ≡ []
+  pub within : IsWithinLimits run.limits read
+  pub holds : keeps (finished_from run.limits read)
+  pub refused : now.progress.refused ≡ count_by run.refuses (finished_from run.limits read)
+  pub fewer : now.progress.refused < now.progress.number
+  pub begins : begun (first_of run.limits) read ≡ text_at now.progress now.held
+  pub reads : GrowsBy start.input now.ends.input (record { failures = 0; fills = now.turns; ends = 0; flushes = 0 })
+  pub writes : GrowsBy start.output now.ends.output (record { failures = 0; fills = 0; ends = 0; flushes = 0 })
 
 -- ---- counts
 
@@ -191,50 +218,52 @@ module _ {limits : Limits} {read given held joined : List ℕ} {progress : Progr
 pub limits_none : (limits : Limits) → AreCountable limits → IsWithinLimits limits []
 limits_none limits some = record { bytes = omega (arith, some.place); texts = All-cons (IsSmall limits) (first_of limits) [] (record { bytes = omega arith; number = some.some }) (All-nil (IsSmall limits)) }
 
-pub bytes_none : (limits : Limits) → AreCountable limits → (output_of : List RecordText → RecordText → List ℕ) (refuses : RecordText → Bool) (ending : List RecordText → List ℕ) (input output : Option (List ℕ))
-    → Transfers (ResultFits limits (outputs_after output_of []) refuses ending) input input output output (Err Memory)
-bytes_none limits some output_of refuses ending input output = record {
+pub bytes_none : (run : Run) → AreCountable run.limits → (ending : List RecordText → List ℕ) (input output : Option (List ℕ))
+    → Transfers (ResultFits run.limits (outputs_after run.output_of []) run.refuses ending) input input output output (Err Memory)
+bytes_none run some ending input output = record {
   read = [];
   written = [];
   consumed = Consumes-nil input;
   appended = Appends-nil output;
-  fits = (limits_none limits some, (all_output limits output_of ending [], refl));
+  fits = (limits_none run.limits some, (all_output run ending [], refl));
 }
 
 -- the whole output ends with what is printed last
-whole_last : (limits : Limits) (output_of : List RecordText → RecordText → List ℕ) (ending : List RecordText → List ℕ) (read : List ℕ)
-    → all_output limits output_of ending read ≡ output_to limits output_of read ++ last_output (outputs_after output_of (finished_from limits read)) ending (finished_from limits read) (begun (first_of limits) read)
-whole_last limits output_of ending read =
-    ap (λ l. outputs_after output_of [] l ++ ending l) (records_among-last (first_of limits) read)
-    ∙ ap (λ l. l ++ ending (finished_from limits read ++ if_record (begun (first_of limits) read))) (outputs_after-append output_of [] (finished_from limits read) (if_record (begun (first_of limits) read)))
-    ∙ append_assoc (output_to limits output_of read) _ _
+whole_last : (run : Run) (ending : List RecordText → List ℕ) (read : List ℕ)
+    → all_output run ending read ≡ output_to run read ++ last_output (outputs_after run.output_of (finished_from run.limits read)) ending (finished_from run.limits read) (begun (first_of run.limits) read)
+whole_last run ending read =
+    ap (λ l. outputs_after run.output_of [] l ++ ending l) (records_among-last (first_of run.limits) read)
+    ∙ ap (λ l. l ++ ending (finished_from run.limits read ++ if_record (begun (first_of run.limits) read)))
+    (outputs_after-append run.output_of [] (finished_from run.limits read) (if_record (begun (first_of run.limits) read)))
+    ∙ append_assoc (output_to run read) _ _
 
 -- what begins the finished output and some of what is printed last begins the whole
-begins_whole : (limits : Limits) (output_of : List RecordText → RecordText → List ℕ) (ending : List RecordText → List ℕ) (read front : List ℕ) → Begins front (output_to limits output_of read) → Begins front (all_output limits output_of ending read)
-begins_whole limits output_of ending read front (rest, e) =
-    let last = last_output (outputs_after output_of (finished_from limits read)) ending (finished_from limits read) (begun (first_of limits) read) in
-    (rest ++ last, sym (append_assoc front rest last) ∙ ap (λ l. l ++ last) e ∙ sym (whole_last limits output_of ending read))
+begins_whole : (run : Run) (ending : List RecordText → List ℕ) (read front : List ℕ) → Begins front (output_to run read) → Begins front (all_output run ending read)
+begins_whole run ending read front (rest, e) =
+    let last = last_output (outputs_after run.output_of (finished_from run.limits read)) ending (finished_from run.limits read) (begun (first_of run.limits) read) in
+    (rest ++ last, sym (append_assoc front rest last) ∙ ap (λ l. l ++ last) e ∙ sym (whole_last run ending read))
 
 -- one more turn
-pub next_turn : (limits : Limits) {R W : Type 0} (output_of : List RecordText → RecordText → List ℕ) (refuses : RecordText → Bool) (held_old held_new : List RecordText → Type 0) (first old now : Counted R) (first_out old_out now_out : Counted W)
-    (input left left' before middle after : Option (List ℕ)) (progress new : Progress) (held joined rest pending pending' : List ℕ) (turns given searched : ℕ)
-    → Running limits output_of refuses held_old first old first_out old_out input left before middle progress held pending turns
-    → FillsWindow held joined left left' given → searched ≡ length held
-    → ((seen : List RecordText) → held_old seen → ConsumedRead limits (outputs_after output_of seen) refuses held_old held_new progress new joined searched rest pending' middle after)
-    → GrowsBy first now (record { failures = 0; fills = turns + 1; ends = 0; flushes = 0 })
-    → GrowsBy old_out now_out (record { failures = 0; fills = 0; ends = 0; flushes = 0 })
-    → Running limits output_of refuses held_new first now first_out now_out input left' before after new rest pending' (turns + 1)
-next_turn limits output_of refuses held_old held_new first old now first_out old_out now_out input left left' before middle after progress new held joined rest pending pending' turns given searched so_far filled all treated reads writes = record {
+pub next_turn : {R W : Type 0} (run : Run) (keeps keeps' : List RecordText → Type 0) (start : Ends R W) (old now : State R W) (joined : List ℕ) (given searched : ℕ)
+    → Running run keeps start old
+    → FillsWindow old.held joined old.ends.left now.ends.left given → searched ≡ length old.held
+    → ((seen : List RecordText) → keeps seen
+    → ConsumedRead run.limits (outputs_after run.output_of seen) run.refuses keeps keeps' old.progress now.progress joined searched now.held now.pending old.ends.written now.ends.written)
+    → GrowsBy start.input now.ends.input (record { failures = 0; fills = now.turns; ends = 0; flushes = 0 })
+    → GrowsBy old.ends.output now.ends.output (record { failures = 0; fills = 0; ends = 0; flushes = 0 })
+    → Running run keeps' start now
+next_turn run keeps keeps' start old now joined given searched so_far filled all treated reads writes = record {
   read = read ++ more;
-  consumed = Consumes-trans input left left' read more so_far.consumed filled.consumed;
-  written = subst (Appends before after) (sym (outputs_after-append output_of [] (finished_from limits read) _) ∙ ap (outputs_after output_of []) (records_joined joins)) (Appends-trans before middle after _ _ so_far.written taken.written);
+  consumed = Consumes-trans start.left old.ends.left now.ends.left read more so_far.consumed filled.consumed;
+  written = subst (Appends start.written now.ends.written) (sym (outputs_after-append run.output_of [] (finished_from run.limits read) _) ∙ ap (outputs_after run.output_of []) (records_joined joins))
+      (Appends-trans start.written old.ends.written now.ends.written _ _ so_far.written taken.written);
   none = taken.none;
   within = limits_joined joins so_far.within taken.allowed;
-  holds = subst held_new (records_joined joins) (taken.counts.keeps (finished_from limits read) so_far.holds);
+  holds = subst keeps' (records_joined joins) (taken.counts.keeps (finished_from run.limits read) so_far.holds);
   refused =
-      taken.counts.refused ∙ ap (λ n. n + count_by refuses (records_in progress joined searched)) so_far.refused
-      ∙ sym (sum_by-append (λ text. cond (refuses text) 1 0) (finished_from limits read) _)
-      ∙ ap (count_by refuses) (records_joined joins);
+      taken.counts.refused ∙ ap (λ n. n + count_by run.refuses (records_in old.progress joined searched)) so_far.refused
+      ∙ sym (sum_by-append (λ text. cond (run.refuses text) 1 0) (finished_from run.limits read) _)
+      ∙ ap (count_by run.refuses) (records_joined joins);
   fewer = taken.fewer;
   begins = sym (begun_joined joins) ∙ taken.begun;
   reads = reads;
@@ -252,20 +281,20 @@ next_turn limits output_of refuses held_old held_new first old now first_out old
     more : List ℕ
     more = filled.given
 
-    joins : Joins limits read more held joined progress searched
+    joins : Joins run.limits read more old.held joined old.progress searched
     joins = record { begins = so_far.begins; follows = filled.follows; all = all }
 
-    taken : ConsumedRead limits (outputs_after output_of (finished_from limits read)) refuses held_old held_new progress new joined searched rest pending' middle after
-    taken = treated (finished_from limits read) so_far.holds
+    taken : ConsumedRead run.limits (outputs_after run.output_of (finished_from run.limits read)) run.refuses keeps keeps' old.progress now.progress joined searched now.held now.pending old.ends.written now.ends.written
+    taken = treated (finished_from run.limits read) so_far.holds
 
 -- a fault of a turn
-pub take_up_bytes : (limits : Limits) {R W : Type 0} (output_of : List RecordText → RecordText → List ℕ) (refuses : RecordText → Bool) (ending : List RecordText → List ℕ) (held_old : List RecordText → Type 0) (first old : Counted R) (first_out old_out : Counted W)
-    (input left left' before middle after : Option (List ℕ)) (progress : Progress) (held joined pending : List ℕ) (turns given searched : ℕ) (fault : RunFault)
-    → Running limits output_of refuses held_old first old first_out old_out input left before middle progress held pending turns
-    → FillsWindow held joined left left' given → searched ≡ length held
-    → ((seen : List RecordText) → held_old seen → TakeUpFault limits (outputs_after output_of seen) progress joined searched middle after fault)
-    → Transfers (ResultFits limits (outputs_after output_of []) refuses ending) input left' before after (Err fault)
-take_up_bytes limits output_of refuses ending held_old first old first_out old_out input left left' before middle after progress held joined pending turns given searched fault so_far filled all fits = by_fault fault (fits (finished_from limits so_far.read) so_far.holds)
+pub take_up_bytes : {R W : Type 0} (run : Run) (ending : List RecordText → List ℕ) (keeps : List RecordText → Type 0) (start : Ends R W) (old : State R W)
+    (left after : Option (List ℕ)) (joined : List ℕ) (given searched : ℕ) (fault : RunFault)
+    → Running run keeps start old
+    → FillsWindow old.held joined old.ends.left left given → searched ≡ length old.held
+    → ((seen : List RecordText) → keeps seen → TakeUpFault run.limits (outputs_after run.output_of seen) old.progress joined searched old.ends.written after fault)
+    → Transfers (ResultFits run.limits (outputs_after run.output_of []) run.refuses ending) start.left left start.written after (Err fault)
+take_up_bytes run ending keeps start old left after joined given searched fault so_far filled all fits = by_fault fault (fits (finished_from run.limits so_far.read) so_far.holds)
   where
     read : List ℕ
     read = so_far.read
@@ -273,48 +302,48 @@ take_up_bytes limits output_of refuses ending held_old first old first_out old_o
     more : List ℕ
     more = filled.given
 
-    joins : Joins limits read more held joined progress searched
+    joins : Joins run.limits read more old.held joined old.progress searched
     joins = record { begins = so_far.begins; follows = filled.follows; all = all }
 
-    consumed : Consumes input left' (read ++ more)
-    consumed = Consumes-trans input left left' read more so_far.consumed filled.consumed
+    consumed : Consumes start.left left (read ++ more)
+    consumed = Consumes-trans start.left old.ends.left left read more so_far.consumed filled.consumed
 
     -- some of what the turn prints, after what went out before it
-    follows : (front : List ℕ) → Begins front (outputs_after output_of (finished_from limits read) (records_in progress joined searched)) → Begins (output_to limits output_of read ++ front) (all_output limits output_of ending (read ++ more))
-    follows front (rest, e) = begins_whole limits output_of ending (read ++ more) _ (
+    follows : (front : List ℕ) → Begins front (outputs_after run.output_of (finished_from run.limits read) (records_in old.progress joined searched)) → Begins (output_to run read ++ front) (all_output run ending (read ++ more))
+    follows front (rest, e) = begins_whole run ending (read ++ more) _ (
       rest,
-      append_assoc (output_to limits output_of read) front rest
-          ∙ ap (λ l. output_to limits output_of read ++ l) e
-          ∙ sym (outputs_after-append output_of [] (finished_from limits read) _)
-          ∙ ap (outputs_after output_of []) (records_joined joins),
+      append_assoc (output_to run read) front rest
+          ∙ ap (λ l. output_to run read ++ l) e
+          ∙ sym (outputs_after-append run.output_of [] (finished_from run.limits read) _)
+          ∙ ap (outputs_after run.output_of []) (records_joined joins),
     )
 
-    none : Begins [] (outputs_after output_of (finished_from limits read) (records_in progress joined searched))
+    none : Begins [] (outputs_after run.output_of (finished_from run.limits read) (records_in old.progress joined searched))
     none = (_, refl)
 
-    appended : (front : List ℕ) → Appends middle after front → Appends before after (output_to limits output_of read ++ front)
-    appended front sent = Appends-trans before middle after _ _ so_far.written sent
+    appended : (front : List ℕ) → Appends old.ends.written after front → Appends start.written after (output_to run read ++ front)
+    appended front sent = Appends-trans start.written old.ends.written after _ _ so_far.written sent
 
     Begun : List ℕ → Type 0
-    Begun written = IsWithinLimits limits (read ++ more) × Begins written (all_output limits output_of ending (read ++ more))
+    Begun written = IsWithinLimits run.limits (read ++ more) × Begins written (all_output run ending (read ++ more))
 
-    some_out : (fault : RunFault) → ((written : List ℕ) → Begun written → ResultFits limits (outputs_after output_of []) refuses ending (read ++ more) left' written (Err fault))
-        → IsAllowed limits progress joined searched × SendsSome (outputs_after output_of (finished_from limits read) (records_in progress joined searched)) [] middle after → Transfers (ResultFits limits (outputs_after output_of []) refuses ending) input left' before after (Err fault)
+    some_out : (fault : RunFault) → ((written : List ℕ) → Begun written → ResultFits run.limits (outputs_after run.output_of []) run.refuses ending (read ++ more) left written (Err fault))
+        → IsAllowed run.limits old.progress joined searched × SendsSome (outputs_after run.output_of (finished_from run.limits read) (records_in old.progress joined searched)) [] old.ends.written after → Transfers (ResultFits run.limits (outputs_after run.output_of []) run.refuses ending) start.left left start.written after (Err fault)
     some_out fault fits f = record {
       read = read ++ more;
-      written = output_to limits output_of read ++ f.1.written;
+      written = output_to run read ++ f.1.written;
       consumed = consumed;
       appended = appended f.1.written f.1.appended;
-      fits = fits (output_to limits output_of read ++ f.1.written) (limits_joined joins so_far.within f.0, follows f.1.written f.1.begins);
+      fits = fits (output_to run read ++ f.1.written) (limits_joined joins so_far.within f.0, follows f.1.written f.1.begins);
     }
 
-    by_fault : (fault : RunFault) → TakeUpFault limits (outputs_after output_of (finished_from limits read)) progress joined searched middle after fault → Transfers (ResultFits limits (outputs_after output_of []) refuses ending) input left' before after (Err fault)
+    by_fault : (fault : RunFault) → TakeUpFault run.limits (outputs_after run.output_of (finished_from run.limits read)) old.progress joined searched old.ends.written after fault → Transfers (ResultFits run.limits (outputs_after run.output_of []) run.refuses ending) start.left left start.written after (Err fault)
     by_fault Read f = absurd f
     by_fault Write f = some_out Write (λ written fits. fits) f
     by_fault Memory f = some_out Memory (λ written fits. fits) f
     by_fault TooLarge f = record {
       read = read ++ more;
-      written = output_to limits output_of read ++ [];
+      written = output_to run read ++ [];
       consumed = consumed;
       appended = appended [] f.1;
       fits = (λ within. f.0 (allowed_joined joins within), follows [] none);
@@ -331,73 +360,74 @@ pub filled_none : (held joined : List ℕ) (left left' : Option (List ℕ)) (giv
 filled_none held joined left left' given none filled =
     filled.follows ∙ ap (λ l. held ++ l) (nil_of_length filled.given (filled.long ∙ none)) ∙ append-nil held
 
-pub finish_bytes : (limits : Limits) {R W : Type 0} (output_of : List RecordText → RecordText → List ℕ) (refuses : RecordText → Bool) (ending : List RecordText → List ℕ) (held_old : List RecordText → Type 0) (first old : Counted R) (first_out old_out : Counted W)
-    (input left left' before middle after : Option (List ℕ)) (progress : Progress) (held joined shown pending : List ℕ) (turns given : ℕ) (result : Result Summary RunFault)
-    → Running limits output_of refuses held_old first old first_out old_out input left before middle progress held pending turns
-    → given ≡ 0 → FillsWindow held joined left left' given → shown ≡ joined
-    → ((seen : List RecordText) → held_old seen → progress.number ≡ limits.number + length seen → progress.refused ≡ count_by refuses seen
-    → Finishes limits.number (last_output (outputs_after output_of seen) ending seen (text_at progress shown)) refuses progress (text_at progress shown) middle after result)
-    → Transfers (ResultFits limits (outputs_after output_of []) refuses ending) input left' before after result
-finish_bytes limits output_of refuses ending held_old first old first_out old_out input left left' before middle after progress held joined shown pending turns given result so_far none filled is_shown fits =
-    by_result result (subst (λ text. Finishes limits.number (last_output (outputs_after output_of seen) ending seen text) refuses progress text middle after result) is_last (fits seen so_far.holds (begun_number limits so_far.read held progress so_far.begins) so_far.refused))
+pub finish_bytes : {R W : Type 0} (run : Run) (ending : List RecordText → List ℕ) (keeps : List RecordText → Type 0) (start : Ends R W) (old : State R W)
+    (left after : Option (List ℕ)) (joined shown : List ℕ) (given : ℕ) (result : Result Summary RunFault)
+    → Running run keeps start old
+    → given ≡ 0 → FillsWindow old.held joined old.ends.left left given → shown ≡ joined
+    → ((seen : List RecordText) → keeps seen → old.progress.number ≡ run.limits.number + length seen → old.progress.refused ≡ count_by run.refuses seen
+    → Finishes run.limits.number (last_output (outputs_after run.output_of seen) ending seen (text_at old.progress shown)) run.refuses old.progress (text_at old.progress shown) old.ends.written after result)
+    → Transfers (ResultFits run.limits (outputs_after run.output_of []) run.refuses ending) start.left left start.written after result
+finish_bytes run ending keeps start old left after joined shown given result so_far none filled is_shown fits =
+    by_result result (subst (λ text. Finishes run.limits.number (last_output (outputs_after run.output_of seen) ending seen text) run.refuses old.progress text old.ends.written after result)
+    is_last (fits seen so_far.holds (begun_number run.limits so_far.read old.held old.progress so_far.begins) so_far.refused))
   where
     read : List ℕ
     read = so_far.read
 
     seen : List RecordText
-    seen = finished_from limits read
+    seen = finished_from run.limits read
 
     last : RecordText
-    last = begun (first_of limits) read
+    last = begun (first_of run.limits) read
 
-    is_last : text_at progress shown ≡ last
-    is_last = ap (text_at progress) (is_shown ∙ filled_none held joined left left' given none filled) ∙ sym so_far.begins
+    is_last : text_at old.progress shown ≡ last
+    is_last = ap (text_at old.progress) (is_shown ∙ filled_none old.held joined old.ends.left left given none filled) ∙ sym so_far.begins
 
-    consumed : Consumes input left' read
-    consumed = subst (Consumes input left') (ap (λ l. read ++ l) (nil_of_length filled.given (filled.long ∙ none)) ∙ append-nil read) (Consumes-trans input left left' read filled.given so_far.consumed filled.consumed)
+    consumed : Consumes start.left left read
+    consumed = subst (Consumes start.left left) (ap (λ l. read ++ l) (nil_of_length filled.given (filled.long ∙ none)) ∙ append-nil read) (Consumes-trans start.left old.ends.left left read filled.given so_far.consumed filled.consumed)
 
     output : List ℕ
-    output = last_output (outputs_after output_of seen) ending seen last
+    output = last_output (outputs_after run.output_of seen) ending seen last
 
-    appended : (front : List ℕ) → Appends middle after front → Appends before after (output_to limits output_of read ++ front)
-    appended front sent = Appends-trans before middle after _ _ so_far.written sent
+    appended : (front : List ℕ) → Appends old.ends.written after front → Appends start.written after (output_to run read ++ front)
+    appended front sent = Appends-trans start.written old.ends.written after _ _ so_far.written sent
 
-    begins : (front : List ℕ) → Begins front output → Begins (output_to limits output_of read ++ front) (all_output limits output_of ending read)
-    begins front (rest, e) = (rest, append_assoc (output_to limits output_of read) front rest ∙ ap (λ l. output_to limits output_of read ++ l) e ∙ sym (whole_last limits output_of ending read))
+    begins : (front : List ℕ) → Begins front output → Begins (output_to run read ++ front) (all_output run ending read)
+    begins front (rest, e) = (rest, append_assoc (output_to run read) front rest ∙ ap (λ l. output_to run read ++ l) e ∙ sym (whole_last run ending read))
 
-    counts : (summary : Summary) → Finished limits.number output refuses progress last middle after summary → CountsRecords limits refuses read summary
+    counts : (summary : Summary) → Finished run.limits.number output run.refuses old.progress last old.ends.written after summary → CountsRecords run.limits run.refuses read summary
     counts summary f = record {
       records =
-          let number = begun_number limits read held progress so_far.begins in
+          let number = begun_number run.limits read old.held old.progress so_far.begins in
           let more : length (seen ++ if_record last) ≡ length seen + length (if_record last) = length-append seen (if_record last) in
           let same : summary.records ≡ length (seen ++ if_record last) = omega (arith, f.records, number, more) in
-          same ∙ ap length (sym (records_among-last (first_of limits) read));
+          same ∙ ap length (sym (records_among-last (first_of run.limits) read));
       refused =
-          f.refused ∙ ap (λ n. n + count_by refuses (if_record last)) so_far.refused
-          ∙ sym (sum_by-append (λ text. cond (refuses text) 1 0) seen (if_record last))
-          ∙ ap (count_by refuses) (sym (records_among-last (first_of limits) read));
+          f.refused ∙ ap (λ n. n + count_by run.refuses (if_record last)) so_far.refused
+          ∙ sym (sum_by-append (λ text. cond (run.refuses text) 1 0) seen (if_record last))
+          ∙ ap (count_by run.refuses) (sym (records_among-last (first_of run.limits) read));
     }
 
     Begun : List ℕ → Type 0
-    Begun written = IsWithinLimits limits read × Begins written (all_output limits output_of ending read)
+    Begun written = IsWithinLimits run.limits read × Begins written (all_output run ending read)
 
-    some_out : (fault : RunFault) → ((written : List ℕ) → Begun written → ResultFits limits (outputs_after output_of []) refuses ending read left' written (Err fault))
-        → SendsSome output [] middle after → Transfers (ResultFits limits (outputs_after output_of []) refuses ending) input left' before after (Err fault)
+    some_out : (fault : RunFault) → ((written : List ℕ) → Begun written → ResultFits run.limits (outputs_after run.output_of []) run.refuses ending read left written (Err fault))
+        → SendsSome output [] old.ends.written after → Transfers (ResultFits run.limits (outputs_after run.output_of []) run.refuses ending) start.left left start.written after (Err fault)
     some_out fault fits f = record {
       read = read;
-      written = output_to limits output_of read ++ f.written;
+      written = output_to run read ++ f.written;
       consumed = consumed;
       appended = appended f.written f.appended;
-      fits = fits (output_to limits output_of read ++ f.written) (so_far.within, begins f.written f.begins);
+      fits = fits (output_to run read ++ f.written) (so_far.within, begins f.written f.begins);
     }
 
-    by_result : (result : Result Summary RunFault) → Finishes limits.number output refuses progress last middle after result → Transfers (ResultFits limits (outputs_after output_of []) refuses ending) input left' before after result
+    by_result : (result : Result Summary RunFault) → Finishes run.limits.number output run.refuses old.progress last old.ends.written after result → Transfers (ResultFits run.limits (outputs_after run.output_of []) run.refuses ending) start.left left start.written after result
     by_result (Ok summary) f = record {
       read = read;
-      written = output_to limits output_of read ++ output;
+      written = output_to run read ++ output;
       consumed = consumed;
       appended = appended output f.written;
-      fits = (so_far.within, filled.ended none, sym (whole_last limits output_of ending read), counts summary f);
+      fits = (so_far.within, filled.ended none, sym (whole_last run ending read), counts summary f);
     }
     by_result (Err Read) f = absurd f.0
     by_result (Err Write) f = some_out Write (λ written fits. fits) f.1

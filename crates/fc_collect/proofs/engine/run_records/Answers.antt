@@ -1,13 +1,13 @@
 -- Each turn keeps what holds between turns, and each exit fits it.
 use Rattle.std.proofs.{Common.{◌∙◌, ap, arith, length}, lemmas.Result.{err_from_is_err_and}}
 use Rattle.fc_record.specs.Printing.{is_refused}
+use Rattle.fc_collect.proofs.RunLemmas.{begun_later, begun_number, bytes_none, counts_failed}
+use Rattle.fc_collect.proofs.RunLemmas.{counts_none, filled_none, finish_bytes, finish_counts}
+use Rattle.fc_collect.proofs.RunLemmas.{held_total, next_turn, run_of, small_begun, take_up_bytes}
+use Rattle.fc_collect.proofs.RunLemmas.{take_up_counts}
 use Rattle.fc_collect.proofs.WindowLemmas.{GrowsBy-ended, GrowsBy-given}
 use Rattle.fc_collect.specs.inside.{ended, printed_after, Remembers}
 use Rattle.fc_collect.specs.{Records.{finished_from, outputs_after}, Streams.{inner_of}}
-use Rattle.fc_collect.proofs.RunLemmas.{begun_later, begun_number, bytes_none, counts_failed}
-use Rattle.fc_collect.proofs.RunLemmas.{counts_none, filled_none, finish_bytes, finish_counts}
-use Rattle.fc_collect.proofs.RunLemmas.{held_total, next_turn, small_begun, take_up_bytes}
-use Rattle.fc_collect.proofs.RunLemmas.{take_up_counts}
 use Rattle.fc_collect.proofs.engine.run_records.Goals as goal
 
 pub returns-in_err-window-clause-read_counted : goal.returns-in_err-window-clause-read_counted
@@ -19,8 +19,8 @@ pub returns-in_err-window-clause-wrote : goal.returns-in_err-window-clause-wrote
 returns-in_err-window-clause-wrote g c =
     let p = err_from_is_err_and c.from_residual.result c.from_residual.ensures.1 in
     rw (p.1, p.2)
-    (bytes_none c.args.config.limits c.requires.limits (printed_after g.C.Refusal.PrintsRefusal.text g.C.Command.lines c.args.config.variant)
-    (is_refused c.args.config.variant) (ended g.C.Command.ending c.args.config.variant) _ _)
+    (bytes_none (run_of g.C.Refusal.PrintsRefusal.text g.C.Command.lines c.args.config.variant c.args.config.limits) c.requires.limits
+    (ended g.C.Command.ending c.args.config.variant) _ _)
 
 pub returns-in_err-pending-clause-read_counted : goal.returns-in_err-pending-clause-read_counted
 returns-in_err-pending-clause-read_counted g c =
@@ -31,8 +31,8 @@ pub returns-in_err-pending-clause-wrote : goal.returns-in_err-pending-clause-wro
 returns-in_err-pending-clause-wrote g c =
     let p = err_from_is_err_and c.from_residual-in_err-pending.result c.from_residual-in_err-pending.ensures.1 in
     rw (p.1, p.2)
-    (bytes_none c.args.config.limits c.requires.limits (printed_after g.C.Refusal.PrintsRefusal.text g.C.Command.lines c.args.config.variant)
-    (is_refused c.args.config.variant) (ended g.C.Command.ending c.args.config.variant) _ _)
+    (bytes_none (run_of g.C.Refusal.PrintsRefusal.text g.C.Command.lines c.args.config.variant c.args.config.limits) c.requires.limits
+    (ended g.C.Command.ending c.args.config.variant) _ _)
 
 pub fill-requires : goal.fill-requires
 fill-requires g c =
@@ -70,8 +70,7 @@ returns-then-given-eq0-clause-read_counted g c =
 
 pub returns-then-given-eq0-clause-wrote : goal.returns-then-given-eq0-clause-wrote
 returns-then-given-eq0-clause-wrote g c =
-    finish_bytes c.args.config.limits (printed_after g.C.Refusal.PrintsRefusal.text g.C.Command.lines c.args.config.variant) (is_refused c.args.config.variant) (ended g.C.Command.ending c.args.config.variant)
-    _ _ _ _ _ _ _ _ _ _ _ _ _ _ _ _ _ _ c.finish.result c.loop-turn.invariant c.if-given-eq0.true c.in-Ok.ensures.bytes c.as_slice.ensures c.finish.ensures.bytes
+    finish_bytes _ (ended g.C.Command.ending c.args.config.variant) _ _ _ _ _ _ _ _ c.finish.result c.loop-turn.invariant c.if-given-eq0.true c.in-Ok.ensures.bytes c.as_slice.ensures c.finish.ensures.bytes
 
 pub consume-requires-clause-few : goal.consume-requires-clause-few
 consume-requires-clause-few g c = let i = c.loop-turn.invariant in omega (arith, held_total c.args.config.limits i.read c.loop-turn.window c.loop-turn.printed.progress i.begins, i.within.bytes)
@@ -91,14 +90,11 @@ pub returns-in_err-consume-clause-wrote : goal.returns-in_err-consume-clause-wro
 returns-in_err-consume-clause-wrote g c =
     let p = err_from_is_err_and c.from_residual-in_err-consume.result c.from_residual-in_err-consume.ensures.1 in
     rw (p.1, p.2)
-    (take_up_bytes c.args.config.limits (printed_after g.C.Refusal.PrintsRefusal.text g.C.Command.lines c.args.config.variant) (is_refused c.args.config.variant) (ended g.C.Command.ending c.args.config.variant)
-    _ _ _ _ _ _ _ _ _ _ _ _ _ _ _ _ _ _ _ c.loop-turn.invariant c.in-Ok.ensures.bytes (ap length c.as_slice-searched.ensures) c.in_err-consume.ensures.bytes)
+    (take_up_bytes _ (ended g.C.Command.ending c.args.config.variant) _ _ _ _ _ _ _ _ _ c.loop-turn.invariant c.in-Ok.ensures.bytes (ap length c.as_slice-searched.ensures) c.in_err-consume.ensures.bytes)
 
 pub loop-turn-preserved : goal.loop-turn-preserved
 loop-turn-preserved g c =
     let e = c.in-Ok.ensures in
-    next_turn c.args.config.limits (printed_after g.C.Refusal.PrintsRefusal.text g.C.Command.lines c.args.config.variant) (is_refused c.args.config.variant)
-    (Remembers g.C.Command.keeps c.args.config.variant c.loop-turn.printed.kept) (Remembers g.C.Command.keeps c.args.config.variant c.consume.new.printed.kept)
-    c.args.input.now c.loop-turn.input _ _ c.loop-turn.output _ _ _ _ _ _ _ _ _ _ _ _ _ _ c.loop-turn._turn c.in-Ok.given _ c.loop-turn.invariant e.bytes (ap length c.as_slice-searched.ensures) c.in_ok-consume.ensures.bytes
+    next_turn _ _ (Remembers g.C.Command.keeps c.args.config.variant c.consume.new.printed.kept) _ _ _ _ c.in-Ok.given _ c.loop-turn.invariant e.bytes (ap length c.as_slice-searched.ensures) c.in_ok-consume.ensures.bytes
     (GrowsBy-given c.args.input.now c.loop-turn.input c.fill.new.input c.loop-turn._turn c.in-Ok.given c.requires.input_low (omega arith) c.if-given-eq0.false c.loop-turn.invariant.reads e.failures e.fills e.ends e.flushes)
     c.in_ok-consume.ensures.counted

@@ -1,10 +1,16 @@
 -- Between two turns all finished records are printed and written.
-use Rattle.{fc_collect.specs.Streams.{inner_of}, fc_record.specs.Printing.{is_refused}}
-use Rattle.fc_collect.{proofs.RunLemmas.{Running}, specs.inside.{printed_after, Remembers}}
+use Rattle.fc_collect.{proofs.RunLemmas.{ends_of, run_of, Running}, specs.inside.{Remembers}}
 use Rattle.fc_collect.proofs.engine.run_records.Given as goal
 
 abbrev pub invariant-loop-turn : goal.invariant-loop-turn
 invariant-loop-turn g l =
-    Running l.config.limits (printed_after g.C.Refusal.PrintsRefusal.text g.C.Command.lines l.config.variant) (is_refused l.config.variant) (Remembers g.C.Command.keeps l.config.variant l.printed.kept) l.fn.input l.input l.fn.output l.output
-    (g.Rd.Read.remaining (inner_of l.fn.input)) (g.Rd.Read.remaining (inner_of l.input))
-    (g.Wr.Write.contents (inner_of l.fn.output)) (g.Wr.Write.contents (inner_of l.output)) l.printed.progress l.window l.printed.pending.items l._turn
+    Running (run_of g.C.Refusal.PrintsRefusal.text g.C.Command.lines l.config.variant l.config.limits)
+    (Remembers g.C.Command.keeps l.config.variant l.printed.kept)
+    (ends_of g.Rd.Read.remaining g.Wr.Write.contents l.fn.input l.fn.output)
+    (record {
+      ends = ends_of g.Rd.Read.remaining g.Wr.Write.contents l.input l.output;
+      progress = l.printed.progress;
+      held = l.window;
+      pending = l.printed.pending.items;
+      turns = l._turn;
+    })
