@@ -6,21 +6,26 @@ ghost use Rattle.clap.specs.declared.error.kind.ErrorKind.TheVariants.{UnknownAr
 ghost use Rattle.clap.specs.declared.error.kind.ErrorKind.TheVariants.{ValueValidation};
 ghost use Rattle.clap.specs.Words.{kind_of, Text};
 ghost use Rattle.std.specs.{Io.KnownBytes.{Appends}, Prelude.{◌++◌, ◌<◌, ◌∷◌, ◌≡◌, ◌≢◌, [], codes}};
-ghost use Rattle.std.specs.Prelude.{Err, IsSome, List, Ok, Option, Result, Some, ℕ};
+ghost use Rattle.std.specs.Prelude.{Err, IsSome, List, None, Ok, Option, Result, Some, ℕ};
 ghost use Rattle.{fc_board.specs.Games.{Game}, fc_text.specs.Printed.{text_of}};
 ghost use Rattle.fc_board.specs.declared.rule.Variant.TheVariants.{BakersGame, EightOff, FreeCell};
 ghost use Rattle.fc_deal.specs.{deal, dealt_board, IsDealNumber};
 ghost use Rattle.fc_collect.specs.{Limits.{largest, standard}, Records.{records_from}};
 ghost use Rattle.fc_collect.specs.Runs.{ending_of_kind, output_of_kind};
 ghost use Rattle.fc_collect.specs.Streams.{counts_of, inner_of};
+ghost use Rattle.fc_collect.specs.declared.commands.CountFormat.TheVariants.{Words};
+ghost use Rattle.fc_collect.specs.declared.commands.CountFormat.TheVariants as figures;
 ghost use Rattle.fc_collect.specs.declared.commands.Format.{Format};
 ghost use Rattle.fc_collect.specs.declared.commands.Format.TheVariants.{Header, Json, Lines};
 ghost use Rattle.fc_collect.specs.declared.commands.RunKind.{RunKind};
+ghost use Rattle.fc_collect.specs.declared.commands.RunKind.TheVariants as runs;
 ghost use Rattle.fc_collect.specs.declared.streams.faults.{RunFault.{RunFault}, Summary.{Summary}};
 ghost use Rattle.fc_import.specs.declared.layout.LinesAre.TheVariants.{Columns, Rows};
 ghost use Rattle.fc_tool.specs.{command_of, deal_request, EndsDealing, EndsProgram, fault_line};
 ghost use Rattle.fc_tool.specs.{job_of, limits_from, plain_options, plain_request, reading_request};
 ghost use Rattle.fc_tool.specs.{Reads, run_of_task, status_of, TriesToWrite};
+ghost use Rattle.fc_tool.specs.declared.program.DealtGame.TheVariants as dealt;
+ghost use Rattle.fc_tool.specs.declared.program.Job.TheVariants as job;
 ghost use Rattle.fc_tool.specs.declared.request.{Request.{Request}, Task.{Task}};
 ghost use Rattle.fc_tool.specs.declared.request.Task.TheVariants.{Canon, Check, Count, Deal};
 ghost use Rattle.fc_tool.specs.declared.request.Task.TheVariants.{Expand, Group, Import, Same};
@@ -251,12 +256,39 @@ pub fn each_request_has_a_job()
         → IsSome (job_of request) }
 {}
 
-/// The run of a command over records prints what its name says: each is a kind of its own, and the
-/// formats of `table` and of `count` are those that were asked for.
-pub fn each_task_has_a_run_of_its_own()
-    ensures { (format : Format) (task other : Task) (kind : RunKind)
-        → run_of_task format task ≡ Some kind → run_of_task format other ≡ Some kind
-        → task ≡ other }
+/// The run of a command over records prints what its name says; `table` and `count` print it in the
+/// format that was asked for, of which `count` has no header.
+pub fn commands_have_their_runs()
+    ensures show { (format : Format) → run_of_task format Show ≡ Some runs.Show }
+    ensures canon { (format : Format) → run_of_task format Canon ≡ Some runs.Canon }
+    ensures check { (format : Format) → run_of_task format Check ≡ Some runs.Check }
+    ensures group { (format : Format) → run_of_task format Group ≡ Some runs.Group }
+    ensures share { (format : Format) → run_of_task format Share ≡ Some runs.Share }
+    ensures expand { (format : Format) → run_of_task format Expand ≡ Some runs.Expand }
+    ensures unique { (format : Format) → run_of_task format Unique ≡ Some runs.Unique }
+    ensures table { (format : Format) → run_of_task format Table ≡ Some (runs.Table format) }
+    ensures same { (format : Format) → run_of_task format Same ≡ Some runs.Same }
+    ensures symmetries { (format : Format)
+        → run_of_task format Symmetries ≡ Some runs.Symmetries }
+    ensures count { run_of_task Lines Count ≡ Some (runs.Count Words) }
+    ensures count_with_header { run_of_task Header Count ≡ Some (runs.Count Words) }
+    ensures count_in_json { run_of_task Json Count ≡ Some (runs.Count figures.Json) }
+    ensures import { (format : Format) → run_of_task format Import ≡ None }
+    ensures deal { (format : Format) → run_of_task format Deal ≡ None }
+{}
+
+/// What a request asks for is the run of its command over the records of its game within its limits,
+/// the import for its game, or the deal of its number.
+pub fn jobs_are_what_requests_ask_for()
+    ensures run { (request : Request) (kind : RunKind)
+        → run_of_task request.options.format request.task ≡ Some kind
+        → job_of request ≡ Some (job.Run kind request.variant request.options.limits) }
+    ensures import { (request : Request) → request.task ≡ Import
+        → job_of request ≡ Some (job.Import request.variant request.options.lines_are) }
+    ensures freecell { (number : ℕ)
+        → job_of (deal_request FreeCell number) ≡ Some (job.Deal dealt.FreeCell number) }
+    ensures bakers_game { (number : ℕ)
+        → job_of (deal_request BakersGame number) ≡ Some (job.Deal dealt.BakersGame number) }
 {}
 
 /// Eight Off is not dealt.
