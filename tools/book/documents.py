@@ -11,17 +11,21 @@ PAGES = {path.name: "index.html" if path.stem == "TRUST" else f"doc-{path.stem}.
 SPAN = re.compile(r"`([^`]+)`|!\[([^\]]*)\]\([^)]*\)|\[((?:[^\]`]|`[^`]*`)*)\]\(([^)]*)\)"
                   r"|\*\*((?:[^*]|\*(?!\*))+)\*\*|\*([^*\s][^*]*)\*|<(https?:[^>]*)>")
 
+# A paragraph that names a statement, which the book puts in its place.
+STATEMENT = re.compile(r"\*(Definition|Law|Lemma):\* `([^`]+)`")
+
 
 def anchor_of(heading):
     return re.sub(r"[^\w\- ]", "", heading.lower()).replace(" ", "-")
 
 
 class Document:
-    """A document that is made HTML: its name, and what makes what is between backticks, by the heading and the title of the
-    column."""
+    """A document that is made HTML: its name, what makes what is between backticks, by the heading and the title of the column,
+    and what puts a statement in its place, by its kind and its name."""
 
-    def __init__(self, name, code):
-        self.name, self.code, self.anchors, self.heading, self.column = name, code, set(), "", None
+    def __init__(self, name, code, statement):
+        self.name, self.code, self.statement = name, code, statement
+        self.anchors, self.heading, self.column = set(), "", None
 
     def target(self, path):
         """The page of what a link names, or nothing where the book has none."""
@@ -86,6 +90,8 @@ class Document:
             return self.items(lines, "ul")
         if re.match(r"\d+\w?\. ", lines[0]):
             return self.items(lines, "ol")
+        if named := STATEMENT.fullmatch(" ".join(lines)):
+            return self.statement(*named.groups())
         return f"<p>{self.inline(' '.join(lines))}</p>\n"
 
     def html(self, text):

@@ -211,7 +211,32 @@ class Book(Links):
     # ---- documents, and the start
 
     def document(self, path, text=None):
-        return documents.Document(path.name, self.code).html(path.read_text() if text is None else text)
+        return documents.Document(path.name, self.code, self.statement).html(path.read_text() if text is None else text)
+
+    def statement(self, kind, name):
+        """A definition, a law or a lemma as it stands, linked to where it is."""
+        if kind == "Lemma":
+            return self.lemma(*name.split("::"))
+        target = self.name(name, (), f"{kind}s")
+        if kind == "Law":
+            law = next(piece for piece in self.functions() if piece.target == target)
+            return faint(f"Law: {link(target, name)}") + code_block(linked("\n".join(law.signature[1]), self.of_clauses(law, "")))
+        home = next(home for home, it in self.targets.items() if it == target)
+        code = comment_of(self.definitions.found[home])[1]
+        return faint(f"Definition: {link(target, name)}") + code_block(linked(code, self.of_definition(home, "")))
+
+    def lemma(self, file, name):
+        """What a lemma says, without its proof: up to the line that begins with its name again."""
+        proof = next(it for module, it in self.lemmas.items() if module.endswith(f".{file}") and name in it.lemmas)
+        lines = proof.text.splitlines()
+        begins = re.compile(rf" *(?:(?:pub|abbrev|record|data) )*{re.escape(name)} [:({{]")
+        first = next(at for at, line in enumerate(lines) if begins.match(line))
+        indent = re.match(" *", lines[first])[0]
+        ends = (at for at in range(first + 1, len(lines)) if not lines[at].strip() or lines[at].startswith(f"{indent}{name} "))
+        last = next(ends, len(lines))
+        imported = (proof.module, name) in self.imported
+        where = link(lemma_target(proof, name), name) if imported else proof_link(proof, name)
+        return faint(f"Lemma: {where}") + code_block(escape("\n".join(lines[first:last]), False))
 
     def document_pages(self):
         for path in documents.PATHS:
