@@ -8,12 +8,12 @@ use Rattle.std.proofs.lemmas.List.{ext_get_or, take_more}
 use Rattle.std.proofs.lemmas.List.Elements.{All-get_or, All-head, All-tail}
 use Rattle.std.proofs.lemmas.List.Sums.{AllPass-from_list_all}
 use Rattle.std.proofs.lemmas.Option.{same_Some, slice_get-get_or}
-use Rattle.std.specs.List.{list_all}
+use Rattle.std.specs.{List.{list_all}, Prelude.{Err, IfErr, IfOk, IsOk, Ok, Result}}
 use Rattle.fc_board.proofs.WonLemmas.{won_height}
 use Rattle.fc_board.specs.{Boards.{Board, IsWellFormed}, Games.{Game}, Play.{by_first}}
 use Rattle.fc_board.specs.Play.{has_all_home, IsWon, one_later, OnlyLegal, Played, Refused, Stops}
 use Rattle.fc_board.specs.Play.{Verdict, verdict_by, Won}
-use Rattle.fc_board.specs.declared.fault.StepFault.{StepFault}
+use Rattle.fc_board.specs.declared.fault.{PlayFault.{PlayFault}, StepFault.{StepFault}}
 
 -- ---- one list after another
 module _ {Item : Type 0} (Leads : Board → Item → Board → Type 0) where
@@ -139,6 +139,13 @@ module _ {Item : Type 0} {Leads : Board → Item → Board → Type 0} {FitsGame
       no_step_there board at.before between move at.move fault at.played at.there at.refused step
   legal_not_refused board after (move ∷ moves) (between, step, rest) (suc index) fault at =
       legal_not_refused between after moves rest index fault (at_tail board between move moves index fault step at)
+
+  -- what answers by playing the list or by where it stops answers well exactly where the list is legal
+  pub played-exactly : (board after : Board) (moves : List Item) (answer : Result Unit PlayFault) → IfOk answer (λ _. Played Leads board moves after)
+      → IfErr answer (λ fault. Stops Leads FitsGame reason board moves fault.index fault.fault) → IsOk answer ↔ IsLegal board moves
+  played-exactly board after moves (Ok done) plays stops = (λ ok. (after, plays), λ legal. refl)
+  played-exactly board after moves (Err fault) plays stops =
+      (λ ok. cc, λ legal. absurd (legal_not_refused board legal.0 moves legal.1 fault.index fault.fault stops))
 
   pub one_refusal : (board : Board) (moves : List Item) (index other : ℕ) (fault why : StepFault) →
       Stops Leads FitsGame reason board moves index fault

@@ -19,6 +19,8 @@ mod play;
 mod run_step;
 mod step;
 
+pub use play::Playable;
+
 /// A board of the game `R`, on which each card of the deck is in exactly one place. Contracts
 /// see the heights of the foundations of C D H S, the cells of the game and the columns.
 #[derive(Drop)]

@@ -1,7 +1,0 @@
-use Rattle.std.proofs.Common.{take}
-use Rattle.fc_board.proofs.ListLemmas.{HasPlayed}
-use Rattle.fc_board.specs.Steps.{Step}
-use Rattle.fc_board.proofs.board.Board.play.Given as goal
-
-abbrev pub invariant-loop-index : goal.invariant-loop-index
-invariant-loop-index g l = HasPlayed (Step g.R.Rule.game) g.R.Rule.game l.fn.self (take l.index l.moves) l.self
