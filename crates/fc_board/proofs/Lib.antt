@@ -11,6 +11,7 @@ pub mod ColumnsLemmas
 pub mod ConfinedLemmas
 pub mod CountedLemmas
 pub mod DeckLemmas
+pub mod EightOffLemmas
 pub mod ExactLemmas
 pub mod ExpansionLemmas
 pub mod ExpansionSteps

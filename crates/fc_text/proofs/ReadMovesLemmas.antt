@@ -2,27 +2,12 @@
 use Rattle.std.proofs.Common.{◌++◌, ◌+◌, ◌-◌, ◌∙◌, ◌∷◌, ◌≡◌, ◌≤◌, [], All, ap, append-nil, arith}
 use Rattle.std.proofs.Common.{drop, drop-drop, Err, false, get_or, IfErr, IfSome, is_none, length}
 use Rattle.std.proofs.Common.{length-append, List, map, None, Ok, Option, refl, Result, Some, subst}
-use Rattle.std.proofs.Common.{sym, take, ℕ}
-use Rattle.std.proofs.lemmas.List.{append_assoc, length-drop, length-map}
-use Rattle.std.proofs.lemmas.List.Elements.{All-weaker}
-use Rattle.std.proofs.lemmas.Slice.Zip.{AllZip-long}
-use Rattle.std.specs.List.{AllZip}
-use Rattle.fc_board.specs.{Games.{eight_off, Game}, Moves.{Fits, ListFits, MoveList, OneCard}}
-use Rattle.fc_board.specs.Moves.{PlaceFits, RunFits, Runs, SourceFits}
+use Rattle.std.proofs.{Common.{sym, take, ℕ}, lemmas.List.{append_assoc, length-drop, length-map}}
+use Rattle.std.{proofs.lemmas.Slice.Zip.{AllZip-long}, specs.List.{AllZip}}
+use Rattle.fc_text.proofs.{ListedLemmas.{each_from_zip}, WordLemmas.{after_separator, first_word}}
 use Rattle.fc_text.specs.{Bytes.{blank}, Lines.{Piece, with_end, words_from}, Notation.{BadTokenAt}}
 use Rattle.fc_text.specs.Notation.{HasToken, Listed, most_moves, separates_tokens, TooManyAt}
-use Rattle.fc_board.specs.declared.moves.Move.{Move}
-use Rattle.fc_board.specs.declared.moves.Place.{Place}
-use Rattle.fc_board.specs.declared.moves.Place.TheVariants.{Cell as ToCell, Column as ToColumn}
-use Rattle.fc_board.specs.declared.moves.Place.TheVariants.{Home}
-use Rattle.fc_board.specs.declared.moves.Source.{Source}
-use Rattle.fc_board.specs.declared.moves.Source.TheVariants.{Cell as FromCell, Column as FromColumn}
-use Rattle.fc_board.specs.declared.run_move.RunMove.{RunMove}
-use Rattle.fc_board.specs.declared.run_move.RunMove.TheVariants.{One, Run}
-use Rattle.fc_text.proofs.WordLemmas.{after_separator, first_word}
-use Rattle.fc_text.specs.reader.{BeginsWithPair, BeginsWithToken, IsInOnePiece, IsReadTo}
-use Rattle.fc_text.specs.reader.{ReadSoFar}
-use Rattle.fc_text.proofs.ListedLemmas.{each_from_zip}
+use Rattle.fc_text.specs.reader.{BeginsWithPair, BeginsWithToken, IsInOnePiece, IsReadTo, ReadSoFar}
 
 abbrev pieces : List (Piece × ℕ) → List Piece
 pieces left = map (λ word. word.0) left
@@ -177,27 +162,3 @@ module _ {Item : Type 0} (Names : List ℕ → Item → Type 0) where
     tokens = subst (λ words. AllZip Names (map (λ word. word.bytes) words) items) (sym (read.words_are ∙ ap (λ left. read.good ++ pieces left) none ∙ append-nil read.good)) read.named;
     at_most = read.at_most;
   }
-
--- ---- moves of every game are moves of Eight Off
-pub source_fits : (game : Game) → game.cells ≤ 8 → (source : Source) → SourceFits game source → SourceFits eight_off source
-source_fits game few (FromColumn column) fits = fits
-source_fits game few (FromCell cell) fits = omega (arith, few, fits)
-
-pub target_fits : (game : Game) → game.cells ≤ 8 → (target : Place) → PlaceFits game target → PlaceFits eight_off target
-target_fits game few (ToColumn column) fits = fits
-target_fits game few (ToCell cell) fits = omega (arith, few, fits)
-target_fits game few Home fits = fits
-
-pub fit_eight_off : (game : Game) → game.cells ≤ 8 → (moves : List Move) → All (Fits game) moves → All (Fits eight_off) moves
-fit_eight_off game few moves = All-weaker (Fits game) (Fits eight_off) (λ move (from, to). (source_fits game few move.from from, target_fits game few move.to to)) moves
-
-run_fits : (game : Game) → game.cells ≤ 8 → (move : RunMove) → RunFits game move → RunFits eight_off move
-run_fits game few (One move) ((from, to), touches) = ((source_fits game few move.from from, target_fits game few move.to to), touches)
-run_fits game few (Run from to count) fits = fits
-
-pub runs_fit_eight_off : (game : Game) → game.cells ≤ 8 → (moves : List RunMove) → All (RunFits game) moves → All (RunFits eight_off) moves
-runs_fit_eight_off game few moves = All-weaker (RunFits game) (RunFits eight_off) (run_fits game few) moves
-
-pub list_fits_eight_off : (game : Game) → game.cells ≤ 8 → (list : MoveList) → ListFits game list → ListFits eight_off list
-list_fits_eight_off game few (OneCard moves) fit = fit_eight_off game few moves fit
-list_fits_eight_off game few (Runs moves) fit = runs_fit_eight_off game few moves fit

@@ -1,6 +1,7 @@
 //! Moves in standard FreeCell notation, of one card and of several.
-ghost use Rattle.std.specs.Prelude.{◌++◌, ◌<◌, ◌∷◌, ◌≡◌, [], All, Err, IfOk, IfSome, IsOk, IsOkAnd};
-ghost use Rattle.std.specs.Prelude.{List, None, OnOk, ℕ};
+ghost use Rattle.std.specs.Prelude.{◌++◌, ◌<◌, ◌∷◌, ◌≡◌, ◌≤◌, [], All, Err, IfOk, IfSome, IsOk};
+ghost use Rattle.std.specs.Prelude.{IsOkAnd, List, None, OnOk, ℕ};
+ghost use Rattle.fc_board.proofs.EightOffLemmas.{move_fits, run_fits};
 ghost use Rattle.fc_board.specs.{Games.{eight_off, Game}, Moves.{Fits, OneCard, RunFits, Runs}};
 ghost use Rattle.fc_text.specs.{Bytes.{blank}, Lines.{words_from}, Notation.{BadTokenAt}};
 ghost use Rattle.fc_text.specs.Notation.{IsRunToken, IsToken, Listed, print, run_token};
@@ -10,24 +11,23 @@ ghost use Rattle.fc_text.specs.reader.{IsInOnePiece, move_named, run_named};
 ghost use Rattle.fc_text.specs.declared.fault.MovesFault.TheVariants.{BadToken, TooMany};
 
 use crate::{MovesFault, move_named, run_named};
-use fc_board::{Move, Rule, RunMove};
+use fc_board::{Move, Playable, Rule, RunMove};
 use std::alloc::{AllocError, Global};
 
 mod read;
 mod write;
 
-use read::read_list;
+pub use read::read_list;
 pub use write::{source_character, target_character};
 use write::{column_digit, push_count, push_list, write_list};
 
 /// The most moves that a list may have.
 pub const MOST_MOVES: usize = 4096;
 
-/// What a list is made of, as text: each item is one token.
-pub(crate) trait Notated: Copy {
+/// What a list is made of, as text: each item is one token. Moves of every game are moves of
+/// Eight Off.
+pub trait Notated: Playable {
     ghost is_token: { Game → List ℕ → Self → Type 0 };
-
-    ghost is_printable: { Self → Type 0 };
 
     ghost token_of: { Self → List ℕ };
 
@@ -39,21 +39,29 @@ pub(crate) trait Notated: Copy {
 
     /// The token, after the text.
     fn push_token(&self, text: &mut Vec<u8>) -> Result<(), AllocError>
-        requires { is_printable self.now }
+        requires { Self.fits_game eight_off self.now }
         ensures { OnOk result (text.new.items ≡ text.old.items ++ token_of self.now) };
 
     /// A blank and the token, after the text.
     fn push_next(&self, text: &mut Vec<u8>) -> Result<(), AllocError>
-        requires { is_printable self.now }
+        requires { Self.fits_game eight_off self.now }
         ensures { OnOk result (text.new.items ≡ text.old.items ++ (blank ∷ token_of self.now)) };
+
+    ghost tokens_fit: { (game : Game) (word : List ℕ) (item : Self)
+        → is_token game word item → Self.fits_game game item };
+
+    ghost fits_eight_off: { (game : Game) → game.cells ≤ 8
+        → (item : Self) → Self.fits_game game item → Self.fits_game eight_off item };
 }
 
 impl Notated for Move {
     ghost is_token = { IsToken };
 
-    ghost is_printable = { Fits eight_off };
-
     ghost token_of = { token };
+
+    ghost tokens_fit = { λ game word item is. is.0 };
+
+    ghost fits_eight_off = { move_fits };
 
     fn from_word<R: Rule>(word: &[u8]) -> Option<Move> {
         move_named::<R>(word)
@@ -71,9 +79,11 @@ impl Notated for Move {
 impl Notated for RunMove {
     ghost is_token = { IsRunToken };
 
-    ghost is_printable = { RunFits eight_off };
-
     ghost token_of = { run_token };
+
+    ghost tokens_fit = { λ game word item is. is.0 };
+
+    ghost fits_eight_off = { run_fits };
 
     fn from_word<R: Rule>(word: &[u8]) -> Option<RunMove> {
         run_named::<R>(word)

@@ -1,7 +1,7 @@
 //! Lists of moves on a board, of one card and of several.
 ghost use Rattle.std.specs.Prelude.{◌↔◌, ◌≡◌, All, IfErr, IfOk, IsOk, List, Option, Some, take};
 ghost use Rattle.fc_board.specs.{Boards.{Board as Layout, IsWellFormed}, Games.{Game}};
-ghost use Rattle.fc_board.specs.{Moves.{Fits, OneCard, RunFits, Runs}};
+ghost use Rattle.fc_board.specs.Moves.{Fits, OneCard, RunFits, Runs};
 ghost use Rattle.fc_board.specs.Play.{Legal, Played, Plays, RefusedAt, Stops};
 ghost use Rattle.fc_board.specs.Steps.{refusal, run_refusal, RunStep, Step};
 ghost use Rattle.fc_board.specs.declared.fault.StepFault.{StepFault as Reason};

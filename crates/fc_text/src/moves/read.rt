@@ -1,6 +1,7 @@
 //! Reading a list of moves, of either kind.
-ghost use Rattle.std.specs.Prelude.{◌++◌, ◌<◌, ◌==◌, ◌∷◌, ◌≡◌, [], Err, IfErr, IfOk, IfSome};
+ghost use Rattle.std.specs.Prelude.{◌++◌, ◌<◌, ◌==◌, ◌∷◌, ◌≡◌, [], All, Err, IfErr, IfOk, IfSome};
 ghost use Rattle.std.specs.Prelude.{IsOkAnd, None, OnOk, ℕ};
+ghost use Rattle.fc_board.specs.Games.{eight_off};
 ghost use Rattle.fc_text.specs.{Bytes.{blank}, Lines.{words_from}};
 ghost use Rattle.fc_text.specs.Notation.{BadTokenAt, Listed, separates_tokens, token, TooManyAt};
 ghost use Rattle.fc_text.specs.reader.{BeginsWithPair, BeginsWithToken, IsReadTo};
@@ -11,11 +12,11 @@ use crate::{MovesFault, Tokens};
 use fc_board::Rule;
 use std::alloc::{AllocError, Global};
 
-pub(crate) fn read_list<R: Rule, M: Notated>(
-    alloc: Global,
-    text: &[u8],
-) -> Result<Vec<M>, MovesFault>
+/// The items that a text lists, or the first fault of the text in reading order.
+pub fn read_list<R: Rule, M: Notated>(alloc: Global, text: &[u8]) -> Result<Vec<M>, MovesFault>
     ensures listed { IfOk result (λ moves. Listed (M.is_token R.game) text.now moves.items) }
+    ensures fits { IfOk result (λ moves. All (M.fits_game R.game) moves.items) }
+    ensures fits_eight_off { IfOk result (λ moves. All (M.fits_game eight_off) moves.items) }
     ensures bad_token { (place : ℕ) → result ≡ Err (BadToken place)
         → BadTokenAt (M.is_token R.game) text.now place }
     ensures too_many { (place : ℕ) → result ≡ Err (TooMany place)

@@ -10,7 +10,7 @@ use fc_board::{Place, Source};
 use std::alloc::{AllocError, Global};
 
 pub(crate) fn write_list<M: Notated>(alloc: Global, moves: &[M]) -> Result<Vec<u8>, AllocError>
-    requires printable { All M.is_printable moves.now }
+    requires printable { All (M.fits_game eight_off) moves.now }
     ensures printed { IfOk result (λ text. text.items
         ≡ join_with_byte blank (map M.token_of moves.now)) }
     ensures no_moves { moves.now ≡ [] → IsOkAnd result (λ text. text.items ≡ []) }
@@ -22,7 +22,7 @@ pub(crate) fn write_list<M: Notated>(alloc: Global, moves: &[M]) -> Result<Vec<u
 
 /// The tokens after the text, with one blank between two.
 pub(crate) fn push_list<M: Notated>(text: &mut Vec<u8>, moves: &[M]) -> Result<(), AllocError>
-    requires printable { All M.is_printable moves.now }
+    requires printable { All (M.fits_game eight_off) moves.now }
     ensures printed { OnOk result (text.new.items
         ≡ text.old.items ++ join_with_byte blank (map M.token_of moves.now)) }
     ensures no_moves { moves.now ≡ [] → IsOk result }

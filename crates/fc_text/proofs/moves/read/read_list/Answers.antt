@@ -1,8 +1,10 @@
-use Rattle.std.proofs.Common.{◌++◌, ◌∷◌, ◌≡◌, [], ap, arith, Err, length, rules, subst}
-use Rattle.fc_text.specs.Notation.{BadTokenAt, most_moves, TooManyAt}
-use Rattle.fc_text.proofs.ListedLemmas.{bad_or_too_many, listed_or_bad, one_bad_token}
+use Rattle.std.proofs.Common.{◌++◌, ◌∷◌, ◌≡◌, ◌≤◌, [], ap, arith, Err, length, rules, subst}
+use Rattle.std.proofs.lemmas.List.Elements.{All-weaker}
+use Rattle.fc_board.specs.Games.{eight_off}
+use Rattle.fc_text.proofs.ListedLemmas.{bad_or_too_many, listed-hold, listed_or_bad, one_bad_token}
 use Rattle.fc_text.proofs.ReadMovesLemmas.{begins_not_empty, read_all, read_bad, read_next}
 use Rattle.fc_text.proofs.ReadMovesLemmas.{read_too_many, reads_from, some_word}
+use Rattle.fc_text.specs.Notation.{BadTokenAt, most_moves, TooManyAt}
 use Rattle.fc_text.specs.declared.fault.MovesFault.TheVariants.{BadToken}
 use Rattle.fc_text.proofs.moves.read.read_list.Goals as goal
 
@@ -71,3 +73,17 @@ returns-in_default-clause-found g c = λ place bad. ap Err (c.fault_without_memo
 
 pub returns-then-is_err-clause-found : goal.returns-then-is_err-clause-found
 returns-then-is_err-clause-found g c = λ place bad. ap Err (c.fault_without_memory-then-is_err.ensures.found place bad)
+
+-- ---- what is listed fits
+pub returns-clause-fits : goal.returns-clause-fits
+returns-clause-fits g c =
+    let names = g.M.Notated.is_token g.R.Rule.game in
+    listed-hold names (g.M.Playable.fits_game g.R.Rule.game) (g.met.M.Notated.tokens_fit g.R.Rule.game) c.args.text.now c.loop-token.moves.items
+    (read_all names c.args.text.now _ c.loop-token.moves.items c.loop-token.invariant c.in-None.ensures.steps.0)
+
+pub returns-clause-fits_eight_off : goal.returns-clause-fits_eight_off
+returns-clause-fits_eight_off g c =
+    let laws = g.met.R.Rule.rule_laws in
+    let few : g.R.Rule.game.cells ≤ 8 = omega (arith, laws.cells_are, laws.at_most_eight) in
+    All-weaker (g.M.Playable.fits_game g.R.Rule.game) (g.M.Playable.fits_game eight_off) (g.met.M.Notated.fits_eight_off g.R.Rule.game few) c.loop-token.moves.items
+    (returns-clause-fits g c)
