@@ -1,35 +1,33 @@
 -- The lines of a record after its header: where the lists begin, and what they say one after another.
 use Rattle.std.proofs.Common.{◌++◌, ◌+◌, ◌==◌, ◌∙◌, ◌∷◌, ◌≡◌, ◌≤◌, [], All, ap, append_assoc, arith}
-use Rattle.std.proofs.Common.{Bool, cond, drop, Err, false, length, List, map, None, Ok, refl}
-use Rattle.std.proofs.Common.{Result, Some, subst, sym, take, true, ℕ}
-use Rattle.std.proofs.lemmas.List.Elements.{All-head, All-tail}
-use Rattle.std.specs.List.{find, prefix_len}
+use Rattle.std.proofs.Common.{Bool, cond, drop, Err, false, length, List, map, None, Ok, Option}
+use Rattle.std.proofs.Common.{refl, Result, Some, subst, sym, take, true, ℕ}
+use Rattle.std.{proofs.lemmas.List.Elements.{All-head, All-tail}, specs.List.{find, prefix_len}}
 use Rattle.fc_board.specs.{Boards.{Board}, Games.{Game}, Moves.{MoveList}}
-use Rattle.fc_text.specs.{Bytes.{is_gap, number_sign}, Faults.{first_fault}, Lines.{IsPieceOf}}
-use Rattle.fc_text.specs.Lines.{lines_from, moved, Piece, trim_carriage_return, words_from}
-use Rattle.fc_text.specs.Notation.{BadToken, BadTokenAt, ListFault, separates_tokens, TooMany}
+use Rattle.fc_text.proofs.MovesReadLemmas.{read-BadTokenAt, read-Listed, read-TooManyAt}
+use Rattle.fc_text.proofs.NextLineLemmas.{piece_within}
+use Rattle.fc_text.proofs.{PlaceLemmas.{missing_at_end, others_within}, TokenLemmas.{Reads}}
+use Rattle.fc_text.{proofs.WordLemmas.{words-are_pieces}, specs.Bytes.{is_gap, number_sign}}
+use Rattle.fc_text.specs.{Faults.{first_fault}, Lines.{IsPieceOf, lines_from, moved, Piece}}
+use Rattle.fc_text.specs.{Lines.{trim_carriage_return, words_from}, Notation.{BadToken, BadTokenAt}}
+use Rattle.fc_text.specs.Notation.{Listed, listed_by, ListFault, separates_tokens, TooMany}
 use Rattle.fc_text.specs.Notation.{TooManyAt}
 use Rattle.fc_text.specs.Rows.{Comment, Content, is_empty, line_of, line_of_front, row_of}
 use Rattle.fc_text.specs.Spelling.{board_of}
-use Rattle.fc_record.specs.Grammar.{begins_with, Contents, contents_of, contents_with, fault_at}
-use Rattle.fc_record.specs.Grammar.{list_mark, list_read, list_with, lists_of, lists_start}
-use Rattle.fc_record.specs.Grammar.{with_list}
-use Rattle.fc_text.proofs.NextLineLemmas.{piece_within}
-use Rattle.fc_text.proofs.WordLemmas.{words-are_pieces}
-use Rattle.fc_text.proofs.PlaceLemmas.{missing_at_end, others_within}
 use Rattle.fc_text.specs.declared.fault.MovesFault.{MovesFault}
-use Rattle.fc_record.specs.inside.{IfFaultOf, IsNoFurther, unread_for}
+use Rattle.fc_record.specs.Grammar.{begins_with, Contents, contents_of, contents_with, fault_at}
+use Rattle.fc_record.specs.Grammar.{list_fault, list_mark, list_read, list_with, lists_of}
+use Rattle.fc_record.specs.Grammar.{lists_start, with_list}
+use Rattle.fc_record.specs.inside.{IfFaultOf, IsFirstFault, IsNoFurther, unread_for}
 use Rattle.fc_text.specs.declared.fault.MovesFault.TheVariants as list
-use Rattle.fc_text.specs.declared.fault.BoardFault.{BoardFault}
-use Rattle.fc_text.specs.declared.fault.BoardFaultKind.{BoardFaultKind}
+use Rattle.fc_text.specs.declared.fault.{BoardFault.{BoardFault}, BoardFaultKind.{BoardFaultKind}}
 use Rattle.fc_text.specs.declared.fault.BoardFaultKind.TheVariants.{BadCard, BadFoundation}
 use Rattle.fc_text.specs.declared.fault.BoardFaultKind.TheVariants.{MissingCard, RepeatedCard}
 use Rattle.fc_text.specs.declared.fault.BoardFaultKind.TheVariants.{RepeatedLine, TooManyCells}
 use Rattle.fc_text.specs.declared.fault.BoardFaultKind.TheVariants.{TooManyColumns}
+use Rattle.fc_record.specs.declared.record.body.Unread.{TheVariants.{Fault, Memory}, Unread}
 use Rattle.fc_record.specs.declared.record.RecordFault.{RecordFault}
 use Rattle.fc_record.specs.declared.record.RecordFaultKind.TheVariants.{StrayLine}
-use Rattle.fc_record.specs.declared.record.body.Unread.{Unread}
-use Rattle.fc_record.specs.declared.record.body.Unread.TheVariants.{Fault, Memory}
 
 -- ---- places are within the text
 
@@ -162,15 +160,30 @@ pub fault-near : {Item A : Type 0} (IsToken : List ℕ → Item → Type 0) (tex
     → IsNoFurther most fault
 fault-near IsToken text most result fault less is bad many = IsNoFurther-weaker (length text) most fault less (fault-placed IsToken text result fault is bad many)
 
--- and the list is read as that fault
-pub unread-fault : {Item A : Type 0} (IsToken : List ℕ → Item → Type 0) (form : List Item → MoveList) (place : ℕ) (text : List ℕ) (read : Result (List Item) ListFault) (result : Result A MovesFault) (fault : MovesFault)
-    → result ≡ Err fault
-    → ((at : ℕ) → result ≡ Err (list.BadToken at) → BadTokenAt IsToken text at) → ((at : ℕ) → result ≡ Err (list.TooMany at) → TooManyAt IsToken text at)
-    → ((at : ℕ) → BadTokenAt IsToken text at → read ≡ Err (BadToken at)) → ((at : ℕ) → TooManyAt IsToken text at → read ≡ Err (TooMany at))
-    → IfFaultOf (λ fault. list_with form place read ≡ Err fault) (unread_for place fault)
-unread-fault IsToken form place text read result (list.BadToken at) is bad many says_bad says_many = ap (list_with form place) (says_bad at (bad at is))
-unread-fault IsToken form place text read result (list.TooMany at) is bad many says_bad says_many = ap (list_with form place) (says_many at (many at is))
-unread-fault IsToken form place text read result list.Memory is bad many says_bad says_many = tt
+-- and it is the first fault of the text
+pub unread-first : {Item A : Type 0} (IsToken : List ℕ → Item → Type 0) (place : ℕ) (text : List ℕ)
+    (result : Result A MovesFault) (fault : MovesFault) → result ≡ Err fault
+    → ((at : ℕ) → result ≡ Err (list.BadToken at) → BadTokenAt IsToken text at)
+    → ((at : ℕ) → result ≡ Err (list.TooMany at) → TooManyAt IsToken text at)
+    → IfFaultOf (λ fault. (found : ListFault) × (fault ≡ list_fault place found) × IsFirstFault IsToken text found)
+    (unread_for place fault)
+unread-first IsToken place text result (list.BadToken at) is bad many = (BadToken at, refl, bad at is)
+unread-first IsToken place text result (list.TooMany at) is bad many = (TooMany at, refl, many at is)
+unread-first IsToken place text result list.Memory is bad many = tt
+
+-- what a line says after its marks, by what its words name
+module _ {Item : Type 0} (IsToken : List ℕ → Item → Type 0) (named : List ℕ → Option Item) (reads : Reads IsToken named)
+    (form : List Item → MoveList) (place : ℕ) (text : List ℕ) (said : Result MoveList RecordFault)
+    (says : list_with form place (listed_by named (words_from separates_tokens 0 text)) ≡ said) where
+  pub said-listed : (moves : List Item) → Listed IsToken text moves → said ≡ Ok (form moves)
+  said-listed moves listed = sym says ∙ ap (list_with form place) (read-Listed IsToken named reads text moves listed)
+
+  pub said-fault : (fault : RecordFault)
+      → ((found : ListFault) × (fault ≡ list_fault place found) × IsFirstFault IsToken text found) → said ≡ Err fault
+  said-fault fault (BadToken at, same, is) =
+      sym says ∙ ap (list_with form place) (read-BadTokenAt IsToken named reads text at is) ∙ ap Err (sym same)
+  said-fault fault (TooMany at, same, is) =
+      sym says ∙ ap (list_with form place) (read-TooManyAt IsToken named reads text at is) ∙ ap Err (sym same)
 
 pub unread-small : (place most : ℕ) (fault : MovesFault) → IsNoFurther most fault → IfFaultOf (λ fault. fault.place ≤ place + most) (unread_for place fault)
 unread-small place most (list.BadToken at) near = omega (arith, near)

@@ -7,6 +7,7 @@ use Rattle.std.specs.Prelude.{Result, true, ℕ}
 use Rattle.fc_board.specs.{Boards.{Board}, Games.{Game}, Moves.{MoveList, OneCard}}
 use Rattle.fc_board.specs.Play.{list_verdict, OnlyLegal, Refused, Verdict, Won}
 use Rattle.fc_board.specs.declared.fault.PlayFault.{PlayFault}
+use Rattle.fc_text.specs.Notation.{BadToken, BadTokenAt, ListFault, TooMany, TooManyAt}
 use Rattle.fc_text.specs.declared.fault.MovesFault.{MovesFault}
 use Rattle.fc_record.specs.{Grammar.{fault_at, list_mark}, Printing.{one_card_moves}}
 use Rattle.fc_record.specs.declared.record.body.Unread.{TheVariants.{Fault, Memory}, Unread}
@@ -51,6 +52,11 @@ abbrev pub IsNoFurther : ℕ → MovesFault → Type 0
 IsNoFurther most (list.BadToken at) = at ≤ most
 IsNoFurther most (list.TooMany at) = at ≤ most
 IsNoFurther most list.Memory = Unit {0}
+
+-- this is the first fault of a list's text
+abbrev pub IsFirstFault : {Item : Type 0} → (List ℕ → Item → Type 0) → List ℕ → ListFault → Type 0
+IsFirstFault IsToken text (BadToken at) = BadTokenAt IsToken text at
+IsFirstFault IsToken text (TooMany at) = TooManyAt IsToken text at
 
 -- why a list is not read, whose text begins at this place
 abbrev pub unread_for : ℕ → MovesFault → Unread

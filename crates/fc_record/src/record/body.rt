@@ -1,17 +1,17 @@
 //! The board of a record and the lists of moves after it.
 ghost use Rattle.std.specs.Option.{option_map};
-ghost use Rattle.std.specs.Prelude.{◌+◌, ◌^◌, ◌≡◌, ◌≤◌, Err, IfOk, length, Ok, take, true};
-ghost use Rattle.fc_board.specs.Moves.{ListFits, OneCard, Runs};
-ghost use Rattle.fc_text.specs.{Lines.{lines_from}, Readings.{moves_read, runs_read}};
+ghost use Rattle.std.specs.Prelude.{◌+◌, ◌^◌, ◌≡◌, ◌≤◌, All, Err, IfOk, length, Ok, take, true};
+ghost use Rattle.fc_board.specs.Moves.{ListFits};
+ghost use Rattle.fc_text.specs.{Lines.{lines_from}, Notation.{Listed, ListFault}};
 ghost use Rattle.fc_text.specs.Spelling.{Spells};
 ghost use Rattle.fc_record.specs.Grammar.{begins_with, contents_of, contents_seen, has_two_marks};
-ghost use Rattle.fc_record.specs.Grammar.{list_mark, list_read, list_with, lists_of, lists_start};
+ghost use Rattle.fc_record.specs.Grammar.{list_fault, list_mark, list_read, lists_of, lists_start};
 ghost use Rattle.fc_record.specs.inside.{ends_board, Fitting.{AllFit, IsPrinted}};
-ghost use Rattle.fc_record.specs.inside.{IfFault, IsNoFurther, unread_for};
+ghost use Rattle.fc_record.specs.inside.{IfFault, IsFirstFault, IsNoFurther, unread_for};
 
 use crate::record::{Contents, MoveList, RecordFault, RecordFaultKind, begins_line};
-use fc_board::{Board, Rule};
-use fc_text::{Lines, MovesFault, read_moves, read_runs, read_spelled, take_printed};
+use fc_board::{Board, Move, Rule, RunMove};
+use fc_text::{Lines, MovesFault, Notated, read_list as read_listed, read_spelled, take_printed};
 use memchr::memchr;
 use std::alloc::Global;
 
@@ -181,9 +181,15 @@ fn read_list<R: Rule>(alloc: Global, place: usize, line: &[u8]) -> Result<MoveLi
     ensures small { IfFault result (λ fault. fault.place ≤ 2 ^ 61) }
 {
     if has_two_marks(line) {
-        read_runs_after::<R>(alloc, place + 2, &line[2..])
+        match read_after::<R, RunMove>(alloc, place + 2, &line[2..]) {
+            Ok(moves) => Ok(MoveList::runs(moves)),
+            Err(unread) => Err(unread),
+        }
     } else {
-        read_moves_after::<R>(alloc, place + 1, &line[1..])
+        match read_after::<R, Move>(alloc, place + 1, &line[1..]) {
+            Ok(moves) => Ok(MoveList::one_card(moves)),
+            Err(unread) => Err(unread),
+        }
     }
 }
 
@@ -194,34 +200,21 @@ fn has_two_marks(line: &[u8]) -> bool
     line.get(1) == Some(&b'>')
 }
 
-/// The moves of one card in a text, which begins at this place of the record.
-fn read_moves_after<R: Rule>(alloc: Global, place: usize, text: &[u8]) -> Result<MoveList, Unread>
+/// The moves in a text, of one card or of several, which begins at this place of the record.
+fn read_after<R: Rule, M: Notated>(
+    alloc: Global,
+    place: usize,
+    text: &[u8],
+) -> Result<Vec<M>, Unread>
     requires { place + length text.now ≤ 2 ^ 60 }
-    ensures list { IfOk result (λ list.
-        list_with OneCard place (moves_read R.game text.now) ≡ Ok list) }
-    ensures fits { IfOk result (ListFits R.game) }
-    ensures fault { IfFault result (λ fault.
-        list_with OneCard place (moves_read R.game text.now) ≡ Err fault) }
+    ensures listed { IfOk result (λ moves. Listed (M.is_token R.game) text.now moves.items) }
+    ensures fits { IfOk result (λ moves. All (M.fits_game R.game) moves.items) }
+    ensures fault { IfFault result (λ fault. (found : ListFault) × (fault ≡ list_fault place found)
+        × IsFirstFault (M.is_token R.game) text.now found) }
     ensures small { IfFault result (λ fault. fault.place ≤ 2 ^ 61) }
 {
-    match read_moves::<R>(alloc, text) {
-        Ok(moves) => Ok(MoveList::one_card(moves)),
-        Err(fault) => Err(unread_list(place, fault)),
-    }
-}
-
-/// The moves of several cards in a text, which begins at this place of the record.
-fn read_runs_after<R: Rule>(alloc: Global, place: usize, text: &[u8]) -> Result<MoveList, Unread>
-    requires { place + length text.now ≤ 2 ^ 60 }
-    ensures list { IfOk result (λ list.
-        list_with Runs place (runs_read R.game text.now) ≡ Ok list) }
-    ensures fits { IfOk result (ListFits R.game) }
-    ensures fault { IfFault result (λ fault.
-        list_with Runs place (runs_read R.game text.now) ≡ Err fault) }
-    ensures small { IfFault result (λ fault. fault.place ≤ 2 ^ 61) }
-{
-    match read_runs::<R>(alloc, text) {
-        Ok(moves) => Ok(MoveList::runs(moves)),
+    match read_listed::<R, M>(alloc, text) {
+        Ok(moves) => Ok(moves),
         Err(fault) => Err(unread_list(place, fault)),
     }
 }

@@ -1,8 +1,8 @@
 //! Lists of moves, as the lines of records hold them.
-ghost use Rattle.std.specs.Prelude.{◌++◌, ◌≡◌, All, IfErr, IfOk, OnOk, Some};
+ghost use Rattle.std.specs.Prelude.{◌++◌, ◌↔◌, ◌≡◌, All, IfErr, IfOk, IsOk, OnOk, Some};
 ghost use Rattle.fc_board.specs.{Boards.{IsWellFormed}, Games.{eight_off}, Moves.{Fits}};
 ghost use Rattle.fc_board.specs.Moves.{list_image, ListFits, move_count, OneCard, RunFits, Runs};
-ghost use Rattle.fc_board.specs.Play.{expansion_of, list_verdict, run_verdict, verdict};
+ghost use Rattle.fc_board.specs.Play.{expansion_of, Legal, list_verdict, Plays, RefusedAt};
 ghost use Rattle.fc_board.specs.Steps.{run_refusal, RunStep};
 ghost use Rattle.fc_text.specs.Notation.{print};
 ghost use Rattle.fc_record.specs.{inside.{Expanded, verdict_of}, Printing.{marks_of}};
@@ -71,11 +71,27 @@ impl MoveList {
     pub fn play<R: Rule>(&self, board: &Board<R>) -> Result<bool, PlayFault>
         requires { ListFits R.game self.now }
         ensures verdict { verdict_of result ≡ list_verdict R.game board.now self.now }
+        ensures legal { IsOk result ↔ Legal R.game board.now self.now }
         ensures well_formed { IsWellFormed R.game board.now }
     {
+        let mut after = board.copy();
+        match self.play_on(&mut after) {
+            Ok(()) => Ok(after.is_won()),
+            Err(fault) => Err(fault),
+        }
+    }
+
+    // Plays the list on this very board, up to the move that the game refuses, if there is one.
+    fn play_on<R: Rule>(&self, board: &mut Board<R>) -> Result<(), PlayFault>
+        requires { ListFits R.game self.now }
+        ensures played { IfOk result (λ _. Plays R.game board.old self.now board.new) }
+        ensures legal { IsOk result ↔ Legal R.game board.old self.now }
+        ensures refused { IfErr result
+            (λ fault. RefusedAt R.game board.old self.now fault.index fault.fault) }
+    {
         match &self.form {
-            Form::OneCard(moves) => play_moves(board, moves.as_slice()),
-            Form::Runs(moves) => play_runs(board, moves.as_slice()),
+            Form::OneCard(moves) => board.play(moves.as_slice()),
+            Form::Runs(moves) => board.play_runs(moves.as_slice()),
         }
     }
 
@@ -102,9 +118,28 @@ impl MoveList {
         ensures fits { IfOk result (λ made. IfOk made (ListFits R.game)) }
     {
         match &self.form {
-            Form::OneCard(moves) => expand_moves(alloc, board, moves.as_slice()),
+            Form::OneCard(moves) => self.expand_moves(alloc, board, moves.as_slice()),
             Form::Runs(moves) => expand_runs(alloc, board, moves.as_slice()),
         }
+    }
+
+    // The list once more, where the game allows it: each move of one card is its own expansion.
+    fn expand_moves<R: Rule>(
+        &self,
+        alloc: Global,
+        board: &Board<R>,
+        moves: &[Move],
+    ) -> Result<Result<MoveList, PlayFault>, AllocError>
+        requires fits { ListFits R.game self.now }
+        requires one_card { self.now ≡ OneCard moves.now }
+        ensures expanded { IfOk result (Expanded R.game board.now self.now) }
+        ensures fits { IfOk result (λ made. IfOk made (ListFits R.game)) }
+    {
+        if let Err(fault) = self.play(board) {
+            return Ok(Err(fault));
+        }
+        let copied = copy_of(alloc, moves)?;
+        Ok(Ok(MoveList::one_card(copied)))
     }
 
     /// The list after the passage.
@@ -130,14 +165,8 @@ impl MoveList {
         ensures { IfOk result (λ copy. copy ≡ self.now) }
     {
         match &self.form {
-            Form::OneCard(moves) => {
-                Ok(MoveList::one_card(copy_of_moves(alloc, moves.as_slice())?))
-            }
-            Form::Runs(moves) => {
-                let mut copied = Vec::new(alloc);
-                copied.extend_from_slice(moves.as_slice())?;
-                Ok(MoveList::runs(copied))
-            }
+            Form::OneCard(moves) => Ok(MoveList::one_card(copy_of(alloc, moves.as_slice())?)),
+            Form::Runs(moves) => Ok(MoveList::runs(copy_of(alloc, moves.as_slice())?)),
         }
     }
 
@@ -163,53 +192,12 @@ impl MoveList {
     }
 }
 
-fn play_moves<R: Rule>(board: &Board<R>, moves: &[Move]) -> Result<bool, PlayFault>
-    requires { All (Fits R.game) moves.now }
-    ensures verdict { verdict_of result ≡ verdict R.game board.now moves.now }
-    ensures well_formed { IsWellFormed R.game board.now }
-{
-    let mut after = board.copy();
-    match after.play(moves) {
-        Ok(()) => Ok(after.is_won()),
-        Err(fault) => Err(fault),
-    }
-}
-
-fn play_runs<R: Rule>(board: &Board<R>, moves: &[RunMove]) -> Result<bool, PlayFault>
-    requires { All (RunFits R.game) moves.now }
-    ensures verdict { verdict_of result ≡ run_verdict R.game board.now moves.now }
-    ensures well_formed { IsWellFormed R.game board.now }
-{
-    let mut after = board.copy();
-    match after.play_runs(moves) {
-        Ok(()) => Ok(after.is_won()),
-        Err(fault) => Err(fault),
-    }
-}
-
-fn copy_of_moves(alloc: Global, moves: &[Move]) -> Result<Vec<Move>, AllocError>
+fn copy_of<M: Copy>(alloc: Global, moves: &[M]) -> Result<Vec<M>, AllocError>
     ensures { IfOk result (λ copied. copied.items ≡ moves.now) }
 {
     let mut copied = Vec::new(alloc);
     copied.extend_from_slice(moves)?;
     Ok(copied)
-}
-
-// The list of these moves, each of which is its own expansion.
-fn expand_moves<R: Rule>(
-    alloc: Global,
-    board: &Board<R>,
-    moves: &[Move],
-) -> Result<Result<MoveList, PlayFault>, AllocError>
-    requires { All (Fits R.game) moves.now }
-    ensures expanded { IfOk result (Expanded R.game board.now (OneCard moves.now)) }
-    ensures fits { IfOk result (λ made. IfOk made (ListFits R.game)) }
-{
-    if let Err(fault) = play_moves(board, moves) {
-        return Ok(Err(fault));
-    }
-    let copied = copy_of_moves(alloc, moves)?;
-    Ok(Ok(MoveList::one_card(copied)))
 }
 
 // The list of the moves of one card that these are short for, each on the board that those before
