@@ -3,7 +3,7 @@
 ghost use Rattle.std.specs.Prelude.{◌++◌, ◌≡◌, ◌≤◌, ◌⊎◌, [], All, false, IfOk, IfSome, IsTrue};
 ghost use Rattle.std.specs.Prelude.{List, OnOk, Some, ℕ};
 ghost use Rattle.fc_board.specs.{Boards.{Board as Layout, IsWellFormed}, Games.{eight_off}};
-ghost use Rattle.fc_board.specs.{Moves.{Fits, ListFits, OneCard, RunFits, Runs}, Play.{Legal}};
+ghost use Rattle.fc_board.specs.{Moves.{ListFits}, Play.{Legal}};
 ghost use Rattle.fc_text.specs.{Printed.{text_of}, Spelling.{Spells}};
 ghost use Rattle.fc_record.specs.{Grammar.{heading_of}, Printing.{header_text, list_line}};
 ghost use Rattle.fc_import.specs.Import.{by_columns, HasCards, IsNamed, IsPacked, numbered};
@@ -17,7 +17,7 @@ use crate::playable::can_be;
 use crate::quiet::{are_no_board, are_prose, are_quiet};
 use crate::tally::{Fate, Tally, counted};
 use crate::walk::{Walk, line_after};
-use fc_board::{Board, Move, Rule, RunMove, Variant};
+use fc_board::{Board, Rule, Variant};
 use fc_record::{MoveList, push_header, push_list, push_number, read_heading};
 use fc_text::{BoardView, MovesFault, read_board, read_moves, read_runs};
 use std::alloc::{AllocError, Global};
@@ -343,9 +343,10 @@ impl<R: Rule> Made<R> {
         let Some(board) = &self.last else {
             return Ok(None);
         };
-        match form {
-            Form::OneCard => legal_moves(alloc, board, moves),
-            Form::Runs => legal_runs(alloc, board, moves),
+        match read_list::<R>(alloc, form, moves) {
+            Ok(list) if plays(board, &list) => Ok(Some(list)),
+            Err(MovesFault::Memory) => Err(AllocError),
+            _ => Ok(None),
         }
     }
 
@@ -469,52 +470,22 @@ fn is_equal(first: &[u8], second: &[u8]) -> bool
     first == second
 }
 
-// The list of these moves of one card, if it is legal on the board.
-fn legal_moves<R: Rule>(
-    alloc: Global,
-    board: &Board<R>,
-    words: &[u8],
-) -> Result<Option<MoveList>, AllocError>
-    ensures legal { IfOk result (λ list. IfSome list (Legal R.game board.now)) }
-    ensures fits { IfOk result (λ list. IfSome list (ListFits eight_off)) }
+// The list in this form of the moves that the words are.
+fn read_list<R: Rule>(alloc: Global, form: Form, words: &[u8]) -> Result<MoveList, MovesFault>
+    ensures fits { IfOk result (ListFits R.game) }
+    ensures fits_eight_off { IfOk result (ListFits eight_off) }
 {
-    match read_moves::<R>(alloc, words) {
-        Ok(moves) if plays_moves(board, moves.as_slice()) => Ok(Some(MoveList::one_card(moves))),
-        Err(MovesFault::Memory) => Err(AllocError),
-        _ => Ok(None),
+    match form {
+        Form::OneCard => Ok(MoveList::one_card(read_moves::<R>(alloc, words)?)),
+        Form::Runs => Ok(MoveList::runs(read_runs::<R>(alloc, words)?)),
     }
 }
 
-fn plays_moves<R: Rule>(board: &Board<R>, moves: &[Move]) -> bool
-    requires { All (Fits R.game) moves.now }
-    ensures { IsTrue result → Legal R.game board.now (OneCard moves.now) }
+fn plays<R: Rule>(board: &Board<R>, list: &MoveList) -> bool
+    requires { ListFits R.game list.now }
+    ensures { IsTrue result → Legal R.game board.now list.now }
 {
-    let mut after = board.copy();
-    after.play(moves).is_ok()
-}
-
-// The list of these moves of several cards, if it is legal on the board.
-fn legal_runs<R: Rule>(
-    alloc: Global,
-    board: &Board<R>,
-    words: &[u8],
-) -> Result<Option<MoveList>, AllocError>
-    ensures legal { IfOk result (λ list. IfSome list (Legal R.game board.now)) }
-    ensures fits { IfOk result (λ list. IfSome list (ListFits eight_off)) }
-{
-    match read_runs::<R>(alloc, words) {
-        Ok(moves) if plays_runs(board, moves.as_slice()) => Ok(Some(MoveList::runs(moves))),
-        Err(MovesFault::Memory) => Err(AllocError),
-        _ => Ok(None),
-    }
-}
-
-fn plays_runs<R: Rule>(board: &Board<R>, moves: &[RunMove]) -> bool
-    requires { All (RunFits R.game) moves.now }
-    ensures { IsTrue result → Legal R.game board.now (Runs moves.now) }
-{
-    let mut after = board.copy();
-    after.play_runs(moves).is_ok()
+    list.play(board).is_ok()
 }
 
 // Whether the lines name the moves of the list.
