@@ -4,8 +4,6 @@ ghost use Rattle.fc_bytes.specs.{AreApart, Canonicalises, Composes, HoldsBoard, 
 ghost use Rattle.fc_bytes.specs.{HoldsNone, HoldsPassage, Inverts, LeadsToImage, LeadsToOther};
 ghost use Rattle.fcanon_c.specs.{game_at, renamings_at};
 
-use fc_board::{BakersGame, EightOff, FreeCell};
-use fc_bytes::calls::answers::NO_GAME;
 use fc_bytes::calls::canonical::{canon_of, image_of, inverse_of, same_of, then_of};
 use fc_bytes::{BoardBytes, PassageBytes};
 
@@ -24,12 +22,7 @@ pub extern "C" fn fcanon_canon(
     ensures no_other_answer { game < 3 → 0 < result → result ≡ 4 }
     ensures kept { 0 < result → (canonical.new ≡ canonical.old) × (passage.new ≡ passage.old) }
 {
-    match game {
-        0 => canon_of::<FreeCell>(board, canonical, passage),
-        1 => canon_of::<BakersGame>(board, canonical, passage),
-        2 => canon_of::<EightOff>(board, canonical, passage),
-        _ => NO_GAME,
-    }
+    in_game!(game, canon_of(board, canonical, passage))
 }
 
 /// A passage from the one board to the other.
@@ -51,12 +44,7 @@ pub extern "C" fn fcanon_same(
     ensures no_other_answer { game < 3 → 0 < result → (4 ≤ result) × (result ≤ 6) }
     ensures kept { 0 < result → passage.new ≡ passage.old }
 {
-    match game {
-        0 => same_of::<FreeCell>(board, other, passage),
-        1 => same_of::<BakersGame>(board, other, passage),
-        2 => same_of::<EightOff>(board, other, passage),
-        _ => NO_GAME,
-    }
+    in_game!(game, same_of(board, other, passage))
 }
 
 /// The passage that leads back.
@@ -72,12 +60,7 @@ pub extern "C" fn fcanon_inverse(
     ensures no_other_answer { game < 3 → 0 < result → result ≡ 2 }
     ensures kept { 0 < result → inverse.new ≡ inverse.old }
 {
-    match game {
-        0 => inverse_of::<FreeCell>(passage, inverse),
-        1 => inverse_of::<BakersGame>(passage, inverse),
-        2 => inverse_of::<EightOff>(passage, inverse),
-        _ => NO_GAME,
-    }
+    in_game!(game, inverse_of(passage, inverse))
 }
 
 /// The one passage, and then the next.
@@ -95,12 +78,7 @@ pub extern "C" fn fcanon_then(
     ensures no_other_answer { game < 3 → 0 < result → result ≡ 2 }
     ensures kept { 0 < result → both.new ≡ both.old }
 {
-    match game {
-        0 => then_of::<FreeCell>(first, next, both),
-        1 => then_of::<BakersGame>(first, next, both),
-        2 => then_of::<EightOff>(first, next, both),
-        _ => NO_GAME,
-    }
+    in_game!(game, then_of(first, next, both))
 }
 
 /// The board that the passage leads to.
@@ -119,10 +97,5 @@ pub extern "C" fn fcanon_image(
     ensures no_other_answer { game < 3 → 0 < result → (result ≡ 2) ⊎ (result ≡ 4) }
     ensures kept { 0 < result → image.new ≡ image.old }
 {
-    match game {
-        0 => image_of::<FreeCell>(passage, board, image),
-        1 => image_of::<BakersGame>(passage, board, image),
-        2 => image_of::<EightOff>(passage, board, image),
-        _ => NO_GAME,
-    }
+    in_game!(game, image_of(passage, board, image))
 }

@@ -4,8 +4,6 @@ ghost use Rattle.fc_bytes.specs.{AreMoves, AreRuns, HasChildren, HoldsBoard, Hol
 ghost use Rattle.fc_bytes.specs.{OfLegalMoves, OfLegalRuns};
 ghost use Rattle.fcanon_c.specs.{game_at, renamings_at};
 
-use fc_board::{BakersGame, EightOff, FreeCell};
-use fc_bytes::calls::answers::NO_GAME;
 use fc_bytes::calls::children::{children_of, moves_of};
 use fc_bytes::calls::run_moves::run_moves_of;
 use fc_bytes::{BoardBytes, MoveBytes, RunBytes};
@@ -27,12 +25,7 @@ pub extern "C" fn fcanon_moves(
     ensures no_other_answer { game < 3 → 0 < result → (result ≡ 4) ⊎ (result ≡ 9) }
     ensures kept { 0 < result → (moves.new ≡ moves.old) × (count.new ≡ count.old) }
 {
-    match game {
-        0 => moves_of::<FreeCell>(board, moves, count),
-        1 => moves_of::<BakersGame>(board, moves, count),
-        2 => moves_of::<EightOff>(board, moves, count),
-        _ => NO_GAME,
-    }
+    in_game!(game, moves_of(board, moves, count))
 }
 
 /// The moves of two and more cards that the game allows, each with its number of cards.
@@ -52,12 +45,7 @@ pub extern "C" fn fcanon_run_moves(
     ensures no_other_answer { game < 3 → 0 < result → (result ≡ 4) ⊎ (result ≡ 9) }
     ensures kept { 0 < result → (runs.new ≡ runs.old) × (count.new ≡ count.old) }
 {
-    match game {
-        0 => run_moves_of::<FreeCell>(board, runs, count),
-        1 => run_moves_of::<BakersGame>(board, runs, count),
-        2 => run_moves_of::<EightOff>(board, runs, count),
-        _ => NO_GAME,
-    }
+    in_game!(game, run_moves_of(board, runs, count))
 }
 
 /// The moves of one card that the game allows, and for each the canonical board after it.
@@ -79,10 +67,5 @@ pub extern "C" fn fcanon_children(
     ensures kept { 0 < result → (moves.new ≡ moves.old) × (keys.new ≡ keys.old)
         × (count.new ≡ count.old) }
 {
-    match game {
-        0 => children_of::<FreeCell>(board, moves, keys, count),
-        1 => children_of::<BakersGame>(board, moves, keys, count),
-        2 => children_of::<EightOff>(board, moves, keys, count),
-        _ => NO_GAME,
-    }
+    in_game!(game, children_of(board, moves, keys, count))
 }

@@ -3,9 +3,7 @@ ghost use Rattle.std.specs.Prelude.{◌<◌, ◌≡◌, ◌≤◌, length};
 ghost use Rattle.fc_bytes.specs.{HasHash, HasKey, HasNoBoardAt, HaveKeys, HoldsBoard, HoldsNone};
 ghost use Rattle.fcanon_c.specs.{game_at, renamings_at};
 
-use fc_board::{BakersGame, EightOff, FreeCell};
 use fc_bytes::BoardBytes;
-use fc_bytes::calls::answers::NO_GAME;
 use fc_bytes::calls::keys::{hash_of, key_of, keys_of};
 
 /// The canonical board, without the passage to it.
@@ -17,12 +15,7 @@ pub extern "C" fn fcanon_key(game: u32, board: &BoardBytes, key: &mut BoardBytes
     ensures no_other_answer { game < 3 → 0 < result → result ≡ 4 }
     ensures kept { 0 < result → key.new ≡ key.old }
 {
-    match game {
-        0 => key_of::<FreeCell>(board, key),
-        1 => key_of::<BakersGame>(board, key),
-        2 => key_of::<EightOff>(board, key),
-        _ => NO_GAME,
-    }
+    in_game!(game, key_of(board, key))
 }
 
 /// The hash of the canonical board.
@@ -34,12 +27,7 @@ pub extern "C" fn fcanon_hash(game: u32, board: &BoardBytes, hash: &mut [u8; 16]
     ensures no_other_answer { game < 3 → 0 < result → result ≡ 4 }
     ensures kept { 0 < result → hash.new ≡ hash.old }
 {
-    match game {
-        0 => hash_of::<FreeCell>(board, hash),
-        1 => hash_of::<BakersGame>(board, hash),
-        2 => hash_of::<EightOff>(board, hash),
-        _ => NO_GAME,
-    }
+    in_game!(game, hash_of(board, hash))
 }
 
 /// Makes each board its canonical one, up to the first that is none.
@@ -54,10 +42,5 @@ pub extern "C" fn fcanon_keys(game: u32, boards: &mut [BoardBytes], place: &mut 
     ensures kept { result ≡ 1 → boards.new ≡ boards.old }
     ensures no_place { result < 4 → place.new ≡ place.old }
 {
-    match game {
-        0 => keys_of::<FreeCell>(boards, place),
-        1 => keys_of::<BakersGame>(boards, place),
-        2 => keys_of::<EightOff>(boards, place),
-        _ => NO_GAME,
-    }
+    in_game!(game, keys_of(boards, place))
 }

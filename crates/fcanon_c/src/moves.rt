@@ -5,8 +5,6 @@ ghost use Rattle.fc_bytes.specs.{CarriesMove, HoldsBoard, HoldsFirstAlone, Holds
 ghost use Rattle.fc_bytes.specs.{HoldsPassage, LeadsToChild, PlaysMove, RefusesMove};
 ghost use Rattle.fcanon_c.specs.{game_at, renamings_at};
 
-use fc_board::{BakersGame, EightOff, FreeCell};
-use fc_bytes::calls::answers::NO_GAME;
 use fc_bytes::calls::moves::{carry_of, child_of, play_of};
 use fc_bytes::{BoardBytes, MoveBytes, PassageBytes};
 
@@ -23,12 +21,7 @@ pub extern "C" fn fcanon_carry(game: u32, passage: &PassageBytes, mv: &mut MoveB
     ensures no_other_answer { game < 3 → 0 < result → (2 ≤ result) × (result ≤ 3) }
     ensures kept { 0 < result → mv.new ≡ mv.old }
 {
-    match game {
-        0 => carry_of::<FreeCell>(passage, mv),
-        1 => carry_of::<BakersGame>(passage, mv),
-        2 => carry_of::<EightOff>(passage, mv),
-        _ => NO_GAME,
-    }
+    in_game!(game, carry_of(passage, mv))
 }
 
 /// Moves one card.
@@ -45,12 +38,7 @@ pub extern "C" fn fcanon_play(game: u32, board: &mut BoardBytes, mv: &MoveBytes)
     ensures no_other_answer { game < 3 → 0 < result → result < 32 → (3 ≤ result) × (result ≤ 4) }
     ensures kept { 0 < result → board.new ≡ board.old }
 {
-    match game {
-        0 => play_of::<FreeCell>(board, mv),
-        1 => play_of::<BakersGame>(board, mv),
-        2 => play_of::<EightOff>(board, mv),
-        _ => NO_GAME,
-    }
+    in_game!(game, play_of(board, mv))
 }
 
 /// The canonical board of the board after a move, and the chosen passage to it.
@@ -74,10 +62,5 @@ pub extern "C" fn fcanon_child(
     ensures no_other_answer { game < 3 → 0 < result → result < 32 → (3 ≤ result) × (result ≤ 4) }
     ensures kept { 0 < result → (canonical.new ≡ canonical.old) × (passage.new ≡ passage.old) }
 {
-    match game {
-        0 => child_of::<FreeCell>(board, mv, canonical, passage),
-        1 => child_of::<BakersGame>(board, mv, canonical, passage),
-        2 => child_of::<EightOff>(board, mv, canonical, passage),
-        _ => NO_GAME,
-    }
+    in_game!(game, child_of(board, mv, canonical, passage))
 }

@@ -6,8 +6,6 @@ ghost use Rattle.fc_bytes.specs.{HoldsNone, HoldsPassage, HoldsRun, NamesColumn,
 ghost use Rattle.fc_bytes.specs.{PlaysMove, RefusesMove};
 ghost use Rattle.fcanon_c.specs.{game_at};
 
-use fc_board::{BakersGame, EightOff, FreeCell};
-use fc_bytes::calls::answers::NO_GAME;
 use fc_bytes::calls::runs::{capacity_of, carry_of, expand_of, play_of};
 use fc_bytes::{BoardBytes, MoveBytes, PassageBytes, RunBytes};
 
@@ -22,12 +20,7 @@ pub extern "C" fn fcanon_capacity(game: u32, board: &BoardBytes, to: u8, cards: 
     ensures no_other_answer { game < 3 → 0 < result → (result ≡ 4) ⊎ (result ≡ 8) }
     ensures kept { 0 < result → cards.new ≡ cards.old }
 {
-    match game {
-        0 => capacity_of::<FreeCell>(board, to, cards),
-        1 => capacity_of::<BakersGame>(board, to, cards),
-        2 => capacity_of::<EightOff>(board, to, cards),
-        _ => NO_GAME,
-    }
+    in_game!(game, capacity_of(board, to, cards))
 }
 
 /// Makes a move of several cards the one of the same cards on the board that the passage leads to.
@@ -43,12 +36,7 @@ pub extern "C" fn fcanon_carry_run(game: u32, passage: &PassageBytes, run: &mut 
     ensures no_other_answer { game < 3 → 0 < result → (2 ≤ result) × (result ≤ 3) }
     ensures kept { 0 < result → run.new ≡ run.old }
 {
-    match game {
-        0 => carry_of::<FreeCell>(passage, run),
-        1 => carry_of::<BakersGame>(passage, run),
-        2 => carry_of::<EightOff>(passage, run),
-        _ => NO_GAME,
-    }
+    in_game!(game, carry_of(passage, run))
 }
 
 /// Moves one card, or the last cards of a column to another.
@@ -65,12 +53,7 @@ pub extern "C" fn fcanon_play_run(game: u32, board: &mut BoardBytes, run: &RunBy
     ensures no_other_answer { game < 3 → 0 < result → result < 32 → (3 ≤ result) × (result ≤ 4) }
     ensures kept { 0 < result → board.new ≡ board.old }
 {
-    match game {
-        0 => play_of::<FreeCell>(board, run),
-        1 => play_of::<BakersGame>(board, run),
-        2 => play_of::<EightOff>(board, run),
-        _ => NO_GAME,
-    }
+    in_game!(game, play_of(board, run))
 }
 
 /// The moves of one card, one after another, that do what the move of several does.
@@ -96,10 +79,5 @@ pub extern "C" fn fcanon_expand(
         → (result ≡ 3) ⊎ (result ≡ 4) ⊎ (result ≡ 9) }
     ensures kept { 0 < result → (moves.new ≡ moves.old) × (count.new ≡ count.old) }
 {
-    match game {
-        0 => expand_of::<FreeCell>(board, run, moves, count),
-        1 => expand_of::<BakersGame>(board, run, moves, count),
-        2 => expand_of::<EightOff>(board, run, moves, count),
-        _ => NO_GAME,
-    }
+    in_game!(game, expand_of(board, run, moves, count))
 }

@@ -2,9 +2,7 @@
 ghost use Rattle.std.specs.Prelude.{◌<◌, ◌≡◌, ◌≤◌};
 ghost use Rattle.{fc_bytes.specs.{HasSymmetries, HoldsBoard, HoldsNone}, fcanon_c.specs.{game_at}};
 
-use fc_board::{BakersGame, EightOff, FreeCell};
 use fc_bytes::BoardBytes;
-use fc_bytes::calls::answers::NO_GAME;
 use fc_bytes::calls::symmetry::symmetries_of;
 
 /// The renamings that with some orders lead from the board to itself.
@@ -22,10 +20,5 @@ pub extern "C" fn fcanon_symmetries(
     ensures no_other_answer { game < 3 → 0 < result → result ≡ 4 }
     ensures kept { 0 < result → (suits.new ≡ suits.old) × (count.new ≡ count.old) }
 {
-    match game {
-        0 => symmetries_of::<FreeCell>(board, suits, count),
-        1 => symmetries_of::<BakersGame>(board, suits, count),
-        2 => symmetries_of::<EightOff>(board, suits, count),
-        _ => NO_GAME,
-    }
+    in_game!(game, symmetries_of(board, suits, count))
 }

@@ -3,7 +3,7 @@ ghost use Rattle.std.specs.Prelude.{◌<◌, ◌≡◌, ◌≤◌};
 ghost use Rattle.{fc_deal.specs.{IsDealNumber}, fcanon_c.specs.{DealsBoard, game_at}};
 ghost use Rattle.fc_bytes.specs.{HasFault, HoldsBoard, HoldsNone, ReadsText, WritesText};
 
-use fc_board::{BakersGame, EightOff, FreeCell};
+use fc_board::{BakersGame, FreeCell};
 use fc_bytes::BoardBytes;
 use fc_bytes::calls::answers::{DONE, NO_DEAL, NO_GAME};
 use fc_bytes::calls::texts::{read_of, write_of};
@@ -34,12 +34,7 @@ pub extern "C" fn fcanon_read(
     ensures kept { 0 < result → board.new ≡ board.old }
     ensures no_place { result < 64 → place.new ≡ place.old }
 {
-    match game {
-        0 => read_of::<FreeCell>(text, board, place),
-        1 => read_of::<BakersGame>(text, board, place),
-        2 => read_of::<EightOff>(text, board, place),
-        _ => NO_GAME,
-    }
+    in_game!(game, read_of(text, board, place))
 }
 
 /// The printed text of a board, and 0 after it.
@@ -51,12 +46,7 @@ pub extern "C" fn fcanon_write(game: u32, board: &BoardBytes, text: &mut [u8; 25
     ensures no_other_answer { game < 3 → 0 < result → result ≡ 4 }
     ensures kept { 0 < result → text.new ≡ text.old }
 {
-    match game {
-        0 => write_of::<FreeCell>(board, text),
-        1 => write_of::<BakersGame>(board, text),
-        2 => write_of::<EightOff>(board, text),
-        _ => NO_GAME,
-    }
+    in_game!(game, write_of(board, text))
 }
 
 /// The board of Microsoft's deal with this number. Eight Off has none.
