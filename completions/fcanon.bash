@@ -24,7 +24,7 @@ _fcanon() {
         table.*) words='--variant --any-size --from-record --from-byte --json --header -h --help' ;;
         same.*) words='--variant --any-size -h --help' ;;
         count.*) words='--variant --any-size --json -h --help' ;;
-        import.*) words='--variant --columns --rows -h --help' ;;
+        import.*) words='--variant --columns --rows --explain --strict -h --help' ;;
         deal.*) words='--variant -h --help' ;;
         *) words='--variant --any-size --from-record --from-byte -h --help' ;;
         esac

@@ -24,5 +24,7 @@ complete -c fcanon -n '__fish_seen_subcommand_from table count' -l json -d 'Prin
 complete -c fcanon -n '__fish_seen_subcommand_from table' -l header -d 'Print a line with the names of the columns first'
 complete -c fcanon -n '__fish_seen_subcommand_from import' -l columns -d 'Take lines of cards for columns, where they may be rows as well'
 complete -c fcanon -n '__fish_seen_subcommand_from import' -l rows -d 'Take lines of cards for rows, where they may be columns as well'
+complete -c fcanon -n '__fish_seen_subcommand_from import' -l explain -d 'Note also each board and list that is written in another spelling, as TH for 10h'
+complete -c fcanon -n '__fish_seen_subcommand_from import' -l strict -d 'Note the same as with --explain, and end with status 1 if anything is noted'
 complete -c fcanon -n '__fish_seen_subcommand_from deal' -x -l variant -a 'freecell bakers_game' -d 'The game that is dealt'
 complete -c fcanon -n '__fish_seen_subcommand_from help' -a 'show canon check group share expand unique table same symmetries count import deal help'

@@ -4,4 +4,5 @@ pub mod QuietLemmas
 pub mod RunLemmas
 pub mod SignLemmas
 pub mod SilenceLemmas
+pub mod StrictLemmas
 pub mod TakingLemmas

@@ -1,21 +1,19 @@
 -- Lemmas on the names that headers give.
 use Rattle.std.proofs.Common.{◌++◌, ◌+◌, ◌∙◌, ◌∷◌, ◌≡◌, ◌≤◌, [], All, ap, arith, Bool, cond, drop}
-use Rattle.std.proofs.Common.{false, if◌then◌else◌, length, List, map, not, refl, subst, suc, sym, take, true, ℕ}
-use Rattle.std.proofs.lemmas.Bool.{eqb-true}
-use Rattle.std.proofs.lemmas.List.Elements.{All-head, All-tail}
-use Rattle.std.proofs.lemmas.List.Sums.{fold-append}
+use Rattle.std.proofs.Common.{false, if◌then◌else◌, length, List, map, not, refl, subst, suc, sym}
+use Rattle.std.proofs.{Common.{take, true, ℕ}, lemmas.Bool.{eqb-true}}
+use Rattle.std.proofs.lemmas.List.{Elements.{All-head, All-tail}, Sums.{fold-append}}
 use Rattle.std.specs.List.{before_first, fold, position_or_len}
-use Rattle.fc_board.specs.Games.{Game}
-use Rattle.fc_board.specs.declared.rule.Variant.{Variant}
-use Rattle.fc_text.specs.Bytes.{is_gap}
+use Rattle.fc_board.specs.{declared.rule.Variant.{Variant}, Games.{Game}}
+use Rattle.fc_text.{proofs.LineLemmas.{lines_from-moved}, specs.Bytes.{is_gap}}
 use Rattle.fc_text.specs.Lines.{in_line, lines_from, moved, Piece, trim_carriage_return, words_from}
-use Rattle.fc_text.proofs.LineLemmas.{lines_from-moved}
+use Rattle.fc_record.proofs.TextLineLemmas.{lines_after}
 use Rattle.fc_record.specs.Grammar.{begins_with, heading_of, heading_of_words, is_line_feed}
 use Rattle.fc_record.specs.RecordTexts.{ends_line, header_mark}
-use Rattle.fc_record.proofs.TextLineLemmas.{lines_after}
 use Rattle.fc_import.specs.Import.{a_board, a_list, headed, Imported, left_out, none_yet, once_more}
 use Rattle.fc_import.specs.Import.{one_more, passed, Reading, refused_board, refused_list}
 use Rattle.fc_import.specs.Notes.{name_by, State}
+use Rattle.fc_import.specs.declared.changes.Noted.{Noted}
 
 -- ---- the first line of a text
 
@@ -98,13 +96,13 @@ module _ (variant : Variant) where
   same_name : {game : Game} {state : State} {piece : List ℕ} {next : State} {written said : List ℕ} → Reading variant game state piece next written said → next.place.name ≡ state.place.name
   same_name (passed quiet) = refl
   same_name (left_out said names prose note) = refl
-  same_name (a_board name board said named well can how) = refl
-  same_name (once_more board said last how) = refl
-  same_name (a_list board list said last legal how) = refl
+  same_name (a_board name board said named well can of says) = refl
+  same_name (once_more board said last of says) = refl
+  same_name (a_list board list said last legal says) = refl
   same_name (refused_board said note) = refl
   same_name (refused_list last said stays note) = refl
 
-  pub names : {game : Game} {text : List ℕ} {state : State} {written said : List ℕ} → Imported variant game text state written said
+  pub names : {noted : Noted} {game : Game} {text : List ℕ} {state : State} {written said : List ℕ} → Imported variant noted game text state written said
       → state.place.name ≡ fold name_after [] (lines_from 0 text)
   names none_yet = refl
   names (headed text state written said so_far ends line heading) =

@@ -1,31 +1,30 @@
 -- Lemmas on reading the input, and on how a run ends after it.
-use Rattle.std.proofs.Common.{◌++◌, ◌+◌, ◌<◌, ◌↔◌, ◌∙◌, ◌∷◌, ◌≡◌, ◌≢◌, ◌≤◌, [], All, ap, append-nil, arith}
-use Rattle.std.proofs.Common.{Bool, Err, false, length, length-append, List, None, Ok, Option, refl}
-use Rattle.std.proofs.Common.{Result, Some, subst, subst₂, sym, true, ℕ}
+use Rattle.std.proofs.Common.{◌++◌, ◌+◌, ◌<◌, ◌↔◌, ◌∙◌, ◌∷◌, ◌≡◌, ◌≢◌, ◌≤◌, [], All, ap, append-nil}
+use Rattle.std.proofs.Common.{arith, Bool, Err, false, length, length-append, List, None, Ok}
+use Rattle.std.proofs.Common.{Option, refl, Result, Some, subst, subst₂, sym, true, ℕ}
 use Rattle.std.proofs.KnownBytes.{Consumes-trans}
 use Rattle.std.proofs.lemmas.List.Elements.{All-append, All-cons, All-head, All-nil}
-use Rattle.std.specs.Io.KnownBytes.{Consumes}
-use Rattle.std.specs.Prelude.{⊤}
-use Rattle.fc_board.proofs.BoardLemmas.{All-left, All-right}
-use Rattle.fc_board.specs.Games.{game_of}
+use Rattle.std.specs.{Io.KnownBytes.{Consumes}, Prelude.{⊤}}
+use Rattle.fc_board.{proofs.BoardLemmas.{All-left, All-right}, specs.Games.{game_of}}
+use Rattle.fc_board.specs.declared.rule.Variant.{Variant}
 use Rattle.fc_record.specs.{Printing.{is_refused}, RecordTexts.{RecordText}}
+use Rattle.fc_collect.proofs.RecordLemmas.{cut-append, cut-induction}
 use Rattle.fc_collect.specs.Limits.{most_bytes, most_reads, standard}
 use Rattle.fc_collect.specs.Promises.{IsSmall, IsWithinLimits, ReadsAsCounted, ResultFits}
 use Rattle.fc_collect.specs.Records.{begun, cut, finished, first_of}
 use Rattle.fc_collect.specs.Runs.{ending_of_kind, output_of_kind, TransfersWithin}
 use Rattle.fc_collect.specs.Streams.{CallCounts, GrowsBy}
-use Rattle.fc_import.specs.Import.{collection, Imported, IsShown, Makes, no_board, no_board_line}
-use Rattle.fc_import.specs.Import.{refusals, too_much, too_much_line, with_tally}
-use Rattle.fc_import.specs.{Notes.{counted, State}, Words.{text_read}}
-use Rattle.fc_board.specs.declared.rule.Variant.{Variant}
+use Rattle.fc_collect.specs.declared.commands.RunKind.TheVariants.{Show}
 use Rattle.fc_collect.specs.declared.streams.{counted.Counted.{Counted}, faults.RunFault.{RunFault}}
 use Rattle.fc_collect.specs.declared.streams.faults.RunFault.TheVariants.{Memory, Read}
 use Rattle.fc_collect.specs.declared.streams.faults.RunFault.TheVariants.{ReaderNeverEnds, TooLarge}
 use Rattle.fc_collect.specs.declared.streams.faults.RunFault.TheVariants.{Write}
 use Rattle.fc_collect.specs.declared.streams.faults.Summary.{Summary}
-use Rattle.fc_collect.proofs.RecordLemmas.{cut-append, cut-induction}
-use Rattle.fc_collect.specs.declared.commands.RunKind.TheVariants.{Show}
+use Rattle.fc_import.specs.Import.{collection, Imported, IsShown, Makes, no_board, no_board_line}
+use Rattle.fc_import.specs.Import.{refusals, refused_by, too_much, too_much_line, with_tally}
 use Rattle.fc_import.specs.inside.{more_counts, MoreFits, ReadsMore, ReadsToEnd}
+use Rattle.fc_import.specs.{Notes.{counted, State}, Words.{text_read}}
+use Rattle.fc_import.specs.declared.changes.Noted.{Noted}
 
 -- ---- reading the input
 
@@ -147,28 +146,42 @@ module _ (variant : Variant) (text : List ℕ) (records : ℕ) (shown : IsShown 
 
 -- ---- what is made
 
-module _ (variant : Variant) (bytes made said : List ℕ) (summary : Summary) where
+module _ (variant : Variant) (noted : Noted) (bytes made said : List ℕ) (summary : Summary) where
   -- the text has no board
-  pub nothing_made : (state : State) (text notes : List ℕ) → Imported variant (game_of variant) (text_read bytes) state text notes → text ≡ [] → refusals state.tally ≡ 0
-      → made ≡ [] → said ≡ with_tally state.tally notes ++ no_board_line → summary.records ≡ 1 → summary.refused ≡ 1 → Makes variant bytes made said summary
+  pub nothing_made : (state : State) (text notes : List ℕ)
+      → Imported variant noted (game_of variant) (text_read bytes) state text notes → text ≡ []
+      → refusals state.tally ≡ 0
+      → made ≡ [] → said ≡ with_tally state.tally notes ++ no_board_line → summary.records ≡ 1 → summary.refused ≡ 1
+      → Makes variant noted bytes made said summary
   nothing_made state text notes imported nothing none made_is said_is records refused =
-      subst₂ (λ made said. Makes variant bytes made said summary) (sym made_is) (sym said_is)
-      (subst₂ (λ records refused. Makes variant bytes [] (with_tally state.tally notes ++ no_board_line) (record { records = records; refused = refused })) (sym records) (sym refused)
-      (no_board state notes (subst (λ text. Imported variant (game_of variant) (text_read bytes) state text notes) nothing imported) none))
+      subst₂ (λ made said. Makes variant noted bytes made said summary) (sym made_is) (sym said_is)
+      (subst₂ (λ records refused. Makes variant noted bytes [] (with_tally state.tally notes ++ no_board_line)
+      (record { records = records; refused = refused })) (sym records) (sym refused)
+      (no_board state notes
+      (subst (λ text. Imported variant noted (game_of variant) (text_read bytes) state text notes) nothing
+      imported) none))
 
   -- more is made of it than `show` takes
-  pub unshown_made : (state : State) (text notes : List ℕ) → Imported variant (game_of variant) (text_read bytes) state text notes → ((records : ℕ) → ¬ IsShown variant text records)
-      → made ≡ [] → said ≡ notes ++ too_much_line → summary.records ≡ 1 → summary.refused ≡ 1 → Makes variant bytes made said summary
+  pub unshown_made : (state : State) (text notes : List ℕ)
+      → Imported variant noted (game_of variant) (text_read bytes) state text notes
+      → ((records : ℕ) → ¬ IsShown variant text records)
+      → made ≡ [] → said ≡ notes ++ too_much_line → summary.records ≡ 1 → summary.refused ≡ 1
+      → Makes variant noted bytes made said summary
   unshown_made state text notes imported unshown made_is said_is records refused =
-      subst₂ (λ made said. Makes variant bytes made said summary) (sym made_is) (sym said_is)
-      (subst₂ (λ records refused. Makes variant bytes [] (notes ++ too_much_line) (record { records = records; refused = refused })) (sym records) (sym refused)
+      subst₂ (λ made said. Makes variant noted bytes made said summary) (sym made_is) (sym said_is)
+      (subst₂ (λ records refused. Makes variant noted bytes [] (notes ++ too_much_line)
+      (record { records = records; refused = refused })) (sym records) (sym refused)
       (too_much state text notes imported unshown))
 
   -- a collection is made of it
-  pub collection_made : (state : State) (notes : List ℕ) (records refused : ℕ) → Imported variant (game_of variant) (text_read bytes) state made notes → IsShown variant made records
-      → refused ≡ refusals state.tally → said ≡ with_tally state.tally notes → summary.records ≡ counted (records + refused) → summary.refused ≡ refused → Makes variant bytes made said summary
+  pub collection_made : (state : State) (notes : List ℕ) (records refused : ℕ)
+      → Imported variant noted (game_of variant) (text_read bytes) state made notes → IsShown variant made records
+      → refused ≡ refused_by noted state.tally notes → said ≡ with_tally state.tally notes
+      → summary.records ≡ counted (records + refused) → summary.refused ≡ refused
+      → Makes variant noted bytes made said summary
   collection_made state notes records refused imported shown refused_is said_is records_are refused_are =
-      subst (λ said. Makes variant bytes made said summary) (sym said_is)
-      (subst₂ (λ records refused. Makes variant bytes made (with_tally state.tally notes) (record { records = records; refused = refused }))
-      (sym (records_are ∙ ap (λ refused. counted (records + refused)) refused_is)) (sym (refused_are ∙ refused_is))
-      (collection state made notes records imported shown))
+      subst (λ said. Makes variant noted bytes made said summary) (sym said_is)
+      (subst₂ (λ records refused. Makes variant noted bytes made (with_tally state.tally notes)
+      (record { records = records; refused = refused }))
+      (sym records_are) (sym refused_are)
+      (collection state made notes records imported shown refused refused_is))

@@ -1,25 +1,21 @@
 -- Lemmas on texts of which nothing is said.
-use Rattle.std.proofs.Common.{◌++◌, ◌+◌, ◌∙◌, ◌∷◌, ◌≡◌, ◌≢◌, ◌≤◌, [], All, ap, ap₂, arith}
-use Rattle.std.proofs.Common.{length, List, map, None, refl}
-use Rattle.std.proofs.Common.{subst, sym, true, ℕ}
-use Rattle.std.proofs.lemmas.Bool.{eqb-true}
-use Rattle.std.proofs.lemmas.Grind.{flat_map-append}
-use Rattle.std.proofs.lemmas.List.Elements.{All-head, All-tail}
+use Rattle.std.proofs.Common.{◌++◌, ◌+◌, ◌∙◌, ◌∷◌, ◌≡◌, ◌≢◌, ◌≤◌, [], All, ap, ap₂, arith, length}
+use Rattle.std.proofs.{Common.{List, map, None, refl, subst, sym, true, ℕ}, lemmas.Bool.{eqb-true}}
+use Rattle.std.proofs.lemmas.{Grind.{flat_map-append}, List.Elements.{All-head, All-tail}}
 use Rattle.std.specs.List.{flat_map}
-use Rattle.fc_board.specs.Games.{Game}
+use Rattle.{fc_board.specs.Games.{Game}, fc_import.specs.declared.changes.Noted.{Noted}}
+use Rattle.fc_board.specs.declared.rule.Variant.TheVariants.{BakersGame, EightOff, FreeCell}
+use Rattle.fc_board.specs.declared.rule.Variant.{Variant}
+use Rattle.fc_text.proofs.LineLemmas.{lines_from-moved}
 use Rattle.fc_text.specs.{Lines.{in_line, lines_from, moved, Piece}, Printed.{text_of}}
-use Rattle.fc_record.specs.{Grammar.{begins_with}, Printing.{header_text}}
-use Rattle.fc_record.specs.RecordTexts.{ends_line, header_mark}
+use Rattle.fc_record.{proofs.TextLineLemmas.{lines_after}, specs.Grammar.{begins_with}}
+use Rattle.fc_record.specs.{Printing.{header_text}, RecordTexts.{ends_line, header_mark}}
 use Rattle.fc_import.specs.Import.{a_board, a_list, headed, Imported, IsQuiet, left_out, none_yet}
 use Rattle.fc_import.specs.Import.{once_more, one_more, passed, Reading, refused_board}
 use Rattle.fc_import.specs.{Import.{refused_list}, Notes.{counted, IsNote, Place, State}}
 use Rattle.fc_import.specs.Words.{named_cards, named_in}
-use Rattle.fc_board.specs.declared.rule.Variant.{Variant}
-use Rattle.fc_board.specs.declared.rule.Variant.TheVariants.{BakersGame, EightOff, FreeCell}
-use Rattle.fc_text.proofs.LineLemmas.{lines_from-moved}
-use Rattle.fc_record.proofs.TextLineLemmas.{lines_after}
 
-both_empty : {A : Type 0} (xs ys : List A) → xs ++ ys ≡ [] → (xs ≡ []) × (ys ≡ [])
+pub both_empty : {A : Type 0} (xs ys : List A) → xs ++ ys ≡ [] → (xs ≡ []) × (ys ≡ [])
 both_empty [] ys none = (refl, none)
 both_empty (x ∷ xs) ys none = absurd (cc)
 
@@ -39,13 +35,17 @@ AllTaken state = (state.tally.refused_boards ≡ 0) × (state.tally.refused_list
 still_taken : {variant : Variant} {game : Game} {state : State} {piece : List ℕ} {next : State} {written said : List ℕ} → Reading variant game state piece next written said → said ≡ [] → AllTaken state → AllTaken next
 still_taken (passed quiet) silent (boards, lists, lines) = (none_more _ boards, none_more _ lists, none_more _ lines)
 still_taken (left_out said names prose note) silent before = absurd (note_said _ _ said note silent)
-still_taken (a_board name board said named well can how) silent (boards, lists, lines) = (none_more _ boards, none_more _ lists, none_more _ lines)
-still_taken (once_more board said last how) silent (boards, lists, lines) = (none_more _ boards, none_more _ lists, none_more _ lines)
-still_taken (a_list board list said last legal how) silent (boards, lists, lines) = (none_more _ boards, none_more _ lists, none_more _ lines)
+still_taken (a_board name board said named well can of says) silent (boards, lists, lines) =
+    (none_more _ boards, none_more _ lists, none_more _ lines)
+still_taken (once_more board said last of says) silent (boards, lists, lines) =
+    (none_more _ boards, none_more _ lists, none_more _ lines)
+still_taken (a_list board list said last legal says) silent (boards, lists, lines) =
+    (none_more _ boards, none_more _ lists, none_more _ lines)
 still_taken (refused_board said note) silent before = absurd (note_said _ _ said note silent)
 still_taken (refused_list last said stays note) silent before = absurd (note_said _ _ said note silent)
 
-pub all_taken : {variant : Variant} {game : Game} {text : List ℕ} {state : State} {written said : List ℕ} → Imported variant game text state written said → said ≡ [] → AllTaken state
+pub all_taken : {variant : Variant} {noted : Noted} {game : Game} {text : List ℕ} {state : State}
+    {written said : List ℕ} → Imported variant noted game text state written said → said ≡ [] → AllTaken state
 all_taken none_yet silent = (refl, refl, refl)
 all_taken (headed text state written said so_far ends line heading) silent = all_taken so_far silent
 all_taken (one_more text state written said so_far ends piece none next more says reading) silent =
@@ -100,13 +100,16 @@ none_lost : {variant : Variant} {game : Game} {state : State} {piece : List ℕ}
     → state.last ≡ None → NoneLost next piece
 none_lost {game = game} {piece = piece} (passed quiet) nothing silent alone = (alone, quiet_cards game (lines_from 0 piece) quiet)
 none_lost (left_out said names prose note) nothing silent alone = absurd (note_said _ _ said note silent)
-none_lost {variant = variant} (a_board name board said named well can how) nothing silent alone = absurd (header_written variant name (text_of board) nothing)
-none_lost (once_more board said last how) nothing silent alone = absurd (let e = sym alone ∙ last in cc)
-none_lost (a_list board list said last legal how) nothing silent alone = absurd (let e = sym alone ∙ last in cc)
+none_lost {variant = variant} (a_board name board said named well can of says) nothing silent alone =
+    absurd (header_written variant name (text_of board) nothing)
+none_lost (once_more board said last of says) nothing silent alone = absurd (let e = sym alone ∙ last in cc)
+none_lost (a_list board list said last legal says) nothing silent alone = absurd (let e = sym alone ∙ last in cc)
 none_lost (refused_board said note) nothing silent alone = absurd (note_said _ _ said note silent)
 none_lost (refused_list last said stays note) nothing silent alone = absurd (note_said _ _ said note silent)
 
-pub no_card_lost : {variant : Variant} {game : Game} {text : List ℕ} {state : State} {written said : List ℕ} → Imported variant game text state written said → written ≡ [] → said ≡ [] → NoneLost state text
+pub no_card_lost : {variant : Variant} {noted : Noted} {game : Game} {text : List ℕ} {state : State}
+    {written said : List ℕ} → Imported variant noted game text state written said → written ≡ [] → said ≡ []
+    → NoneLost state text
 no_card_lost none_yet nothing silent = (refl, refl)
 no_card_lost (headed text state written said so_far ends line heading) nothing silent =
     (refl, named_after text line ends ∙ ap₂ (λ first rest. first ++ rest) (no_card_lost so_far nothing silent).1 (header_cards line heading.mark heading.one))

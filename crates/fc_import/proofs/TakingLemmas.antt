@@ -1,21 +1,27 @@
 -- Lemmas on pieces of a text, and on the words of texts.
-use Rattle.std.proofs.Common.{◌++◌, ◌+◌, ◌<◌, ◌∙◌, ◌∷◌, ◌≡◌, ◌≤◌, ◌⊎◌, [], ap, append-nil, append_assoc}
-use Rattle.std.proofs.Common.{All, arith, Bool, drop, false, if◌then◌else◌, inl, inr, IsTrue, length, List, map, None}
-use Rattle.std.proofs.Common.{refl, subst, subst₂, sym, true, ℕ}
-use Rattle.std.proofs.lemmas.List.{at_drop_more, drop_all}
+use Rattle.std.proofs.Common.{◌++◌, ◌+◌, ◌<◌, ◌∙◌, ◌∷◌, ◌≡◌, ◌≤◌, ◌⊎◌, [], All, ap, append-nil}
+use Rattle.std.proofs.Common.{append_assoc, arith, Bool, drop, false, if◌then◌else◌, inl, inr}
+use Rattle.std.proofs.Common.{IsTrue, length, List, map, None, refl, Some, subst, subst₂, sym, true}
+use Rattle.std.proofs.{Common.{ℕ}, lemmas.List.{at_drop_more, drop_all}}
 use Rattle.std.proofs.lemmas.List.Elements.{All-cons, All-nil}
 use Rattle.std.proofs.lemmas.List.FromFn.{get_or-range_with_len, length-range_with_len}
 use Rattle.std.specs.List.{flat_map}
-use Rattle.fc_card.specs.{places}
-use Rattle.{fc_board.specs.Games.{Game}, fc_text.specs.Lines.{Piece, with_end}}
-use Rattle.fc_record.specs.RecordTexts.{ends_line}
-use Rattle.fc_import.specs.Import.{HasNoHeader, headed, Imported, IsHeading, none_yet, one_more}
-use Rattle.fc_import.specs.{Import.{Reading}, Notes.{first_state, State, tally_of}}
-use Rattle.fc_import.specs.Words.{is_between}
+use Rattle.{fc_board.specs.{Boards.{Board, IsWellFormed}, Games.{Game}}, fc_card.specs.{places}}
 use Rattle.fc_board.specs.declared.rule.Variant.{Variant}
-use Rattle.fc_import.specs.inside.{IsMade, printing, state_of, Takes, TakesName}
-use Rattle.fc_import.specs.declared.made.Made.{Made}
-use Rattle.fc_import.specs.declared.tally.{Fate.TheVariants.{Passed}, Tally.{Tally}}
+use Rattle.fc_text.proofs.ReadingLemmas.{faultless-from_Spells, Spells-board_of}
+use Rattle.fc_text.{proofs.SpellingLemmas.{spelled}, specs.Faults.{first_fault}}
+use Rattle.fc_text.specs.{Lines.{Piece, with_end}, Printed.{text_of}, Spelling.{Spells}}
+use Rattle.fc_text.specs.declared.fault.BoardFault.{BoardFault}
+use Rattle.fc_record.specs.{Printing.{header_text}, RecordTexts.{ends_line}}
+use Rattle.fc_import.specs.Import.{a_board, by_columns, CanBe, HasCards, HasNoHeader, headed}
+use Rattle.fc_import.specs.Import.{Imported, IsHeading, IsNamed, IsPacked, none_yet, once_more}
+use Rattle.fc_import.specs.Import.{one_more, Reading, SpellsOut, StandsAsBoard}
+use Rattle.fc_import.specs.inside.{IsMade, printing, Says, state_of, Takes, TakesName}
+use Rattle.fc_import.specs.Notes.{after, first_state, State, tally_of}
+use Rattle.fc_import.specs.Words.{is_between, named_lines}
+use Rattle.fc_import.specs.declared.changes.Noted.{Noted, TheVariants.{Changes, Doubts, Strict}}
+use Rattle.fc_import.specs.declared.{made.Made.{Made}, tally.Fate.TheVariants.{ABoard, Passed}}
+use Rattle.fc_import.specs.declared.tally.Tally.{Tally}
 
 -- words with the places of their ends are the same words
 pub without_ends : (words : List Piece) → map (λ left. left.0.bytes) (map with_end words) ≡ map (λ word. word.bytes) words
@@ -50,11 +56,16 @@ all_places of count place taken whole past is =
 -- ---- taking pieces of a text
 
 -- nothing was taken yet
-pub begun : (variant : Variant) (game : Game) (name written notes : List ℕ) (tally : Tally) → name ≡ [] → written ≡ [] → notes ≡ [] → tally ≡ tally_of Passed
-    → Imported variant game [] (record { last = None; place = record { name = name; header = 0; line = 1 }; named = 0; tally = tally }) written notes
-begun variant game name written notes tally no_name no_text silent none =
-    subst₂ (λ name tally. Imported variant game [] (record { last = None; place = record { name = name; header = 0; line = 1 }; named = 0; tally = tally }) written notes) (sym no_name) (sym none)
-    (subst₂ (Imported variant game [] first_state) (sym no_text) (sym silent) none_yet)
+abbrev state_begun : Noted → List ℕ → Tally → State
+state_begun asked name tally =
+    record { noted = asked; last = None; place = record { name = name; header = 0; line = 1 }; named = 0; tally = tally }
+
+pub begun : (variant : Variant) (asked : Noted) (game : Game) (name written notes : List ℕ) (tally : Tally) → name ≡ []
+    → written ≡ [] → notes ≡ [] → tally ≡ tally_of Passed
+    → Imported variant asked game [] (state_begun asked name tally) written notes
+begun variant asked game name written notes tally no_name no_text silent none =
+    subst₂ (λ name tally. Imported variant asked game [] (state_begun asked name tally) written notes) (sym no_name) (sym none)
+    (subst₂ (Imported variant asked game [] (first_state asked)) (sym no_text) (sym silent) none_yet)
 
 module _ {R : Type 0} (variant : Variant) (game : Game) (piece : List ℕ) (old new : Made R) (next : State) (state : state_of new ≡ next) where
   -- this is written, and this said
@@ -70,15 +81,66 @@ module _ {R : Type 0} (variant : Variant) (game : Game) (piece : List ℕ) (old 
   pub silent : Reading variant game (state_of old) piece next [] [] → new.written.items ≡ old.written.items → new.notes.items ≡ old.notes.items → Takes variant game piece old new
   silent reading written notes = noted [] reading written (notes ∙ sym (append-nil old.notes.items))
 
+-- ---- boards
+
+-- where `show` reads lines, they spell out no other board, unless they are that column by column
+pub read_alone : (game : Game) (piece : List ℕ) (read board : Board) → Spells game piece read
+    → ¬ ((named_lines piece ≡ by_columns board) × IsPacked board) → SpellsOut game piece board
+    → read ≡ board
+read_alone game piece read board spells turned (inl spelled) =
+    Spells-board_of game piece read spells ∙ sym (Spells-board_of game piece board spelled)
+read_alone game piece read board spells turned (inr columns) = absurd (turned columns)
+
+-- and where it finds a fault, none
+pub none_read : (game : Game) (piece : List ℕ) (board : Board) (fault : BoardFault)
+    → first_fault game piece ≡ Some fault → ¬ ((named_lines piece ≡ by_columns board) × IsPacked board)
+    → ¬ SpellsOut game piece board
+none_read game piece board fault is turned (inl spelled) =
+    absurd (let e = sym is ∙ faultless-from_Spells game piece board spelled in cc)
+none_read game piece board fault is turned (inr columns) = absurd (turned columns)
+
+-- lines that stand as a board spell it out
+pub spelled_out : (asked : Noted) (game : Game) (piece : List ℕ) (board : Board) → IsWellFormed game board
+    → StandsAsBoard asked game piece board → SpellsOut game piece board
+spelled_out Doubts game piece board well stands = stands
+spelled_out Changes game piece board well stands = inl (spelled game board piece well stands)
+spelled_out Strict game piece board well stands = inl (spelled game board piece well stands)
+
+module _ {R : Type 0} (variant : Variant) (game : Game) (piece : List ℕ) (board : Board) (old said new : Made R)
+    (of : SpellsOut game piece board ⊎ HasCards piece board) (says : Says game piece board old said) where
+  -- what is to be said of a board was said, and the board was written
+  pub board_taken : IsWellFormed game board → CanBe game piece board
+      → state_of new ≡ after (state_of said) piece (Some board) ABoard
+      → (name : List ℕ) × IsNamed (state_of said) name
+      × (new.written.items ≡ said.written.items ++ (header_text variant name ++ text_of board))
+      → new.notes.items ≡ said.notes.items → Takes variant game piece old new
+  board_taken well can state (name, named, written) notes =
+      taken variant game piece old new (after (state_of old) piece (Some board) ABoard)
+      (state ∙ ap (λ state. after state piece (Some board) ABoard) says.state)
+      (header_text variant name ++ text_of board) says.said
+      (a_board name board says.said (subst (λ state. IsNamed state name) says.state named) well can of says.is)
+      (written ∙ ap (λ text. text ++ (header_text variant name ++ text_of board)) says.written) (notes ∙ says.notes)
+
+  -- or it is the last one once more
+  pub last_taken : old.last ≡ Some board → state_of new ≡ after (state_of said) piece said.last Passed
+      → new.written.items ≡ said.written.items → new.notes.items ≡ said.notes.items
+      → Takes variant game piece old new
+  last_taken last state written notes =
+      noted variant game piece old new (after (state_of old) piece old.last Passed)
+      (state ∙ ap (λ state. after state piece state.last Passed) says.state)
+      says.said (once_more board says.said last of says.is) (written ∙ says.written) (notes ∙ says.notes)
+
 -- one header or one piece more was taken
-pub one_taken_more : {R : Type 0} (variant : Variant) (game : Game) (text piece : List ℕ) (old new : Made R) → ends_line text ≡ true → IsMade variant game text old
-    → (IsHeading piece × TakesName variant piece old new) ⊎ (HasNoHeader piece × Takes variant game piece old new) → IsMade variant game (text ++ piece) new
-one_taken_more variant game text line old new ends made (inl (heading, name)) =
-    subst₂ (Imported variant game (text ++ line) (state_of new)) (sym name.written) (sym name.notes)
-    (subst (λ state. Imported variant game (text ++ line) state old.written.items old.notes.items) (sym name.state)
+pub one_taken_more : {R : Type 0} (variant : Variant) (asked : Noted) (game : Game) (text piece : List ℕ)
+    (old new : Made R) → ends_line text ≡ true → IsMade variant asked game text old
+    → (IsHeading piece × TakesName variant piece old new) ⊎ (HasNoHeader piece × Takes variant game piece old new)
+    → IsMade variant asked game (text ++ piece) new
+one_taken_more variant asked game text line old new ends made (inl (heading, name)) =
+    subst₂ (Imported variant asked game (text ++ line) (state_of new)) (sym name.written) (sym name.notes)
+    (subst (λ state. Imported variant asked game (text ++ line) state old.written.items old.notes.items) (sym name.state)
     (headed text (state_of old) old.written.items old.notes.items made ends line heading))
-one_taken_more variant game text piece old new ends made (inr (none, (more, says, reading, written, notes))) =
-    subst₂ (Imported variant game (text ++ piece) (state_of new)) (sym written) (sym notes)
+one_taken_more variant asked game text piece old new ends made (inr (none, (more, says, reading, written, notes))) =
+    subst₂ (Imported variant asked game (text ++ piece) (state_of new)) (sym written) (sym notes)
     (one_more text (state_of old) old.written.items old.notes.items made ends piece none (state_of new) more says reading)
 
 -- ---- notes

@@ -17,9 +17,10 @@ use Rattle.fc_collect.specs.declared.commands.RunKind.TheVariants.{Show}
 use Rattle.fc_collect.specs.declared.streams.faults.RunFault.{RunFault}
 use Rattle.fc_collect.specs.declared.streams.faults.RunFault.TheVariants.{TooLarge, Write}
 use Rattle.fc_collect.specs.declared.streams.faults.Summary.{Summary}
-use Rattle.fc_import.specs.Notes.{after, after_heading, counted, first_state, IsNote, State}
-use Rattle.fc_import.specs.Words.{ended, is_list, named_cards, named_in, named_lines, named_moves}
-use Rattle.fc_import.specs.Words.{text_read, words_of_line}
+use Rattle.fc_import.specs.Notes.{after, after_heading, counted, first_state, IsNote, line_feeds}
+use Rattle.fc_import.specs.{Notes.{SaysUnless, State}, Words.{ended, is_list, named_cards}}
+use Rattle.fc_import.specs.Words.{named_in, named_lines, named_moves, text_read, words_of_line}
+use Rattle.fc_import.specs.declared.changes.Noted.{Noted, TheVariants.{Doubts, Strict}}
 use Rattle.fc_import.specs.declared.tally.Fate.TheVariants.{ABoard, AList, LeftOut, Passed}
 use Rattle.fc_import.specs.declared.tally.Fate.TheVariants.{RefusedBoard, RefusedList}
 use Rattle.fc_import.specs.declared.tally.Tally.{Tally}
@@ -52,6 +53,16 @@ pub record IsPacked (board : Board) : Type 0 where
 -- `show` reads the lines as the board; or each line that names cards names those of the cells or of the next column, and none of these is empty
 abbrev pub SpellsOut : Game → (piece : List ℕ) → Board → Type 0
 SpellsOut game piece board = Spells game piece board ⊎ ((named_lines piece ≡ by_columns board) × IsPacked board)
+
+-- what the lines are where nothing is noted of a board that they are read as: they spell it out or, where each change is noted, they are it as it is printed
+abbrev pub StandsAsBoard : Noted → Game → (piece : List ℕ) → Board → Type 0
+StandsAsBoard Doubts game piece board = SpellsOut game piece board
+StandsAsBoard noted game piece board = piece ≡ text_of board
+
+-- and of a list of moves: they name its moves or, where each change is noted, they are its line
+abbrev pub StandsAsList : Noted → Game → (piece : List ℕ) → MoveList → Type 0
+StandsAsList Doubts game piece list = named_moves game piece ≡ named_moves game (list_line list)
+StandsAsList noted game piece list = piece ≡ list_line list
 
 -- the lines name the cards of the board in order, those of the cells first or last: column by column, or row by row
 abbrev pub HasCards : (piece : List ℕ) → Board → Type 0
@@ -119,17 +130,17 @@ pub data Reading (variant : Variant) (game : Game) (state : State) (piece : List
   passed : All (λ line. IsQuiet game line.bytes) (lines_from 0 piece) → Reading variant game state piece (after state piece state.last Passed) [] []
   -- a line of prose that names cards
   left_out : (said : List ℕ) → named_in piece ≢ [] → All (λ line. IsProse game line.bytes) (lines_from 0 piece) → IsNote state.place piece said → Reading variant game state piece (after state piece state.last LeftOut) [] said
-  -- a board: nothing is said of one that its lines spell out
+  -- a board, which the lines spell out or have the cards of: nothing is said of one that stands there
   a_board : (name : List ℕ) (board : Board) (said : List ℕ) → IsNamed state name → IsWellFormed game board → CanBe game piece board
-      → ((said ≡ []) × SpellsOut game piece board) ⊎ (IsNote state.place piece said × HasCards piece board)
+      → SpellsOut game piece board ⊎ HasCards piece board → SaysUnless (StandsAsBoard state.noted game piece board) state.place piece said
       → Reading variant game state piece (after state piece (Some board) ABoard) (header_text variant name ++ text_of board) said
-  -- the last board once more, as solvers draw it before its solution: nothing is said of one that the lines spell out
+  -- the last board once more, as solvers draw it before its solution: nothing is said of one that stands there
   once_more : (board : Board) (said : List ℕ) → state.last ≡ Some board
-      → ((said ≡ []) × SpellsOut game piece board) ⊎ (IsNote state.place piece said × HasCards piece board)
+      → SpellsOut game piece board ⊎ HasCards piece board → SaysUnless (StandsAsBoard state.noted game piece board) state.place piece said
       → Reading variant game state piece (after state piece state.last Passed) [] said
-  -- a list of moves that is legal on the last board: nothing is said of one whose moves the lines name
+  -- a list of moves that is legal on the last board: nothing is said of one that stands there
   a_list : (board : Board) (list : MoveList) (said : List ℕ) → state.last ≡ Some board → Legal game board list
-      → ((said ≡ []) × (named_moves game piece ≡ named_moves game (list_line list))) ⊎ IsNote state.place piece said
+      → SaysUnless (StandsAsList state.noted game piece list) state.place piece said
       → Reading variant game state piece (after state piece state.last AList) (list_line list) said
   -- a board that is not taken: no list may follow it
   refused_board : (said : List ℕ) → IsNote state.place piece said → Reading variant game state piece (after state piece None RefusedBoard) [] said
@@ -138,14 +149,14 @@ pub data Reading (variant : Variant) (game : Game) (state : State) (piece : List
       → Reading variant game state piece (after state piece last RefusedList) [] said
 
 -- a text by its headers and the pieces between them, each of which begins a line and has one fate
-pub data Imported (variant : Variant) (game : Game) : (text : List ℕ) → State → (written said : List ℕ) → Type 0 where
-  none_yet : Imported variant game [] first_state [] []
+pub data Imported (variant : Variant) (noted : Noted) (game : Game) : (text : List ℕ) → State → (written said : List ℕ) → Type 0 where
+  none_yet : Imported variant noted game [] (first_state noted) [] []
   -- a header: no list may follow it
-  headed : (text : List ℕ) (state : State) (written said : List ℕ) → Imported variant game text state written said → ends_lines text ≡ true
-      → (line : List ℕ) → IsHeading line → Imported variant game (text ++ line) (after_heading variant state line) written said
-  one_more : (text : List ℕ) (state : State) (written said : List ℕ) → Imported variant game text state written said → ends_lines text ≡ true
+  headed : (text : List ℕ) (state : State) (written said : List ℕ) → Imported variant noted game text state written said → ends_lines text ≡ true
+      → (line : List ℕ) → IsHeading line → Imported variant noted game (text ++ line) (after_heading variant state line) written said
+  one_more : (text : List ℕ) (state : State) (written said : List ℕ) → Imported variant noted game text state written said → ends_lines text ≡ true
       → (piece : List ℕ) → HasNoHeader piece → (next : State) (more says : List ℕ) → Reading variant game state piece next more says
-      → Imported variant game (text ++ piece) next (written ++ more) (said ++ says)
+      → Imported variant noted game (text ++ piece) next (written ++ more) (said ++ says)
 
 -- -------- What a run promises that imports its input. From: this project's profile.
 
@@ -168,6 +179,11 @@ with_tally tally (byte ∷ notes) = byte ∷ notes ++ tally_line tally
 abbrev pub refusals : Tally → ℕ
 refusals tally = counted (tally.refused_boards + tally.refused_lists)
 
+-- or, in a strict import, each note
+abbrev pub refused_by : Noted → Tally → (notes : List ℕ) → ℕ
+refused_by Strict tally notes = counted (line_feeds notes)
+refused_by noted tally notes = refusals tally
+
 abbrev pub no_board_line : List ℕ
 no_board_line = codes "fcanon: there is no board in the input" ++ line_feed ∷ []
 
@@ -179,19 +195,20 @@ abbrev pub IsShown : Variant → (text : List ℕ) → (records : ℕ) → Type 
 IsShown variant text records = TransfersWithin standard Show variant (Some text) (Some []) (Some []) (Some text) (Ok (record { records = records; refused = 0 }))
 
 -- what is made of the text that these bytes are read as, what is said of it, and the summary
-pub data Makes (variant : Variant) (bytes : List ℕ) : (made said : List ℕ) → Summary → Type 0 where
+pub data Makes (variant : Variant) (noted : Noted) (bytes : List ℕ) : (made said : List ℕ) → Summary → Type 0 where
   -- a collection that `show` takes
-  collection : (state : State) (made notes : List ℕ) (records : ℕ) → Imported variant (game_of variant) (text_read bytes) state made notes → IsShown variant made records
-      → Makes variant bytes made (with_tally state.tally notes) (record { records = counted (records + refusals state.tally); refused = refusals state.tally })
+  collection : (state : State) (made notes : List ℕ) (records : ℕ) → Imported variant noted (game_of variant) (text_read bytes) state made notes → IsShown variant made records
+      → (refused : ℕ) → refused ≡ refused_by noted state.tally notes
+      → Makes variant noted bytes made (with_tally state.tally notes) (record { records = counted (records + refused); refused = refused })
   -- nothing, since the text has no board
-  no_board : (state : State) (notes : List ℕ) → Imported variant (game_of variant) (text_read bytes) state [] notes → refusals state.tally ≡ 0
-      → Makes variant bytes [] (with_tally state.tally notes ++ no_board_line) (record { records = 1; refused = 1 })
+  no_board : (state : State) (notes : List ℕ) → Imported variant noted (game_of variant) (text_read bytes) state [] notes → refusals state.tally ≡ 0
+      → Makes variant noted bytes [] (with_tally state.tally notes ++ no_board_line) (record { records = 1; refused = 1 })
   -- nothing, since `show` does not take what is made of it
-  too_much : (state : State) (made notes : List ℕ) → Imported variant (game_of variant) (text_read bytes) state made notes → ((records : ℕ) → ¬ IsShown variant made records)
-      → Makes variant bytes [] (notes ++ too_much_line) (record { records = 1; refused = 1 })
+  too_much : (state : State) (made notes : List ℕ) → Imported variant noted (game_of variant) (text_read bytes) state made notes → ((records : ℕ) → ¬ IsShown variant made records)
+      → Makes variant noted bytes [] (notes ++ too_much_line) (record { records = 1; refused = 1 })
 
 -- how what was read, what the input has left and what was written go with each result of an import that said this: all was read, at most 16 MiB, and what is made of it was written or, where a write failed, a beginning of that; else nothing was written or said, and more than 16 MiB are `TooLarge`
-abbrev pub ImportFits : Variant → (said read : List ℕ) → (left : Option (List ℕ)) → (written : List ℕ) → Result Summary RunFault → Type 0
-ImportFits variant said read left written (Ok summary) = IsAtEnd left × (length read ≤ most_bytes) × Makes variant read written said summary
-ImportFits variant said read left written (Err Write) = IsAtEnd left × (length read ≤ most_bytes) × ((made : List ℕ) × (summary : Summary) × Makes variant read made said summary × Begins written made)
-ImportFits variant said read left written (Err fault) = (written ≡ []) × (said ≡ []) × ((fault ≡ TooLarge) ↔ (most_bytes < length read))
+abbrev pub ImportFits : Variant → Noted → (said read : List ℕ) → (left : Option (List ℕ)) → (written : List ℕ) → Result Summary RunFault → Type 0
+ImportFits variant noted said read left written (Ok summary) = IsAtEnd left × (length read ≤ most_bytes) × Makes variant noted read written said summary
+ImportFits variant noted said read left written (Err Write) = IsAtEnd left × (length read ≤ most_bytes) × ((made : List ℕ) × (summary : Summary) × Makes variant noted read made said summary × Begins written made)
+ImportFits variant noted said read left written (Err fault) = (written ≡ []) × (said ≡ []) × ((fault ≡ TooLarge) ↔ (most_bytes < length read))

@@ -6,9 +6,9 @@ use Rattle.std.specs.Prelude.{List, min, None, Ok, Option, Result, take, ℕ}
 use Rattle.{fc_board.specs.declared.rule.Variant.{Variant}, fc_text.specs.Bytes.{line_feed}}
 use Rattle.{fc_import.specs.Words.{is_between}, fc_record.specs.Grammar.{Heading, heading_of}}
 use Rattle.fc_record.specs.declared.record.RecordFault.{RecordFault}
-use Rattle.fc_import.specs.declared.tally.Fate.{Fate, TheVariants.{ABoard, AList, LeftOut, Passed}}
-use Rattle.fc_import.specs.declared.tally.Fate.TheVariants.{RefusedBoard, RefusedList}
-use Rattle.fc_import.specs.declared.tally.Tally.{Tally}
+use Rattle.fc_import.specs.declared.{changes.Noted.{Noted}, tally.Fate.{Fate, TheVariants.{ABoard}}}
+use Rattle.fc_import.specs.declared.tally.Fate.TheVariants.{AList, LeftOut, Passed, RefusedBoard}
+use Rattle.fc_import.specs.declared.tally.{Fate.TheVariants.{RefusedList}, Tally.{Tally}}
 
 -- -------- What an import has so far. From: this project's profile.
 
@@ -40,15 +40,16 @@ pub record Place : Type 0 where
   pub header : ℕ
   pub line : ℕ
 
--- the last board, if a list of moves may follow it; the place of the next line; how many boards the last header names; and how much was taken and was not
+-- what is noted; the last board, if a list of moves may follow it; the place of the next line; how many boards the last header names; and how much was taken and was not
 pub record State : Type 0 where
+  pub noted : Noted
   pub last : Option Board
   pub place : Place
   pub named : ℕ
   pub tally : Tally
 
-abbrev pub first_state : State
-first_state = record { last = None; place = record { name = []; header = 0; line = 1 }; named = 0; tally = tally_of Passed }
+abbrev pub first_state : Noted → State
+first_state noted = record { noted = noted; last = None; place = record { name = []; header = 0; line = 1 }; named = 0; tally = tally_of Passed }
 
 abbrev pub line_feeds : List ℕ → ℕ
 line_feeds text = length (places_of (is_byte line_feed) text)
@@ -59,6 +60,7 @@ line_after line text = counted (line + line_feeds text)
 -- the state after the lines of a piece of this fate, with this last board
 abbrev pub after : State → (piece : List ℕ) → (last : Option Board) → Fate → State
 after state piece last fate = record {
+  noted = state.noted;
   last = last;
   place = record { name = state.place.name; header = state.place.header; line = line_after state.place.line piece };
   named = counted (state.named + (tally_of fate).boards);
@@ -72,6 +74,7 @@ name_by (Err fault) = []
 
 abbrev pub after_heading : Variant → State → (line : List ℕ) → State
 after_heading variant state line = record {
+  noted = state.noted;
   last = None;
   place = record { name = name_by (heading_of variant line); header = state.place.line; line = line_after state.place.line line };
   named = 0;
@@ -93,3 +96,7 @@ pub record IsNote (place : Place) (piece said : List ℕ) : Type 0 where
   pub within : (at ≡ 0) ⊎ (at < length piece)
   pub printing : All (λ byte. IsTrue (is_between 0x20 0x7E byte)) words
   pub is : said ≡ codes "fcanon: " ++ place_text place (line_after place.line (take at piece)) column ++ codes ": " ++ words ++ line_feed ∷ []
+
+-- nothing is said where this is so, and else there is a note
+abbrev pub SaysUnless : (holds : Type 0) → Place → (piece said : List ℕ) → Type 0
+SaysUnless holds place piece said = (holds × (said ≡ [])) ⊎ ((¬ holds) × IsNote place piece said)

@@ -2,7 +2,7 @@
 use Rattle.std.specs.{Io.KnownBytes.{Appends, Consumes, IsAtEnd}, Prelude.{◌++◌, ◌+◌, ◌<◌, ◌||◌}}
 use Rattle.std.specs.Prelude.{◌↔◌, ◌≡◌, ◌≢◌, ◌≤◌, ◌⊎◌, [], ⊤, Bool, Err, false, if◌then◌else◌}
 use Rattle.std.specs.Prelude.{length, List, map, None, Ok, Option, Result, Some, take, true, ℕ}
-use Rattle.fc_board.specs.{declared.rule.Variant.{Variant}, Games.{Game}}
+use Rattle.fc_board.specs.{Boards.{Board}, declared.rule.Variant.{Variant}, Games.{Game}}
 use Rattle.fc_record.specs.RecordTexts.{ends_line}
 use Rattle.fc_collect.specs.{Limits.{most_bytes}, Promises.{Begins}, Streams.{CallCounts}}
 use Rattle.fc_collect.specs.declared.streams.faults.RunFault.{RunFault, TheVariants.{Memory, Read}}
@@ -10,8 +10,10 @@ use Rattle.fc_collect.specs.declared.streams.faults.RunFault.TheVariants.{Reader
 use Rattle.fc_collect.specs.declared.streams.faults.RunFault.TheVariants.{Write}
 use Rattle.fc_collect.specs.declared.streams.faults.Summary.{Summary}
 use Rattle.fc_import.specs.Import.{HasNoHeader, Imported, IsHeading, IsShown, Makes, Reading}
-use Rattle.fc_import.specs.{Notes.{after_heading, IsNote, Place, State}, Words.{is_between}}
-use Rattle.fc_import.specs.declared.{made.Made.{Made}, walk.Walk.{Walk}}
+use Rattle.fc_import.specs.Import.{StandsAsBoard}
+use Rattle.fc_import.specs.Notes.{after_heading, IsNote, Place, SaysUnless, State}
+use Rattle.fc_import.specs.Words.{is_between}
+use Rattle.fc_import.specs.declared.{changes.Noted.{Noted}, made.Made.{Made}, walk.Walk.{Walk}}
 
 -- -------- Signs that are read as they are.
 
@@ -25,17 +27,25 @@ abbrev pub place_of : Walk → Place
 place_of walk = record { name = walk.name.items; header = walk.header; line = walk.line }
 
 abbrev pub state_of : {R : Type 0} → Made R → State
-state_of made = record { last = made.last; place = place_of made.walk; named = made.named; tally = made.tally }
+state_of made = record { noted = made.noted; last = made.last; place = place_of made.walk; named = made.named; tally = made.tally }
 
 -- this was made of the text
-abbrev pub IsMade : {R : Type 0} → Variant → Game → List ℕ → Made R → Type 0
-IsMade variant game text made = Imported variant game text (state_of made) made.written.items made.notes.items
+abbrev pub IsMade : {R : Type 0} → Variant → Noted → Game → List ℕ → Made R → Type 0
+IsMade variant noted game text made = Imported variant noted game text (state_of made) made.written.items made.notes.items
 
 -- the piece is read as what was written and said more
 abbrev pub Takes : {R : Type 0} → Variant → Game → (piece : List ℕ) → (old new : Made R) → Type 0
 Takes variant game piece old new =
     (more : List ℕ) × (says : List ℕ) × Reading variant game (state_of old) piece (state_of new) more says
     × (new.written.items ≡ old.written.items ++ more) × (new.notes.items ≡ old.notes.items ++ says)
+
+-- what is to be said of a board that the lines are read as is said, and nothing written
+pub record Says {R : Type 0} (game : Game) (piece : List ℕ) (board : Board) (old new : Made R) : Type 0 where
+  pub said : List ℕ
+  pub notes : new.notes.items ≡ old.notes.items ++ said
+  pub is : SaysUnless (StandsAsBoard old.noted game piece board) (place_of old.walk) piece said
+  pub state : state_of new ≡ state_of old
+  pub written : new.written.items ≡ old.written.items
 
 -- the name of a header is taken, and nothing written or said
 pub record TakesName {R : Type 0} (variant : Variant) (line : List ℕ) (old new : Made R) : Type 0 where
@@ -96,17 +106,17 @@ ShownAs variant text (Some records) = IsShown variant text records
 ShownAs variant text None = (records : ℕ) → ¬ IsShown variant text records
 
 -- how what was written and said of these bytes goes with the result, once they were read: what was made of them or, where a write failed, a beginning of it; else nothing, as there was no memory
-abbrev pub MadeFits : Variant → (bytes written said : List ℕ) → Result Summary RunFault → Type 0
-MadeFits variant bytes written said (Ok summary) = Makes variant bytes written said summary
-MadeFits variant bytes written said (Err Write) = (made : List ℕ) × (summary : Summary) × Makes variant bytes made said summary × Begins written made
-MadeFits variant bytes written said (Err Memory) = (written ≡ []) × (said ≡ [])
-MadeFits variant bytes written said (Err fault) = ⊥
+abbrev pub MadeFits : Variant → Noted → (bytes written said : List ℕ) → Result Summary RunFault → Type 0
+MadeFits variant noted bytes written said (Ok summary) = Makes variant noted bytes written said summary
+MadeFits variant noted bytes written said (Err Write) = (made : List ℕ) × (summary : Summary) × Makes variant noted bytes made said summary × Begins written made
+MadeFits variant noted bytes written said (Err Memory) = (written ≡ []) × (said ≡ [])
+MadeFits variant noted bytes written said (Err fault) = ⊥
 
 -- what was made of these bytes went out
-pub record WritesMade (variant : Variant) (bytes : List ℕ) (before after : Option (List ℕ)) (said : List ℕ) (result : Result Summary RunFault) : Type 0 where
+pub record WritesMade (variant : Variant) (noted : Noted) (bytes : List ℕ) (before after : Option (List ℕ)) (said : List ℕ) (result : Result Summary RunFault) : Type 0 where
   pub written : List ℕ
   pub appended : Appends before after written
-  pub fits : MadeFits variant bytes written said result
+  pub fits : MadeFits variant noted bytes written said result
 
 -- the bytes, with a question mark for each that does not print
 abbrev pub printing : List ℕ → List ℕ

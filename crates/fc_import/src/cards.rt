@@ -1,7 +1,7 @@
 //! The cards and the moves that words name, and those of a board in the orders in which lines name
 //! them.
 ghost use Rattle.std.specs.{List.{before_first, flat_map}, Option.{option_to_list}, Prelude.{◌++◌}};
-ghost use Rattle.std.specs.Prelude.{◌==◌, ◌≡◌, ◌≢◌, ◌⊎◌, [], All, drop, IfOk, IsTrue, OnOk};
+ghost use Rattle.std.specs.Prelude.{◌==◌, ◌↔◌, ◌≡◌, ◌≢◌, ◌⊎◌, [], All, drop, IfOk, IsTrue, OnOk};
 ghost use Rattle.std.specs.{Prelude.{slice_get, take}, Str.{str_to_ascii_lowercase}};
 ghost use Rattle.fc_board.specs.Boards.{IsWellFormed};
 ghost use Rattle.fc_text.specs.{Bytes.{number_sign}, Spelling.{card_spelled}};
@@ -315,13 +315,13 @@ fn push_some(cards: &mut Vec<Card>, card: Option<Card>) -> Result<(), AllocError
 
 /// Whether no column of the board is empty, and no cell before a taken one.
 pub(crate) fn is_packed<R: Rule>(board: &Board<R>) -> bool
-    ensures { IsTrue result → IsPacked board.now }
+    ensures { IsTrue result ↔ IsPacked board.now }
 {
     has_full_columns(board) && are_packed(board.cells())
 }
 
 fn has_full_columns<R: Rule>(board: &Board<R>) -> bool
-    ensures { IsTrue result → All (λ column. column ≢ []) board.now.columns }
+    ensures { IsTrue result ↔ All (λ column. column ≢ []) board.now.columns }
 {
     // The board has eight columns.
     let _ = board.heights();
@@ -335,7 +335,7 @@ fn has_full_columns<R: Rule>(board: &Board<R>) -> bool
 
 // Whether no cell before a taken one is empty.
 fn are_packed(cells: &[Option<Card>]) -> bool
-    ensures { IsTrue result → ArePacked cells.now }
+    ensures { IsTrue result ↔ ArePacked cells.now }
 {
     for place in 1..cells.len() {
         if cells[place - 1].is_none() && cells[place].is_some() {

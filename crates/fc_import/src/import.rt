@@ -7,6 +7,7 @@ ghost use Rattle.fc_import.specs.Import.{HasNoHeader};
 ghost use Rattle.fc_import.specs.inside.{AreWhole, IsMade, Takes, TakesFirst, TakesName};
 
 use crate::block::Block;
+use crate::changes::Noted;
 use crate::layout::{LinesAre, Reading, layout_words, read};
 use crate::line::{LineKind, kind_of};
 use crate::lists::{ListRead, has_moves, is_list, is_move, moves_len, read_moves_on};
@@ -110,14 +111,15 @@ struct Importer<R: Rule> {
 pub(crate) fn import_text<R: Rule>(
     alloc: Global,
     lines_are: LinesAre,
+    noted: Noted,
     text: &[u8],
 ) -> Result<Made<R>, AllocError>
-    ensures { IfOk result (IsMade R.VARIANT R.game text.now) }
+    ensures { IfOk result (IsMade R.VARIANT noted R.game text.now) }
 {
     let mut importer = Importer {
         alloc,
         lines_are,
-        made: Made::new(alloc),
+        made: Made::new(alloc, noted),
         title: Vec::new(alloc),
         solution: Solution::Nothing,
         game: GameNamed::This,

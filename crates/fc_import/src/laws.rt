@@ -1,15 +1,21 @@
 //! Laws of texts, and of the words that name cards.
-ghost use Rattle.std.specs.{Fmt.{decimal}, List.{Contains, fold}, Prelude.{◌++◌, ◌∷◌, ◌≡◌, []}};
-ghost use Rattle.std.specs.Prelude.{codes, false, if◌then◌else◌, List, None, Option, Some, true, ℕ};
+ghost use Rattle.std.specs.{Fmt.{decimal}, List.{Contains, fold}, Prelude.{◌++◌, ◌<◌, ◌∷◌, ◌≡◌}};
+ghost use Rattle.std.specs.Prelude.{◌≢◌, [], codes, false, if◌then◌else◌, List, None, Option, Some};
+ghost use Rattle.std.specs.Prelude.{true, ℕ};
 ghost use Rattle.fc_board.specs.{Boards.{Board}, Games.{bakers_game, eight_off, freecell, Game}};
+ghost use Rattle.fc_board.specs.Moves.{MoveList};
 ghost use Rattle.fc_board.specs.declared.rule.Variant.{Variant};
-ghost use Rattle.fc_text.specs.{Bytes.{line_feed}, Lines.{lines_from, Piece}};
+ghost use Rattle.fc_text.specs.{Bytes.{line_feed}, Lines.{lines_from, Piece}, Spelling.{board_of}};
 ghost use Rattle.fc_record.specs.{Grammar.{begins_with, heading_of}, RecordTexts.{header_mark}};
+ghost use Rattle.fc_collect.specs.declared.streams.faults.Summary.{Summary};
 ghost use Rattle.fc_import.specs.Import.{count_text, HasFewCards, Imported, IsBuilt, IsNoBoard};
-ghost use Rattle.fc_import.specs.Import.{most_dealt, numbered, refusals, StaysLast};
-ghost use Rattle.fc_import.specs.{Notes.{name_by, place_text, State}, Words.{decoded, is_list}};
-ghost use Rattle.fc_import.specs.Words.{named_card, named_cards, named_in, named_lines};
-ghost use Rattle.fc_import.specs.Words.{named_moves, plain, text_read};
+ghost use Rattle.fc_import.specs.Import.{Makes, most_dealt, numbered, refusals, StandsAsBoard};
+ghost use Rattle.fc_import.specs.Import.{StandsAsList, StaysLast};
+ghost use Rattle.fc_import.specs.Notes.{name_by, Place, place_text, SaysUnless, State};
+ghost use Rattle.fc_import.specs.Words.{decoded, is_list, named_card, named_cards, named_in};
+ghost use Rattle.fc_import.specs.Words.{named_lines, named_moves, plain, text_read};
+ghost use Rattle.fc_import.specs.declared.changes.Noted.{Noted};
+ghost use Rattle.fc_import.specs.declared.changes.Noted.TheVariants.{Changes, Doubts, Strict};
 
 /// The two letters of each card name it, also in the other order. `10` is the ten, a word of
 /// another length or with another letter names nothing, and `1` is the ace. A board's name is no
@@ -117,18 +123,51 @@ pub fn utf_16_is_decoded()
 
 /// Where nothing is said of a text, each board and list of it is taken, and no line is left out.
 pub fn refusals_are_said()
-    ensures refusals { (variant : Variant) (game : Game) (text : List ℕ) (state : State)
-        (written : List ℕ) → Imported variant game text state written []
+    ensures refusals { (variant : Variant) (noted : Noted) (game : Game) (text : List ℕ) (state : State)
+        (written : List ℕ) → Imported variant noted game text state written []
         → refusals state.tally ≡ 0 }
-    ensures left_out { (variant : Variant) (game : Game) (text : List ℕ) (state : State)
-        (written : List ℕ) → Imported variant game text state written []
+    ensures left_out { (variant : Variant) (noted : Noted) (game : Game) (text : List ℕ) (state : State)
+        (written : List ℕ) → Imported variant noted game text state written []
         → state.tally.left_out ≡ 0 }
+{}
+
+/// What is imported in silence where each change is noted is so where only doubts are.
+pub fn changes_are_noted_beside_doubts()
+    ensures { (variant : Variant) (noted : Noted) (bytes made : List ℕ) (summary : Summary)
+        → Makes variant noted bytes made [] summary → Makes variant Doubts bytes made [] summary }
+{}
+
+/// A strict import has refusals where anything is said, and no import has any where nothing is.
+pub fn strict_imports_refuse_what_is_noted()
+    ensures noted { (variant : Variant) (bytes made said : List ℕ) (summary : Summary)
+        → Makes variant Strict bytes made said summary → said ≢ [] → 0 < summary.refused }
+    ensures silent { (variant : Variant) (noted : Noted) (bytes made : List ℕ) (summary : Summary)
+        → Makes variant noted bytes made [] summary → summary.refused ≡ 0 }
+{}
+
+/// Of a board whose last ten is spelled `10H` nothing is said, but where each change is noted. Nor is
+/// anything said there of one with `TH`, if it is as `show` prints it. A list without a mark is noted
+/// there.
+pub fn a_ten_is_a_change()
+    ensures ten { (place : Place) (said : List ℕ)
+        → let piece = codes "Foundations: H-9 C-K D-K S-K" ++ line_feed ∷ codes "Freecells: 10H JH QH KH"
+        ++ line_feed ∷ [] in
+        SaysUnless (StandsAsBoard Doubts freecell piece (board_of freecell piece)) place piece said
+        → said ≡ [] }
+    ensures ten_noted { (place : Place) (said : List ℕ)
+        → let piece = codes "Foundations: H-9 C-K D-K S-K" ++ line_feed ∷ codes "Freecells: 10H JH QH KH"
+        ++ line_feed ∷ [] in
+        SaysUnless (StandsAsBoard Changes freecell piece (board_of freecell piece)) place piece said
+        → said ≢ [] }
+    ensures list_noted { (place : Place) (list : MoveList) (said : List ℕ)
+        → SaysUnless (StandsAsList Changes freecell (codes "1a 23" ++ line_feed ∷ []) list) place
+        (codes "1a 23" ++ line_feed ∷ []) said → said ≢ [] }
 {}
 
 /// Where nothing is written for a text, and nothing said of it, its lines name no card.
 pub fn no_card_is_lost_in_silence()
-    ensures { (variant : Variant) (game : Game) (text : List ℕ) (state : State)
-        → Imported variant game text state [] [] → named_in text ≡ [] }
+    ensures { (variant : Variant) (noted : Noted) (game : Game) (text : List ℕ) (state : State)
+        → Imported variant noted game text state [] [] → named_in text ≡ [] }
 {}
 
 /// A place is named by its line, or, after a header, by the header's name and the line counted from
@@ -146,8 +185,8 @@ pub fn notes_are_for_people()
 /// The boards after a header have its name: the name that a place has is that of the last line of
 /// the text that is a header.
 pub fn names_are_those_of_the_last_header()
-    ensures { (variant : Variant) (game : Game) (text : List ℕ) (state : State)
-        (written said : List ℕ) → Imported variant game text state written said
+    ensures { (variant : Variant) (noted : Noted) (game : Game) (text : List ℕ) (state : State)
+        (written said : List ℕ) → Imported variant noted game text state written said
         → state.place.name ≡ fold (λ name line. if begins_with header_mark line.bytes
         then name_by (heading_of variant line.bytes) else name) [] (lines_from 0 text) }
 {}

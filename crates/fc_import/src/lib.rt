@@ -3,6 +3,7 @@
 
 mod block;
 mod cards;
+mod changes;
 mod decoding;
 mod import;
 pub mod laws;
@@ -22,5 +23,6 @@ mod titles;
 mod walk;
 mod words;
 
+pub use changes::Noted;
 pub use layout::LinesAre;
 pub use run::run_import;

@@ -1,30 +1,33 @@
 //! What is made of a text, piece by piece. Each method that takes a piece tests that the piece is
 //! what it is taken for.
-ghost use Rattle.std.specs.Prelude.{◌++◌, ◌≡◌, ◌≤◌, ◌⊎◌, [], All, false, IfOk, IfSome, IsTrue};
+ghost use Rattle.std.specs.Prelude.{◌++◌, ◌↔◌, ◌≡◌, ◌≤◌, ◌⊎◌, [], All, false, IfOk, IfSome, IsTrue};
 ghost use Rattle.std.specs.Prelude.{List, OnOk, Some, ℕ};
 ghost use Rattle.fc_board.specs.{Boards.{Board as Layout, IsWellFormed}, Games.{eight_off}};
 ghost use Rattle.fc_board.specs.{Moves.{ListFits}, Play.{Legal}};
 ghost use Rattle.fc_text.specs.{Printed.{text_of}, Spelling.{Spells}};
 ghost use Rattle.fc_record.specs.{Grammar.{heading_of}, Printing.{header_text, list_line}};
 ghost use Rattle.fc_import.specs.Import.{by_columns, HasCards, IsNamed, IsPacked, numbered};
-ghost use Rattle.fc_import.specs.Import.{SpellsOut};
-ghost use Rattle.fc_import.specs.inside.{IsMade, place_of, state_of, Takes, TakesName};
-ghost use Rattle.fc_import.specs.{Notes.{after, IsNote, name_by}, Words.{named_lines, named_moves}};
+ghost use Rattle.fc_import.specs.Import.{SpellsOut, StandsAsBoard, StandsAsList};
+ghost use Rattle.fc_import.specs.inside.{IsMade, place_of, Says, state_of, Takes, TakesName};
+ghost use Rattle.fc_import.specs.Notes.{after, name_by, SaysUnless};
+ghost use Rattle.fc_import.specs.Words.{named_lines, named_moves};
 ghost use Rattle.fc_import.specs.declared.tally.Fate.TheVariants.{ABoard};
 
 use crate::cards::{by_columns, has_cards, is_packed, named_in, named_lines, named_moves};
+use crate::changes::{Change, Noted, change_of};
 use crate::playable::can_be;
 use crate::quiet::{are_no_board, are_prose, are_quiet};
 use crate::tally::{Fate, Tally, counted};
 use crate::walk::{Walk, line_after};
 use fc_board::{Board, Rule, Variant};
 use fc_record::{MoveList, push_header, push_list, push_number, read_heading};
-use fc_text::{BoardView, MovesFault, read_board, read_moves, read_runs};
+use fc_text::{BoardView, MovesFault, read_board, read_moves, read_runs, write_board};
 use std::alloc::{AllocError, Global};
 
 /// What was written and said so far, and the state that this left.
 #[derive(Drop)]
 pub(crate) struct Made<R: Rule> {
+    pub(crate) noted: Noted,
     pub(crate) written: Vec<u8>,
     pub(crate) notes: Vec<u8>,
     /// The last board, if a list of moves may follow it.
@@ -44,10 +47,12 @@ pub(crate) enum Form {
 
 impl<R: Rule> Made<R> {
     /// Nothing was made yet.
-    pub(crate) fn new(alloc: Global) -> Self
-        ensures { IsMade R.VARIANT R.game [] result }
+    pub(crate) fn new(alloc: Global, noted: Noted) -> Self
+        ensures made { IsMade R.VARIANT noted R.game [] result }
+        ensures noted { result.noted ≡ noted }
     {
         Made {
+            noted,
             written: Vec::new(alloc),
             notes: Vec::new(alloc),
             last: None,
@@ -176,13 +181,14 @@ impl<R: Rule> Made<R> {
         if !can_be(piece, &board) {
             return Ok(false);
         }
+        self.say_change(alloc, piece, &board)?;
         self.put_board(alloc, piece, title, board)?;
         Ok(true)
     }
 
     /// Writes a board that the lines are read as, under its name or this title: with this note,
-    /// unless each line is the next of its columns. Returns whether play can make it, and the lines
-    /// name its cards in order.
+    /// unless they spell it out. Returns whether play can make it, and the lines name its cards in
+    /// order.
     pub(crate) fn put_read(
         &mut self,
         alloc: Global,
@@ -198,20 +204,15 @@ impl<R: Rule> Made<R> {
         if !can_be(piece, &board) {
             return Ok(false);
         }
-        if has_columns(alloc, piece, &board)? {
-            self.put_board(alloc, piece, title, board)?;
-            return Ok(true);
-        }
-        if !has_cards(alloc, piece, &board)? {
+        if !self.say_read(alloc, piece, &board, words)? {
             return Ok(false);
         }
-        self.walk.push_note(piece, 0, words, &mut self.notes)?;
         self.put_board(alloc, piece, title, board)?;
         Ok(true)
     }
 
-    /// Passes lines that name the cards of the last board once more: with this note, unless they
-    /// spell it out. Returns whether they do.
+    /// Passes lines that are the last board once more: with this note, unless it stands there.
+    /// Returns whether they spell it out, or name its cards in order.
     pub(crate) fn see_again(
         &mut self,
         alloc: Global,
@@ -222,20 +223,16 @@ impl<R: Rule> Made<R> {
             → Takes R.VARIANT R.game piece.now self.old self.new) }
         ensures kept { IfOk result (λ taken. taken ≡ false → self.new ≡ self.old) }
     {
-        if self.spells_last(alloc, piece)? {
-            self.go_on(piece, Fate::Passed);
-            return Ok(true);
-        }
-        if !self.has_last_cards(alloc, piece)? {
+        if !self.is_last(alloc, piece)? {
             return Ok(false);
         }
-        self.walk.push_note(piece, 0, words, &mut self.notes)?;
+        self.say_again(alloc, piece, words)?;
         self.go_on(piece, Fate::Passed);
         Ok(true)
     }
 
-    /// Writes the list of these moves: with this note, unless the lines name the moves. Returns
-    /// whether it is legal on the last board.
+    /// Writes the list of these moves: with this note, unless it stands there. Returns whether it is
+    /// legal on the last board.
     pub(crate) fn put_list(
         &mut self,
         alloc: Global,
@@ -307,24 +304,26 @@ impl<R: Rule> Made<R> {
         numbered(alloc, header, counted(self.named, 1))
     }
 
-    // Whether the lines spell out the last board.
-    fn spells_last(&self, alloc: Global, piece: &[u8]) -> Result<bool, AllocError>
-        ensures { IfOk result (λ is. IsTrue is → (board : Layout)
-            × (self.now.last ≡ Some board) × SpellsOut R.game piece.now board) }
+    // Whether there is a last board, and the lines stand as it.
+    fn stands_as_last(&self, alloc: Global, piece: &[u8]) -> Result<bool, AllocError>
+        ensures { IfOk result (λ stands. IsTrue stands ↔ ((board : Layout)
+            × (self.now.last ≡ Some board)
+            × StandsAsBoard self.now.noted R.game piece.now board)) }
     {
         match &self.last {
-            Some(board) => spells_out(alloc, piece, board),
+            Some(board) => stands(alloc, self.noted, piece, board),
             None => Ok(false),
         }
     }
 
-    // Whether the lines name the cards of the last board in order.
-    fn has_last_cards(&self, alloc: Global, piece: &[u8]) -> Result<bool, AllocError>
-        ensures { IfOk result (λ has. IsTrue has → (board : Layout)
-            × (self.now.last ≡ Some board) × HasCards piece.now board) }
+    // Whether the lines spell out the last board, or name its cards in order.
+    fn is_last(&self, alloc: Global, piece: &[u8]) -> Result<bool, AllocError>
+        ensures { IfOk result (λ is. IsTrue is → (board : Layout)
+            × (self.now.last ≡ Some board)
+            × (SpellsOut R.game piece.now board ⊎ HasCards piece.now board)) }
     {
         match &self.last {
-            Some(board) => has_cards(alloc, piece, board),
+            Some(board) => Ok(spells_out(alloc, piece, board)? || has_cards(alloc, piece, board)?),
             None => Ok(false),
         }
     }
@@ -350,7 +349,63 @@ impl<R: Rule> Made<R> {
         }
     }
 
-    // Puts a note with these words, unless the lines name the moves of the list.
+    // Says of lines that are the last board, with these words, that they are, unless they stand as it.
+    fn say_again(&mut self, alloc: Global, piece: &[u8], words: &[u8]) -> Result<(), AllocError>
+        ensures { OnOk result ((board : Layout) → self.old.last ≡ Some board
+            → Says R.game piece.now board self.old self.new) }
+    {
+        if self.stands_as_last(alloc, piece)? {
+            return Ok(());
+        }
+        self.walk.push_note(piece, 0, words, &mut self.notes)?;
+        Ok(())
+    }
+
+    // Says of a board that the lines are read as that they are turned, with these words, unless
+    // they spell it out. Returns whether they do, or name its cards in order.
+    fn say_read(
+        &mut self,
+        alloc: Global,
+        piece: &[u8],
+        board: &Board<R>,
+        words: &[u8],
+    ) -> Result<bool, AllocError>
+        ensures said { IfOk result (λ is. IsTrue is → Says R.game piece.now board.now
+            self.old self.new) }
+        ensures of { IfOk result (λ is. IsTrue is
+            → SpellsOut R.game piece.now board.now ⊎ HasCards piece.now board.now) }
+        ensures kept { IfOk result (λ is. is ≡ false → self.new ≡ self.old) }
+    {
+        if spells_out(alloc, piece, board)? {
+            self.say_change(alloc, piece, board)?;
+            return Ok(true);
+        }
+        if !has_cards(alloc, piece, board)? {
+            return Ok(false);
+        }
+        self.walk.push_note(piece, 0, words, &mut self.notes)?;
+        Ok(true)
+    }
+
+    // Says of a board that the lines spell out how its spelling is changed, unless they stand as it.
+    fn say_change(
+        &mut self,
+        alloc: Global,
+        piece: &[u8],
+        board: &Board<R>,
+    ) -> Result<(), AllocError>
+        requires { SpellsOut R.game piece.now board.now }
+        ensures { OnOk result (Says R.game piece.now board.now self.old self.new) }
+    {
+        if stands_spelled(self.noted, piece, board) {
+            return Ok(());
+        }
+        let Change { at, words } = change_of(alloc, piece, write_board(board).as_slice())?;
+        self.walk
+            .push_note(piece, at, words.as_slice(), &mut self.notes)
+    }
+
+    // Puts a note with these words, unless the list stands in the lines.
     fn say_list(
         &mut self,
         alloc: Global,
@@ -361,13 +416,12 @@ impl<R: Rule> Made<R> {
         requires { ListFits eight_off list.now }
         ensures said { OnOk result ((says : List ℕ)
             × (self.new.notes.items ≡ self.old.notes.items ++ says)
-            × (((says ≡ []) × (named_moves R.game piece.now
-            ≡ named_moves R.game (list_line list.now)))
-            ⊎ IsNote (place_of self.old.walk) piece.now says)) }
+            × SaysUnless (StandsAsList self.old.noted R.game piece.now list.now)
+            (place_of self.old.walk) piece.now says) }
         ensures state { OnOk result (state_of self.new ≡ state_of self.old) }
         ensures written { OnOk result (self.new.written.items ≡ self.old.written.items) }
     {
-        if names_moves::<R>(alloc, piece, list)? {
+        if is_list_of::<R>(alloc, self.noted, piece, list)? {
             return Ok(());
         }
         self.walk.push_note(piece, 0, words, &mut self.notes)
@@ -435,17 +489,19 @@ fn numbered(alloc: Global, name: &[u8], number: usize) -> Result<Vec<u8>, AllocE
 // Whether each line that names cards names those of the cells or of the next column of the board,
 // and none of these is empty.
 fn has_columns<R: Rule>(alloc: Global, lines: &[u8], board: &Board<R>) -> Result<bool, AllocError>
-    ensures { IfOk result (λ has. IsTrue has
-        → (named_lines lines.now ≡ by_columns board.now) × IsPacked board.now) }
+    ensures has { IfOk result (λ has. IsTrue has
+        ↔ ((named_lines lines.now ≡ by_columns board.now) × IsPacked board.now)) }
+    ensures well_formed { IsWellFormed R.game board.now }
 {
-    let named = named_lines(alloc, lines)?;
     let columns = by_columns(alloc, board)?;
-    Ok(named.as_slice() == columns.as_slice() && is_packed(board))
+    let named = named_lines(alloc, lines)?;
+    Ok(is_equal(named.as_slice(), columns.as_slice()) && is_packed(board))
 }
 
 // Whether `show` reads the lines as the board, or they are its cells and columns.
 fn spells_out<R: Rule>(alloc: Global, lines: &[u8], board: &Board<R>) -> Result<bool, AllocError>
-    ensures { IfOk result (λ is. IsTrue is → SpellsOut R.game lines.now board.now) }
+    ensures spells { IfOk result (λ is. IsTrue is ↔ SpellsOut R.game lines.now board.now) }
+    ensures well_formed { IsWellFormed R.game board.now }
 {
     if has_columns(alloc, lines, board)? {
         return Ok(true);
@@ -456,16 +512,49 @@ fn spells_out<R: Rule>(alloc: Global, lines: &[u8], board: &Board<R>) -> Result<
     }
 }
 
+// Whether nothing is to be noted of lines that spell out the board.
+fn stands_spelled<R: Rule>(noted: Noted, lines: &[u8], board: &Board<R>) -> bool
+    requires { SpellsOut R.game lines.now board.now }
+    ensures { IsTrue result ↔ StandsAsBoard noted R.game lines.now board.now }
+{
+    match noted {
+        Noted::Doubts => true,
+        Noted::Changes | Noted::Strict => is_printed(lines, board),
+    }
+}
+
+// Whether nothing is to be noted of lines that are read as the board.
+fn stands<R: Rule>(
+    alloc: Global,
+    noted: Noted,
+    lines: &[u8],
+    board: &Board<R>,
+) -> Result<bool, AllocError>
+    ensures { IfOk result (λ stands. IsTrue stands ↔ StandsAsBoard noted R.game lines.now board.now) }
+{
+    match noted {
+        Noted::Doubts => spells_out(alloc, lines, board),
+        Noted::Changes | Noted::Strict => Ok(is_printed(lines, board)),
+    }
+}
+
+// Whether the lines are the board as it is printed.
+fn is_printed<R: Rule>(lines: &[u8], board: &Board<R>) -> bool
+    ensures { IsTrue result ↔ (lines.now ≡ text_of board.now) }
+{
+    is_equal(lines, write_board(board).as_slice())
+}
+
 /// Whether both boards are one.
 pub(crate) fn is_same<R: Rule>(first: &Board<R>, second: &Board<R>) -> bool
-    ensures { IsTrue result → first.now ≡ second.now }
+    ensures { IsTrue result ↔ (first.now ≡ second.now) }
 {
     let (first, second) = (BoardView::of(first), BoardView::of(second));
     is_equal(first.text().as_slice(), second.text().as_slice())
 }
 
 fn is_equal(first: &[u8], second: &[u8]) -> bool
-    ensures { IsTrue result → first.now ≡ second.now }
+    ensures { IsTrue result ↔ (first.now ≡ second.now) }
 {
     first == second
 }
@@ -488,15 +577,30 @@ fn plays<R: Rule>(board: &Board<R>, list: &MoveList) -> bool
     list.play(board).is_ok()
 }
 
-// Whether the lines name the moves of the list.
-fn names_moves<R: Rule>(alloc: Global, lines: &[u8], list: &MoveList) -> Result<bool, AllocError>
+// Whether nothing is to be noted of lines that are read as the list.
+fn is_list_of<R: Rule>(
+    alloc: Global,
+    noted: Noted,
+    lines: &[u8],
+    list: &MoveList,
+) -> Result<bool, AllocError>
     requires { ListFits eight_off list.now }
-    ensures { IfOk result (λ names. IsTrue names
-        → named_moves R.game lines.now ≡ named_moves R.game (list_line list.now)) }
+    ensures { IfOk result (λ stands. IsTrue stands ↔ StandsAsList noted R.game lines.now list.now) }
 {
     let mut printed = Vec::new(alloc);
     push_list(list, &mut printed)?;
-    let moves = named_moves::<R>(alloc, printed.as_slice())?;
+    match noted {
+        Noted::Doubts => names_moves::<R>(alloc, lines, printed.as_slice()),
+        Noted::Changes | Noted::Strict => Ok(is_equal(lines, printed.as_slice())),
+    }
+}
+
+// Whether the lines name the same moves as the printed list.
+fn names_moves<R: Rule>(alloc: Global, lines: &[u8], printed: &[u8]) -> Result<bool, AllocError>
+    ensures { IfOk result (λ names. IsTrue names
+        ↔ (named_moves R.game lines.now ≡ named_moves R.game printed.now)) }
+{
+    let moves = named_moves::<R>(alloc, printed)?;
     let named = named_moves::<R>(alloc, lines)?;
-    Ok(named.as_slice() == moves.as_slice())
+    Ok(is_equal(named.as_slice(), moves.as_slice()))
 }

@@ -10,11 +10,12 @@ ghost use Rattle.fc_import.specs.Import.{ImportFits, Makes, with_tally};
 ghost use Rattle.fc_import.specs.inside.{more_counts, ReadsMore, ReadsToEnd, ShownAs, WritesMade};
 ghost use Rattle.fc_import.specs.{Notes.{counted}, Words.{text_read}};
 
+use crate::changes::Noted;
 use crate::import::import_text;
 use crate::layout::LinesAre;
 use crate::made::Made;
 use crate::signs::read_text;
-use crate::tally::{Tally, counted, push_tally};
+use crate::tally::{Tally, counted, push_tally, refused_by};
 use fc_board::{BakersGame, EightOff, FreeCell, Rule, Variant};
 use fc_collect::{Counted, MOST_BYTES, MOST_READS, RunFault, Summary, run_show, write_text};
 use std::alloc::{AllocError, Global};
@@ -26,7 +27,7 @@ const ROOM: usize = 65_536;
 /// Reads a text to its end, makes a collection of this game of the boards and the lists of moves in
 /// it, and writes that. What is said of the text is put into `said`, in lines that each name a line
 /// and a column; a piece of the text that is no board and no list is left out, and that is said.
-/// `lines_are` decides where lines of cards may be columns or rows.
+/// `lines_are` decides where lines of cards may be columns or rows, and `noted` what is said.
 ///
 /// A run takes at most 16 MiB; else the fault is `TooLarge`. Where more would be written than
 /// `run_show` takes, nothing is, which is said and counted as one refusal. A call that fails is not
@@ -35,6 +36,7 @@ pub fn run_import<Rd: Read, Wr: Write>(
     alloc: Global,
     variant: Variant,
     lines_are: LinesAre,
+    noted: Noted,
     input: &mut Counted<Rd>,
     output: &mut Counted<Wr>,
     said: &mut Vec<u8>,
@@ -43,14 +45,14 @@ pub fn run_import<Rd: Read, Wr: Write>(
     requires output_low { HasRoom output.old }
     requires silent { said.old.items ≡ [] }
     ensures runs { RunsWithin standard Rd.remaining Wr.contents
-        (Transfers (ImportFits variant said.new.items))
+        (Transfers (ImportFits variant noted said.new.items))
         input.old input.new output.old output.new result }
     ensures ended { result ≡ Err WriteFault
         → (counts_of input.new).ends ≡ (counts_of input.old).ends + 1 }
 {
     let mut bytes = Vec::new(alloc);
     match read_to_end(alloc, input, &mut bytes) {
-        Ok(()) => write_read(alloc, variant, lines_are, bytes, output, said),
+        Ok(()) => write_read(alloc, variant, lines_are, noted, bytes, output, said),
         Err(fault) => Err(fault),
     }
 }
@@ -60,6 +62,7 @@ fn write_read<Wr: Write>(
     alloc: Global,
     variant: Variant,
     lines_are: LinesAre,
+    noted: Noted,
     bytes: Vec<u8>,
     output: &mut Counted<Wr>,
     said: &mut Vec<u8>,
@@ -67,12 +70,20 @@ fn write_read<Wr: Write>(
     requires low { HasRoom output.old }
     requires silent { said.old.items ≡ [] }
     ensures counted { WritesAsCounted output.old output.new result }
-    ensures wrote { WritesMade variant bytes.items
+    ensures wrote { WritesMade variant noted bytes.items
         (Wr.contents (inner_of output.old)) (Wr.contents (inner_of output.new))
         said.new.items result }
 {
     match read_text(alloc, bytes) {
-        Ok(text) => write_made(alloc, variant, lines_are, text.as_slice(), output, said),
+        Ok(text) => write_made(
+            alloc,
+            variant,
+            lines_are,
+            noted,
+            text.as_slice(),
+            output,
+            said,
+        ),
         Err(_) => Err(RunFault::Memory),
     }
 }
@@ -146,6 +157,7 @@ fn write_made<Wr: Write>(
     alloc: Global,
     variant: Variant,
     lines_are: LinesAre,
+    noted: Noted,
     text: &[u8],
     output: &mut Counted<Wr>,
     said: &mut Vec<u8>,
@@ -153,11 +165,11 @@ fn write_made<Wr: Write>(
     requires low { HasRoom output.old }
     requires silent { said.old.items ≡ [] }
     ensures counted { WritesAsCounted output.old output.new result }
-    ensures wrote { (bytes : List ℕ) → text.now ≡ text_read bytes → WritesMade variant bytes
+    ensures wrote { (bytes : List ℕ) → text.now ≡ text_read bytes → WritesMade variant noted bytes
         (Wr.contents (inner_of output.old)) (Wr.contents (inner_of output.new))
         said.new.items result }
 {
-    let Ok(product) = product_of(alloc, variant, lines_are, text) else {
+    let Ok(product) = product_of(alloc, variant, lines_are, noted, text) else {
         return Err(RunFault::Memory);
     };
     *said = product.said;
@@ -187,16 +199,17 @@ fn product_of(
     alloc: Global,
     variant: Variant,
     lines_are: LinesAre,
+    noted: Noted,
     text: &[u8],
 ) -> Result<Product, AllocError>
     ensures { (bytes : List ℕ) → text.now ≡ text_read bytes → IfOk result
-        (λ product. Makes variant bytes
+        (λ product. Makes variant noted bytes
         product.written.items product.said.items product.summary) }
 {
     match variant {
-        Variant::FreeCell => product_for::<FreeCell>(alloc, lines_are, text),
-        Variant::BakersGame => product_for::<BakersGame>(alloc, lines_are, text),
-        Variant::EightOff => product_for::<EightOff>(alloc, lines_are, text),
+        Variant::FreeCell => product_for::<FreeCell>(alloc, lines_are, noted, text),
+        Variant::BakersGame => product_for::<BakersGame>(alloc, lines_are, noted, text),
+        Variant::EightOff => product_for::<EightOff>(alloc, lines_are, noted, text),
     }
 }
 
@@ -204,25 +217,28 @@ fn product_of(
 fn product_for<R: Rule>(
     alloc: Global,
     lines_are: LinesAre,
+    noted: Noted,
     text: &[u8],
 ) -> Result<Product, AllocError>
     ensures { (bytes : List ℕ) → text.now ≡ text_read bytes → IfOk result
-        (λ product. Makes R.VARIANT bytes
+        (λ product. Makes R.VARIANT noted bytes
         product.written.items product.said.items product.summary) }
 {
-    let made: Made<R> = import_text(alloc, lines_are, text)?;
-    let refused = made.tally.refusals();
-    if made.is_unwritten() && refused == 0 {
+    let made: Made<R> = import_text(alloc, lines_are, noted, text)?;
+    if made.is_unwritten() && made.tally.refusals() == 0 {
         let notes = with_tally(made.notes, made.tally)?;
         let product = nothing(alloc, notes, NO_BOARD)?;
         return Ok(product);
     }
     match records_shown(alloc, R::VARIANT, made.written.as_slice())? {
-        Some(records) => Ok(Product {
-            written: made.written,
-            said: with_tally(made.notes, made.tally)?,
-            summary: summary_of(records, refused),
-        }),
+        Some(records) => {
+            let refused = refused_by(noted, made.tally, made.notes.as_slice());
+            Ok(Product {
+                written: made.written,
+                said: with_tally(made.notes, made.tally)?,
+                summary: summary_of(records, refused),
+            })
+        }
         None => {
             let product = nothing(alloc, made.notes, TOO_MUCH)?;
             Ok(product)

@@ -1,9 +1,11 @@
 //! What becomes of each piece of a text, and how many pieces it becomes of.
 ghost use Rattle.std.specs.Prelude.{◌++◌, ◌+◌, ◌≡◌, OnOk};
-ghost use Rattle.fc_import.specs.Import.{count_text, refusals, tally_line};
-ghost use Rattle.fc_import.specs.Notes.{counted, plus, tally_of};
+ghost use Rattle.fc_import.specs.Import.{count_text, refusals, refused_by, tally_line};
+ghost use Rattle.fc_import.specs.Notes.{counted, line_feeds, plus, tally_of};
 
+use crate::changes::Noted;
 use fc_record::push_number;
+use memchr::memchr_iter;
 use std::alloc::AllocError;
 
 /// What becomes of a piece of a text.
@@ -72,6 +74,24 @@ impl Tally {
     {
         counted(self.refused_boards, self.refused_lists)
     }
+}
+
+/// How many pieces are refused: boards and lists that are not taken or, in a strict import, those
+/// with a note.
+pub(crate) fn refused_by(noted: Noted, tally: Tally, notes: &[u8]) -> usize
+    ensures { result ≡ refused_by noted tally notes.now }
+{
+    match noted {
+        Noted::Doubts | Noted::Changes => tally.refusals(),
+        Noted::Strict => line_feeds(notes),
+    }
+}
+
+// How many line feeds the text has.
+fn line_feeds(text: &[u8]) -> usize
+    ensures { result ≡ counted (line_feeds text.now) }
+{
+    counted(0, memchr_iter(b'\n', text).count())
 }
 
 /// The sum, as far as a count goes.

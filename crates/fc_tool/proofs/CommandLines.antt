@@ -1,13 +1,10 @@
 -- What clap's specification computes for command lines that are written out.
-use Rattle.clap.specs.Kinds.{or_else}
-use Rattle.clap.specs.Words.{fault_of, IsAmong, Kinds, subcommand_of, Text}
 use Rattle.clap.specs.declared.builder.value_parser.ValueParser.{ValueParser}
-use Rattle.clap.specs.declared.error.kind.ErrorKind.{ErrorKind}
+use Rattle.clap.specs.{declared.error.kind.ErrorKind.{ErrorKind}, Kinds.{or_else}}
+use Rattle.clap.specs.Words.{fault_of, IsAmong, Kinds, subcommand_of, Text}
 use Rattle.std.proofs.Common.{◌||◌, ◌∙◌, ◌∷◌, ◌≡◌, ◌≢◌, [], ap, Bool, codes, if◌then◌else◌, inl}
 use Rattle.std.proofs.Common.{inr, List, map, Option, option_and_then, refl, Some, subst, sym, true}
-use Rattle.std.specs.Borrow.{Bor}
-use Rattle.std.specs.List.{list_any}
-use Rattle.std.specs.Str.{bytes_eq}
+use Rattle.std.specs.{Borrow.{Bor}, List.{list_any}, Str.{bytes_eq}}
 use Rattle.clap.specs.declared.builder.value_parser.ValueParser.TheVariants as parser
 use Rattle.clap.proofs.OnLiterals.{clap_on_literals}
 use Rattle.clap.specs.declared.error.kind.ErrorKind.TheVariants.{DisplayHelp}
@@ -15,16 +12,16 @@ use Rattle.clap.specs.declared.error.kind.ErrorKind.TheVariants.{DisplayHelpOnMi
 use Rattle.clap.specs.declared.error.kind.ErrorKind.TheVariants.{InvalidValue}
 use Rattle.clap.specs.declared.error.kind.ErrorKind.TheVariants.{MissingRequiredArgument}
 use Rattle.clap.specs.declared.error.kind.ErrorKind.TheVariants.{UnknownArgument, ValueValidation}
-use Rattle.fc_board.specs.declared.rule.Variant.{Variant}
 use Rattle.fc_board.specs.declared.rule.Variant.TheVariants.{BakersGame, EightOff, FreeCell}
-use Rattle.fc_collect.specs.Limits.{largest}
-use Rattle.fc_collect.specs.declared.commands.Format.TheVariants.{Header, Json}
+use Rattle.fc_board.specs.declared.rule.Variant.{Variant}
+use Rattle.fc_collect.specs.{declared.commands.Format.TheVariants.{Header, Json}, Limits.{largest}}
+use Rattle.fc_import.specs.declared.changes.Noted.{Noted, TheVariants.{Changes, Strict}}
 use Rattle.fc_import.specs.declared.layout.LinesAre.{LinesAre, TheVariants.{Columns, Rows}}
 use Rattle.fc_tool.specs.{command_of, deal_request, dealt_names, limits_from, plain_options}
-use Rattle.fc_tool.specs.{plain_request, program, reading_request, request_of, TakesAlone, variant_names}
-use Rattle.fc_tool.specs.declared.request.Request.{Request}
-use Rattle.fc_tool.specs.declared.request.Task.{Task}
-use Rattle.fc_tool.specs.declared.request.Task.TheVariants.{Canon, Check, Count, Deal, Expand, Group}
+use Rattle.fc_tool.specs.{plain_request, program, reading_request, request_of, TakesAlone}
+use Rattle.fc_tool.specs.{variant_names}
+use Rattle.fc_tool.specs.declared.request.{Request.{Request}, Task.{Task, TheVariants.{Canon}}}
+use Rattle.fc_tool.specs.declared.request.Task.TheVariants.{Check, Count, Deal, Expand, Group}
 use Rattle.fc_tool.specs.declared.request.Task.TheVariants.{Import, Same, Share, Show, Symmetries}
 use Rattle.fc_tool.specs.declared.request.Task.TheVariants.{Table, Unique}
 
@@ -537,6 +534,30 @@ by_rows choices dealt called = refl
 pub by_rows_columns : (choices dealt : ValueParser) (called : Text) → asked_by choices dealt (called ∷ codes "import" ∷ codes "--rows" ∷ codes "--columns" ∷ []) ≡ Some (import_as Columns)
 unfolding clap_on_literals
 by_rows_columns choices dealt called = refl
+
+abbrev pub import_noting : Noted → Request
+import_noting noted = record (plain_request Import FreeCell) { options = record plain_options { noted = noted } }
+
+pub by_explain : (choices dealt : ValueParser) (called : Text)
+    → asked_by choices dealt (called ∷ codes "import" ∷ codes "--explain" ∷ []) ≡ Some (import_noting Changes)
+unfolding clap_on_literals
+by_explain choices dealt called = refl
+
+pub by_strict : (choices dealt : ValueParser) (called : Text)
+    → asked_by choices dealt (called ∷ codes "import" ∷ codes "--strict" ∷ []) ≡ Some (import_noting Strict)
+unfolding clap_on_literals
+by_strict choices dealt called = refl
+
+pub by_strict_explain : (choices dealt : ValueParser) (called : Text)
+    → asked_by choices dealt (called ∷ codes "import" ∷ codes "--strict" ∷ codes "--explain" ∷ []) ≡ Some
+    (import_noting Strict)
+unfolding clap_on_literals
+by_strict_explain choices dealt called = refl
+
+pub fault_of_strict : (choices dealt : ValueParser) (called : Text)
+    → fault_of (program choices dealt) (called ∷ codes "show" ∷ codes "--strict" ∷ []) ≡ UnknownArgument ∷ []
+unfolding clap_on_literals
+fault_of_strict choices dealt called = refl
 
 pub fault_of_rows : (choices dealt : ValueParser) (called : Text) → fault_of (program choices dealt) (called ∷ codes "show" ∷ codes "--rows" ∷ []) ≡ UnknownArgument ∷ []
 unfolding clap_on_literals

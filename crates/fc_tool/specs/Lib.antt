@@ -21,6 +21,7 @@ use Rattle.fc_collect.specs.declared.commands.Format.{Format, TheVariants.{Heade
 use Rattle.fc_collect.specs.declared.{commands.RunKind.{RunKind}, streams.counted.Counted.{Counted}}
 use Rattle.fc_collect.specs.declared.streams.faults.{RunFault.{RunFault}, Summary.{Summary}}
 use Rattle.fc_collect.specs.declared.streams.limits.Limits.{Limits}
+use Rattle.fc_import.specs.declared.changes.Noted.{Noted, TheVariants.{Changes, Doubts, Strict}}
 use Rattle.fc_import.specs.declared.layout.LinesAre.{LinesAre, TheVariants.{Columns, Rows, Unsaid}}
 use Rattle.fc_tool.specs.declared.program.{DealtGame.{DealtGame}, Job.{Job}}
 use Rattle.fc_tool.specs.declared.request.{Options.{Options}, Request.{Request}, Task.{Task}}
@@ -77,6 +78,13 @@ columns_option = flag_option (codes "columns") (codes "columns")
 abbrev pub rows_option : Rule
 rows_option = flag_option (codes "rows") (codes "rows")
 
+-- the options `--explain` and `--strict`
+abbrev pub explain_option : Rule
+explain_option = flag_option (codes "explain") (codes "explain")
+
+abbrev pub strict_option : Rule
+strict_option = flag_option (codes "strict") (codes "strict")
+
 -- an option of this name that takes a number from `least` up to what a run can count to
 abbrev pub start_option : Text → Text → ℕ → Rule
 start_option id name least =
@@ -103,7 +111,7 @@ piece_options choices = variant_option choices ∷ any_size_option ∷ from_reco
 
 -- the options of the command that makes a collection
 abbrev pub import_options : ValueParser → List Rule
-import_options choices = variant_option choices ∷ columns_option ∷ rows_option ∷ []
+import_options choices = variant_option choices ∷ columns_option ∷ rows_option ∷ explain_option ∷ strict_option ∷ []
 
 -- what the command of each task takes, of which `deal` has choices of its own
 abbrev pub rules_of : (choices dealt : ValueParser) → Task → List Rule
@@ -206,9 +214,13 @@ limits_in rows = limits_named (any_size_in rows) (first_of (codes "from_record")
 abbrev pub lines_in : List Row → LinesAre
 lines_in rows = if is_true (first_of (codes "columns") rows) then Columns else (if is_true (first_of (codes "rows") rows) then Rows else Unsaid)
 
+-- what is noted of an import: each change where that is asked for, and strictly where that is
+abbrev pub noted_in : List Row → Noted
+noted_in rows = if is_true (first_of (codes "strict") rows) then Strict else (if is_true (first_of (codes "explain") rows) then Changes else Doubts)
+
 -- those of a command that is given none
 abbrev pub plain_options : Options
-plain_options = record { format = Lines; limits = standard; lines_are = Unsaid }
+plain_options = record { format = Lines; limits = standard; lines_are = Unsaid; noted = Doubts }
 
 -- a task for a variant within limits, without a number
 abbrev pub reading_request : Task → Variant → Limits → Request
@@ -226,7 +238,7 @@ deal_request variant number = record { task = Deal; variant = variant; number = 
 abbrev pub request_for : List Row → Task → Variant → Option Request
 request_for rows Deal EightOff = None
 request_for rows Deal variant = option_map (deal_request variant) (number_in rows)
-request_for rows Import variant = Some (record (plain_request Import variant) { options = record plain_options { lines_are = lines_in rows } })
+request_for rows Import variant = Some (record (plain_request Import variant) { options = record plain_options { lines_are = lines_in rows; noted = noted_in rows } })
 request_for rows task variant = option_map (λ limits. record (plain_request task variant) { options = record plain_options { format = format_in rows; limits = limits } }) (limits_in rows)
 
 -- the request of a command, by its name and its rows
@@ -277,7 +289,7 @@ deal_job EightOff number = None
 
 -- what a task does for a game, with the number of a deal and with options: nothing where a deal has no number
 abbrev pub job_of_task : Task → Variant → Option ℕ → Options → Option Job
-job_of_task Import variant number options = Some (job.Import variant options.lines_are)
+job_of_task Import variant number options = Some (job.Import variant options.lines_are options.noted)
 job_of_task Deal variant number options = option_and_then (deal_job variant) number
 job_of_task task variant number options = option_map (λ kind. job.Run kind variant options.limits) (run_of_task options.format task)
 
@@ -338,7 +350,7 @@ module _ {R W : Type 0} (remaining : R → Option (List ℕ)) (contents : W → 
   -- how a job ended, or that there was none
   abbrev pub EndsJob : Option Job → Type 0
   EndsJob (Some (job.Run kind variant limits)) = EndsRun limits [] (TransfersWithin limits kind variant)
-  EndsJob (Some (job.Import variant lines_are)) = (said : List ℕ) × EndsRun standard said (Transfers (ImportFits variant said))
+  EndsJob (Some (job.Import variant lines_are noted)) = (said : List ℕ) × EndsRun standard said (Transfers (ImportFits variant noted said))
   EndsJob (Some (job.Deal game number)) = (left ≡ input) × EndsDeal contents before after status message game number
   EndsJob None = (left ≡ input) × (after ≡ before) × (status ≡ 2)
 
@@ -386,5 +398,5 @@ CountsUpTo job = ⊤
 
 -- the job is an import
 abbrev pub IsImport : Option Job → Type 0
-IsImport (Some (job.Import variant lines_are)) = ⊤
+IsImport (Some (job.Import variant lines_are noted)) = ⊤
 IsImport job = ⊥

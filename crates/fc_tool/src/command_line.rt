@@ -18,8 +18,8 @@ mod help;
 mod matches;
 
 use help::{
-    ABOUT, ANY_SIZE, COLUMNS, FROM_BYTE, FROM_RECORD, GAME_DEALT, GAME_READ, HEADER, Help, JSON,
-    NOTES, ROWS, USAGE,
+    ABOUT, ANY_SIZE, COLUMNS, EXPLAIN, FROM_BYTE, FROM_RECORD, GAME_DEALT, GAME_READ, HEADER, Help,
+    JSON, NOTES, ROWS, STRICT, USAGE,
 };
 use matches::request_of;
 
@@ -155,7 +155,7 @@ fn number_argument<'a>(alloc: Global) -> Arg<'a>
         .help("The number of the deal")
 }
 
-// A command that makes a collection, with its three options.
+// A command that makes a collection, with its five options.
 fn importing_command<'a>(
     alloc: Global,
     choices: ValueParser<'a>,
@@ -168,7 +168,9 @@ fn importing_command<'a>(
 {
     board_command(alloc, choices, name, help)?
         .arg(flag_option(alloc, "columns", "columns", COLUMNS))?
-        .arg(flag_option(alloc, "rows", "rows", ROWS))
+        .arg(flag_option(alloc, "rows", "rows", ROWS))?
+        .arg(flag_option(alloc, "explain", "explain", EXPLAIN))?
+        .arg(flag_option(alloc, "strict", "strict", STRICT))
 }
 
 // A command that takes nothing, and what its help says.

@@ -20,6 +20,7 @@ ghost use Rattle.fc_collect.specs.declared.commands.Format.TheVariants.{Header, 
 ghost use Rattle.fc_collect.specs.declared.commands.RunKind.{RunKind};
 ghost use Rattle.fc_collect.specs.declared.commands.RunKind.TheVariants as runs;
 ghost use Rattle.fc_collect.specs.declared.streams.faults.{RunFault.{RunFault}, Summary.{Summary}};
+ghost use Rattle.fc_import.specs.declared.changes.Noted.TheVariants.{Changes, Strict};
 ghost use Rattle.fc_import.specs.declared.layout.LinesAre.TheVariants.{Columns, Rows};
 ghost use Rattle.fc_tool.specs.{command_of, deal_request, EndsDealing, EndsProgram, fault_line};
 ghost use Rattle.fc_tool.specs.{job_of, limits_from, plain_options, plain_request, reading_request};
@@ -174,6 +175,25 @@ pub fn lines_are_said_to_be_columns_or_rows()
         { options = record plain_options { lines_are = Columns } }) }
     ensures no_show { (called : Text) (answer : Option Request)
         → ¬ Reads (called ∷ codes "show" ∷ codes "--rows" ∷ []) (Ok answer) }
+{}
+
+/// `--explain` and `--strict` say what `import` notes, the latter where both are said. No other
+/// command takes them.
+pub fn notes_are_asked_for()
+    ensures explain { (called : Text) (answer : Option Request)
+        → Reads (called ∷ codes "import" ∷ codes "--explain" ∷ []) (Ok answer)
+        → answer ≡ Some (record (plain_request Import FreeCell)
+        { options = record plain_options { noted = Changes } }) }
+    ensures strict { (called : Text) (answer : Option Request)
+        → Reads (called ∷ codes "import" ∷ codes "--strict" ∷ []) (Ok answer)
+        → answer ≡ Some (record (plain_request Import FreeCell)
+        { options = record plain_options { noted = Strict } }) }
+    ensures both { (called : Text) (answer : Option Request)
+        → Reads (called ∷ codes "import" ∷ codes "--strict" ∷ codes "--explain" ∷ []) (Ok answer)
+        → answer ≡ Some (record (plain_request Import FreeCell)
+        { options = record plain_options { noted = Strict } }) }
+    ensures no_show { (called : Text) (answer : Option Request)
+        → ¬ Reads (called ∷ codes "show" ∷ codes "--strict" ∷ []) (Ok answer) }
 {}
 
 /// The game may be a word of its own.

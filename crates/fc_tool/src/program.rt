@@ -21,7 +21,7 @@ use fc_collect::{
     Counted, Limits, RunFault, RunKind, Seed, Summary, Variant, run_within, write_bytes, write_text,
 };
 use fc_deal::{DealFault, Numbered, deal_board};
-use fc_import::{LinesAre, run_import};
+use fc_import::{LinesAre, Noted, run_import};
 use fc_text::write_board;
 use std::alloc::Global;
 use std::io::{self, Read, Write};
@@ -129,7 +129,7 @@ enum Job {
     /// A run over a collection, in which records without a header are of this game.
     Run(RunKind, Variant, Limits),
     /// An import, of boards of this game.
-    Import(Variant, LinesAre),
+    Import(Variant, LinesAre, Noted),
     /// The deal of this number.
     Deal(DealtGame, u32),
 }
@@ -150,9 +150,10 @@ impl Job {
             format,
             limits,
             lines_are,
+            noted,
         } = request.options;
         match request.task {
-            Task::Import => Some(Job::Import(request.variant, lines_are)),
+            Task::Import => Some(Job::Import(request.variant, lines_are, noted)),
             Task::Deal => deal_job(request.variant, request.number?),
             task => Some(Job::Run(task.run(format)?, request.variant, limits)),
         }
@@ -191,8 +192,8 @@ fn run_job<Rd: Read, Wr: Write, Er: Write>(
         ⊎ Keeps (Er.contents (inner_of errors.old)) (Er.contents (inner_of errors.new)) }
 {
     let ending = match job {
-        Some(Job::Import(variant, lines_are)) => {
-            return import(alloc, variant, lines_are, input, output, errors);
+        Some(Job::Import(variant, lines_are, noted)) => {
+            return import(alloc, variant, lines_are, noted, input, output, errors);
         }
         Some(Job::Run(kind, variant, limits)) => {
             finish(&run_within(alloc, kind, variant, limits, seed, input, output))
@@ -208,6 +209,7 @@ fn import<Rd: Read, Wr: Write, Er: Write>(
     alloc: Global,
     variant: Variant,
     lines_are: LinesAre,
+    noted: Noted,
     input: &mut Counted<Rd>,
     output: &mut Counted<Wr>,
     errors: &mut Counted<Er>,
@@ -217,11 +219,11 @@ fn import<Rd: Read, Wr: Write, Er: Write>(
     requires errors_low { HasRoom errors.old }
     ensures { (message : List ℕ) × ((said : List ℕ)
         × EndsRun Rd.remaining Wr.contents input.old input.new output.old output.new
-        result message standard said (Transfers (ImportFits variant said)))
+        result message standard said (Transfers (ImportFits variant noted said)))
         × TriesToWrite Er.contents message errors.old errors.new }
 {
     let mut said = Vec::new(alloc);
-    let outcome = run_import(alloc, variant, lines_are, input, output, &mut said);
+    let outcome = run_import(alloc, variant, lines_are, noted, input, output, &mut said);
     let ending = finish(&outcome);
     let line = ending.line.as_str().as_bytes();
     let _ = say_notes(said.as_slice(), line, errors);

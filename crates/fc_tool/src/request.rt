@@ -1,7 +1,7 @@
 //! What a command line asks for, or why it asks for nothing.
 
 use fc_collect::{CountFormat, Format, Limits, RunKind, Variant};
-use fc_import::LinesAre;
+use fc_import::{LinesAre, Noted};
 
 /// What a command does: one task for each command, by its name.
 #[derive(Clone, Copy, PartialEq, Eq)]
@@ -109,13 +109,14 @@ pub struct Request {
     pub options: Options,
 }
 
-/// The format of what a task writes, the limits of what it reads, and what lines of cards are to
-/// `import` where they may be columns or rows.
+/// The format of what a task writes, the limits of what it reads, and for `import` what lines of
+/// cards are where they may be columns or rows, and what is noted.
 #[derive(Clone, Copy, PartialEq, Eq)]
 pub struct Options {
     pub format: Format,
     pub limits: Limits,
     pub lines_are: LinesAre,
+    pub noted: Noted,
 }
 
 impl Options {
@@ -130,6 +131,7 @@ impl Options {
             format: Format::Lines,
             limits: Limits::STANDARD,
             lines_are: LinesAre::Unsaid,
+            noted: Noted::Doubts,
         }
     }
 }

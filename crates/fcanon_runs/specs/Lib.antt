@@ -15,6 +15,7 @@ use Rattle.fc_collect.specs.declared.{
   streams.faults.RunFault.{RunFault, TheVariants.{Memory, Read, ReaderNeverEnds, TooLarge, Write}},
   streams.{faults.Summary.{Summary}, limits.Limits.{Limits}},
 }
+use Rattle.fc_import.specs.declared.changes.Noted.TheVariants.{Doubts}
 use Rattle.fcanon_runs.specs.declared.output.Written.{Written}
 
 -- ======== The numbers by which C knows games, tasks, formats and faults. From: this project's profile.
@@ -79,7 +80,7 @@ FaultOf limits input answer = answer ≡ 13 → (front : List ℕ) × Begins fro
 -- this text is made of the input, and this is said of it
 pub record ImportOf (variant : Variant) (input text said : List ℕ) (summary : Summary) : Type 0 where
   pub few : length input ≤ most_bytes
-  pub makes : Makes variant input text said summary
+  pub makes : Makes variant Doubts input text said summary
 
 -- the output begins with what is made of the input, and the notes with what is said of it; both are as they were after that
 pub record HandsOverImport (variant : Variant) (input before after notes_before notes_after : List ℕ) (written : Written) (noted : ℕ) : Type 0 where

@@ -6,7 +6,7 @@ ghost use Rattle.fcanon_runs.specs.{NeedsRoomForImport, variant_at};
 use crate::numbers::{DONE, NO_GAME, NO_ROOM, answer_to, game_of};
 use crate::output::{Written, put_front};
 use fc_collect::{Counted, RunFault, Summary, Variant};
-use fc_import::{LinesAre, run_import};
+use fc_import::{LinesAre, Noted, run_import};
 use std::alloc::Global;
 
 /// Makes a collection of this game of the text, as the program does, and puts it to the front of
@@ -72,6 +72,7 @@ fn import_over(alloc: Global, variant: Variant, input: &[u8]) -> Result<Imported
         alloc,
         variant,
         LinesAre::Unsaid,
+        Noted::Doubts,
         &mut reader,
         &mut writer,
         &mut said,

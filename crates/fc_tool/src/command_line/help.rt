@@ -284,7 +284,7 @@ its number.
 Nothing is said of a board that its lines spell out. What is turned, left out or
 not taken is said on standard error, a line each: its place as NAME:LINE:COLUMN
 and what to write instead. The last line counts all. The status is 1 if a board
-or a list is not taken.
+or a list is not taken, and with --strict if anything is noted.
 
 Example: fcanon import < found.txt > my.collection",
 };
@@ -322,6 +322,12 @@ rows as well";
 
 pub(super) const ROWS: &str = "Take lines of cards for rows, where they may be
 columns as well";
+
+pub(super) const EXPLAIN: &str = "Note also each board and list that is written in
+another spelling, as TH for 10h";
+
+pub(super) const STRICT: &str = "Note the same as with --explain, and end with status
+1 if anything is noted";
 
 pub(super) const JSON: &str = "Print an object of JSON in place of a line";
 

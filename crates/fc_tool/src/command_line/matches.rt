@@ -2,13 +2,13 @@
 ghost use Rattle.clap.specs.Words.{first_of, found_of, rows_of, subcommand_rows_of};
 ghost use Rattle.std.specs.{Option.{option_map}, Prelude.{◌<◌, ◌^◌, ◌≡◌, ◌≤◌, option_and_then}};
 ghost use Rattle.fc_tool.specs.{any_size_in, format_in, is_true, limits_in, limits_named, lines_in};
-ghost use Rattle.fc_tool.specs.{number_between, number_in, request_of, start_named, variant_in};
-ghost use Rattle.fc_tool.specs.{variant_of_argument};
+ghost use Rattle.fc_tool.specs.{noted_in, number_between, number_in, request_of, start_named};
+ghost use Rattle.fc_tool.specs.{variant_in, variant_of_argument};
 
 use crate::request::{Options, Request, Task};
 use clap::ArgMatches;
 use fc_collect::{Format, Limits, MOST_COUNTABLE, Variant};
-use fc_import::LinesAre;
+use fc_import::{LinesAre, Noted};
 
 /// What the command that was met asks for.
 pub(super) fn request_of(matches: &ArgMatches<'_>) -> Option<Request>
@@ -38,6 +38,7 @@ fn request_in(name: &str, own: &ArgMatches<'_>) -> Option<Request>
             number: None,
             options: Options {
                 lines_are: lines_in(own),
+                noted: noted_in(own),
                 ..Options::plain()
             },
         }),
@@ -64,6 +65,19 @@ fn lines_in(own: &ArgMatches<'_>) -> LinesAre
         LinesAre::Rows
     } else {
         LinesAre::Unsaid
+    }
+}
+
+// What is noted of an import: each change, and strictly, where `--strict` is given.
+fn noted_in(own: &ArgMatches<'_>) -> Noted
+    ensures { result ≡ noted_in (rows_of (found_of own.now)) }
+{
+    if is_given(own, "strict") {
+        Noted::Strict
+    } else if is_given(own, "explain") {
+        Noted::Changes
+    } else {
+        Noted::Doubts
     }
 }
 

@@ -2,7 +2,7 @@
 use clap::error::ErrorKind;
 use fc_collect::Variant::{self, BakersGame, EightOff, FreeCell};
 use fc_collect::{Format, Limits};
-use fc_import::LinesAre;
+use fc_import::{LinesAre, Noted};
 use fc_tool::Task::{
     self, Canon, Check, Count, Expand, Group, Same, Share, Show, Symmetries, Table, Unique,
 };
@@ -14,6 +14,7 @@ const PLAIN: Options = Options {
     format: Format::Lines,
     limits: Limits::STANDARD,
     lines_are: LinesAre::Unsaid,
+    noted: Noted::Doubts,
 };
 
 // The words of a command line, which are apart by one blank.

@@ -1,8 +1,11 @@
-use Rattle.std.proofs.Common.{◌≢◌, [], arith}
-use Rattle.std.proofs.lemmas.List.Elements.{All-from_get_or}
+use Rattle.std.proofs.{Common.{◌≢◌, [], arith, refl}, lemmas.List.Elements.{All-from_get_or}}
 use Rattle.fc_import.proofs.cards.has_full_columns.Goals as goal
 
 pub returns : goal.returns
-returns g c = λ yes.
-    All-from_get_or (λ column. column ≢ []) c.args.board.now.columns []
-    (λ place inside. c.loop-index.invariant place (omega (arith, inside, c.loop-index-test.false, c.heights.ensures.well_formed.piles.eight_columns)))
+returns g c = (
+  (λ yes.
+      All-from_get_or (λ column. column ≢ []) c.args.board.now.columns []
+      (λ place inside. c.loop-index.invariant place
+      (omega (arith, inside, c.loop-index-test.false, c.heights.ensures.well_formed.piles.eight_columns)))),
+  (λ all. refl),
+)

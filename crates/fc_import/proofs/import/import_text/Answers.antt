@@ -1,13 +1,16 @@
-use Rattle.std.proofs.Common.{arith, drop, refl, subst, sym, take}
+use Rattle.std.proofs.{Common.{[], arith, drop, refl, subst, sym, take}, lemmas.List.{take_rest}}
 use Rattle.std.proofs.Math.Seq.{take-add}
-use Rattle.std.proofs.lemmas.List.{take_rest}
-use Rattle.fc_import.proofs.PieceLemmas.{lines_more}
-use Rattle.fc_import.proofs.TakingLemmas.{one_taken_more}
+use Rattle.fc_import.proofs.{PieceLemmas.{lines_more}, TakingLemmas.{one_taken_more}}
 use Rattle.fc_import.specs.inside.{IsMade, TakesFirst}
 use Rattle.fc_import.proofs.import.import_text.Goals as goal
 
 pub loop-at-init : goal.loop-at-init
-loop-at-init g c = record { within = omega arith; whole = λ less. refl; so_far = c.new.ensures }
+loop-at-init g c = record {
+  within = omega arith;
+  whole = λ less. refl;
+  so_far = subst (λ noted. IsMade {R = g.row.R.Denot} g.R.Rule.VARIANT noted g.R.Rule.game [] c.new.result)
+      (sym c.new.ensures.noted) c.new.ensures.made;
+}
 
 pub loop-at-preserved : goal.loop-at-preserved
 loop-at-preserved g c =
@@ -22,6 +25,8 @@ loop-at-preserved g c =
     record {
       within = within;
       whole = whole;
-      so_far = subst (λ text. IsMade {R = g.row.R.Denot} g.R.Rule.VARIANT g.R.Rule.game text new) (sym (take-add at len text))
-          (one_taken_more {R = g.row.R.Denot} g.R.Rule.VARIANT g.R.Rule.game (take at text) (take len (drop at text)) old new ends c.loop-at.invariant.so_far taken.takes);
+      so_far = subst (λ text. IsMade {R = g.row.R.Denot} g.R.Rule.VARIANT c.new.result.noted g.R.Rule.game text new)
+          (sym (take-add at len text))
+          (one_taken_more {R = g.row.R.Denot} g.R.Rule.VARIANT c.new.result.noted g.R.Rule.game (take at text)
+          (take len (drop at text)) old new ends c.loop-at.invariant.so_far taken.takes);
     }

@@ -1,12 +1,9 @@
-use Rattle.std.proofs.Common.{◌++◌, ◌∙◌, [], append-nil, inl, refl, sym}
-use Rattle.{fc_record.specs.Printing.{header_text}, fc_text.specs.Printed.{text_of}}
-use Rattle.fc_import.specs.Import.{a_board}
-use Rattle.fc_import.proofs.TakingLemmas.{taken}
+use Rattle.{fc_import.proofs.TakingLemmas.{board_taken}, std.proofs.Common.{inl}}
 use Rattle.fc_import.proofs.made.Made.put_shown.Goals as goal
 
 pub returns-clause-taken : goal.returns-clause-taken
 returns-clause-taken g c = λ is.
-    let (name, named, written) = c.in_ok-put_board.ensures.written in
-    taken {R = g.row.R.Denot} g.R.Rule.VARIANT g.R.Rule.game c.args.piece.now c.args.self.now c.put_board.new.self _ c.in_ok-put_board.ensures.state (header_text g.R.Rule.VARIANT name ++ text_of c.args.board) []
-    (a_board name c.args.board [] named c.in_ok-put_board.ensures.well_formed (c.can_be.ensures.0 c.if-not-can_be.false) (inl (refl, inl c.requires)))
-    written (c.in_ok-put_board.ensures.notes ∙ sym (append-nil _))
+    board_taken {R = g.row.R.Denot} g.R.Rule.VARIANT g.R.Rule.game c.args.piece.now c.args.board c.args.self.now
+    c.say_change.new.self c.put_board.new.self (inl (inl c.requires)) c.in_ok-say_change.ensures
+    c.in_ok-put_board.ensures.well_formed (c.can_be.ensures.0 c.if-not-can_be.false) c.in_ok-put_board.ensures.state
+    c.in_ok-put_board.ensures.written c.in_ok-put_board.ensures.notes

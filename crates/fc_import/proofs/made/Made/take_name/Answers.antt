@@ -6,7 +6,13 @@ pub returns : goal.returns
 returns g c =
     let named = c.in_ok-name.ensures ∙ ap (λ variant. name_by (heading_of variant c.args.line.now)) c.VARIANT.ensures in
     record {
-      state = ap₂ {C = State} (λ name line. record { last = None; place = record { name = name; header = c.args.self.now.walk.line; line = line }; named = 0; tally = c.args.self.now.tally }) named c.line_after.ensures;
+      state = ap₂ {C = State} (λ name line. record {
+        noted = c.args.self.now.noted;
+        last = None;
+        place = record { name = name; header = c.args.self.now.walk.line; line = line };
+        named = 0;
+        tally = c.args.self.now.tally;
+      }) named c.line_after.ensures;
       written = refl;
       notes = refl;
     }

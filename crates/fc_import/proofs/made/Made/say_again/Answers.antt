@@ -1,0 +1,18 @@
+use Rattle.std.proofs.Common.{◌∙◌, ◌≡◌, false, inr, refl, sym, true}
+use Rattle.fc_import.proofs.made.Made.say_again.Goals as goal
+
+pub returns : goal.returns
+returns g c = λ board last.
+    let (said, note, grows) = c.in_ok-push_note.ensures in
+    record {
+      said = said;
+      notes = grows;
+      is = inr (
+        (λ stands. absurd
+            (let e : false ≡ true =
+            sym c.if-branch.false ∙ c.in_ok-stands_as_last.ensures.1 (board, last, stands) in cc)),
+        note,
+      );
+      state = refl;
+      written = refl;
+    }
