@@ -12,6 +12,7 @@ from typing import NamedTuple
 TASKS = ["show", "canon", "check", "group", "share", "expand", "unique", "table", "same", "symmetries", "count"]
 FORMATS = ["lines", "header", "json"]
 GAMES = ["freecell", "bakers_game", "eight_off"]
+LINES = ["unsaid", "columns", "rows"]
 FAULTS = {1: "no such game", 10: "no such task", 11: "no such format", 12: "out of memory", 13: "input too large"}
 NO_ROOM = 9
 
@@ -39,7 +40,7 @@ class Runs:
         text = [ctypes.c_char_p, ctypes.c_size_t]
         written, noted = ctypes.POINTER(Written), ctypes.POINTER(ctypes.c_size_t)
         self.library.fcanon_run.argtypes = [ctypes.POINTER(Request), *text, *text, written]
-        self.library.fcanon_import.argtypes = [ctypes.c_uint32, *text, *text, *text, written, noted]
+        self.library.fcanon_import.argtypes = [ctypes.c_uint32, ctypes.c_uint32, *text, *text, *text, written, noted]
 
     def run(self, task, text, form="lines", game="freecell", any_size=False):
         """What `fcanon TASK` prints of these bytes; form is that of table and count."""
@@ -50,13 +51,13 @@ class Runs:
             answer = self.library.fcanon_run(request, text, len(text), output, len(output), written)
         return printed(answer, written, output)
 
-    def import_text(self, text, game="freecell"):
-        """The collection that `fcanon import` makes of these bytes."""
+    def import_text(self, text, game="freecell", lines="unsaid"):
+        """The collection that `fcanon import` makes of these bytes; lines that may be columns or rows are what is said."""
         written, noted, answer = Written(2 * len(text) + 4096), ctypes.c_size_t(4096), NO_ROOM
         while answer == NO_ROOM:
             output, notes = ctypes.create_string_buffer(written.length), ctypes.create_string_buffer(noted.value)
             answer = self.library.fcanon_import(
-                GAMES.index(game), text, len(text), output, len(output), notes, len(notes), written, noted)
+                GAMES.index(game), LINES.index(lines), text, len(text), output, len(output), notes, len(notes), written, noted)
         return printed(answer, written, output, notes, noted.value)
 
 

@@ -67,10 +67,16 @@ typedef struct {
 uint32_t fcanon_run(const fcanon_request *request, const char *input, size_t input_size,
     char *output, size_t output_size, fcanon_written *written);
 
+/* What lines of cards are that may be columns or rows: where it is not said, a note asks. Any other
+ * number says nothing, too. */
+#define FCANON_LINES_UNSAID 0
+#define FCANON_LINES_COLUMNS 1
+#define FCANON_LINES_ROWS 2
+
 /* Makes a collection of this game of a text, as `fcanon import` does, and puts it to the front of
  * the output. What the program says of the text on standard error is put to the front of the
  * notes, `noted` bytes. At most 16 MiB are taken. */
-uint32_t fcanon_import(uint32_t game, const char *input, size_t input_size,
+uint32_t fcanon_import(uint32_t game, uint32_t lines, const char *input, size_t input_size,
     char *output, size_t output_size, char *notes, size_t notes_size,
     fcanon_written *written, size_t *noted);
 

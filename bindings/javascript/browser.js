@@ -1,6 +1,6 @@
 // browser.js: fcanon for browsers and workers. It is ready after `await init()`.
 
-import { isStarted, start } from './fcanon.js';
+import { isStarted, start } from './calls.js';
 
 async function bytesAt(place) {
   const response = await fetch(place);
@@ -18,4 +18,5 @@ export default async function init(source = new URL('fcanon.wasm', import.meta.u
   if (!isStarted()) start(await moduleOf(source));
 }
 
-export { Board, FcanonError, GAMES, Passage, canonicalizeAll } from './fcanon.js';
+export { GAMES } from './calls.js';
+export { Board, FcanonError, Passage, canonicalizeAll } from './fcanon.js';

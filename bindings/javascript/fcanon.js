@@ -1,18 +1,10 @@
 // fcanon.js: canonical boards of FreeCell, Baker's Game and Eight Off, and moves carried to them.
-// fcanon.d.ts says what each method does. Behind it is a call of fcanon.h, in the WebAssembly
-// module fcanon.wasm, which node.js or browser.js hands to `start`.
+// fcanon.d.ts says what each method does. Behind it is a call of fcanon.h.
 
-// tools/tables wrote this from fcanon.h, to the next empty line.
-export const GAMES = ['freecell', 'bakers_game', 'eight_off'];
-const CELL_COUNTS = [4, 4, 8];
-const MOST_MOVES = 49;
-const MOST_CHILDREN = 272;
-const MOST_RUN_MOVES = 672;
-const FIRST_MISSING_CARD = 128;
+import {
+  answerOf, CELL_COUNTS, CELLS, GAMES, MOST_CHILDREN, MOST_MOVES, MOST_RUN_MOVES, numberIn, SUITS, textOf, wordsOf,
+} from './calls.js';
 
-const SUITS = 'CDHS';
-const RANKS = 'A23456789TJQK';
-const CELLS = 'abcdefgk';
 const MOST_SYMMETRIES = 24;
 
 export class FcanonError extends Error {
@@ -23,70 +15,18 @@ export class FcanonError extends Error {
   }
 }
 
-// ---- calls
-
-let calls = null;
-let firstFree = 0; // the place after the module's data
-
-// Takes the compiled module that all calls go to.
-export function start(module) {
-  calls = new WebAssembly.Instance(module, {}).exports;
-  firstFree = Math.ceil(Number(calls.__heap_base.value) / 16) * 16;
-}
-
-export const isStarted = () => calls !== null;
-
-// Makes the memory as large as it must be; pages are counted in 64 bits where addresses have as
-// many.
-function makeRoom(size) {
-  const pages = Math.ceil((size - calls.memory.buffer.byteLength) / 65_536);
-  if (pages <= 0) return;
-  try {
-    calls.memory.grow(pages);
-  } catch {
-    calls.memory.grow(BigInt(pages));
-  }
-}
-
-// The words for an answer, which the library has in its memory.
-function wordsOf(answer) {
-  makeRoom(firstFree + 16);
-  calls.fcanon_find_answer_text(answer, BigInt(firstFree));
-  const place = Number(new DataView(calls.memory.buffer).getBigUint64(firstFree, true));
-  const words = textOf(new Uint8Array(calls.memory.buffer, place, 20));
-  const card = answer - FIRST_MISSING_CARD;
-  return card >= 0 && card < 52 ? `${words} ${RANKS[card >> 2]}${SUITS[card & 3]}` : words;
-}
-
-// Makes a call over numbers and arrays of bytes, and puts into the arrays what it wrote there. The
-// last array of some has the place of what is at fault.
+// Makes a call for a game, which must be answered by 0. The last array of some has the place of what
+// is at fault.
 function call(name, game, ...given) {
-  if (calls === null) throw new Error('fcanon is not loaded: write `await init()` before all calls');
   if (!GAMES.includes(game)) throw new FcanonError(1);
-  let end = firstFree;
-  const places = given.map((it) => {
-    if (!(it instanceof Uint8Array)) return null;
-    const place = end;
-    end += Math.ceil((it.length + 1) / 16) * 16;
-    return place;
-  });
-  makeRoom(end);
-  const memory = new Uint8Array(calls.memory.buffer);
-  places.forEach((place, at) => { if (place !== null) memory.set(given[at], place); });
-  const words = given.map((it, at) => (places[at] === null ? it : BigInt(places[at])));
-  const answer = calls[`fcanon_${name}`](GAMES.indexOf(game), ...words);
-  places.forEach((place, at) => {
-    if (place !== null) given[at].set(memory.subarray(place, place + given[at].length));
-  });
+  const answer = answerOf(name, GAMES.indexOf(game), ...given);
   if (answer === 0) return;
   const hasPlace = (name === 'read' && answer >= 64) || (name === 'keys' && answer === 4);
   throw new FcanonError(answer, hasPlace ? numberIn(given.at(-1)) : null);
 }
 
-const numberIn = (bytes) => Number(new DataView(bytes.buffer).getBigUint64(0, true));
 const HEX = Array.from({ length: 256 }, (_, byte) => byte.toString(16).padStart(2, '0'));
 const hexOf = (bytes) => bytes.reduce((text, byte) => text + HEX[byte], '');
-const textOf = (bytes) => String.fromCharCode(...bytes).replace(/\0+$/, '');
 
 // ---- moves
 

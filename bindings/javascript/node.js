@@ -1,10 +1,11 @@
 // node.js: fcanon for Node. It is ready when it is imported.
 
 import { readFileSync } from 'node:fs';
-import { start } from './fcanon.js';
+import { start } from './calls.js';
 
 start(new WebAssembly.Module(readFileSync(new URL('fcanon.wasm', import.meta.url))));
 
 export default async function init() {}
 
-export { Board, FcanonError, GAMES, Passage, canonicalizeAll } from './fcanon.js';
+export { GAMES } from './calls.js';
+export { Board, FcanonError, Passage, canonicalizeAll } from './fcanon.js';

@@ -3,7 +3,9 @@
 
 import assert from 'node:assert';
 import { createRequire } from 'node:module';
+import { readFileSync } from 'node:fs';
 import init, { Board, FcanonError, GAMES, Passage } from 'fcanon';
+import { Runs } from 'fcanon/runs';
 
 await init();
 const text = String(Board.deal(1));
@@ -30,3 +32,8 @@ assert(new Board(text, 'freecell', new Uint8Array(72)).equals(new Board(text)));
 const require = createRequire(import.meta.url);
 if (process.features.require_module) assert.equal(require('fcanon').Board, Board);
 else assert.throws(() => require('fcanon'), /await import/);
+
+// Whole commands run by the package's other module.
+const runs = await Runs.from(readFileSync(new URL(import.meta.resolve('fcanon/fcanon_runs.wasm'))));
+const printed = runs.run('unique', new TextEncoder().encode(`${text}\n@ freecell again\n${text}`));
+assert.deepEqual([new TextDecoder().decode(printed.text), printed.records], [text, 2]);

@@ -60,6 +60,6 @@ REASONS = words(name for name, number in ANSWERS.items() if REASON <= number < F
 FAULTS = words(name for name, number in ANSWERS.items() if FAULT <= number < MISSING[0])
 MOST = {name: it for name, it in defined(HEADER).items() if name.startswith("MOST_")}
 VERSION = defined(HEADER)["VERSION"][0]
-TASKS, FORMATS = numbered("TASK"), numbered("FORMAT")
+TASKS, FORMATS, LINES = map(numbered, ("TASK", "FORMAT", "LINES"))
 # What the answers of fcanon_runs.h mean, by number.
 MEANINGS = {int(number): meaning for number, meaning in re.findall(r"^ \* +(\d+)   (.*)$", RUNS_HEADER, re.M)}

@@ -2,7 +2,7 @@
 // the status, what is printed, or null where a run gives up, and what is said; tests/runs/run says how.
 
 import { readFileSync } from 'node:fs';
-import { Runs } from '../../examples/runs.mjs';
+import { Runs } from '../../bindings/javascript/runs.js';
 
 const runs = await Runs.from(readFileSync(process.argv[2]));
 const packed = (bytes) => Buffer.from(bytes).toString('base64');
@@ -10,7 +10,7 @@ const packed = (bytes) => Buffer.from(bytes).toString('base64');
 function answerTo([task, game, format, anySize, text]) {
   const input = Buffer.from(text, 'base64');
   try {
-    const done = task === 'import' ? runs.import(input, { game }) : runs.run(task, input, { format, game, anySize });
+    const done = task === 'import' ? runs.import(input, { game, lines: format === 'lines' ? 'unsaid' : format }) : runs.run(task, input, { format, game, anySize });
     return [Number(done.refused > 0), packed(done.text), packed(done.said)];
   } catch (error) {
     return [3, null, packed(Buffer.from(`fcanon: ${error.message}\n`))];

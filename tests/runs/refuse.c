@@ -71,7 +71,7 @@ static void call(int task, struct room room, struct outcome *made) {
     memcpy(made, &untouched, sizeof untouched);
     requests.made = 0;
     if (task == IMPORT) {
-        made->answer = fcanon_import(0, input, input_size, made->output, room.output, made->notes, room.notes,
+        made->answer = fcanon_import(0, 0, input, input_size, made->output, room.output, made->notes, room.notes,
             &made->written, &made->noted);
     } else {
         fcanon_request request = {.task = (uint32_t)task, .format = FCANON_FORMAT_LINES, .seed = 7};

@@ -304,7 +304,8 @@ pub fn jobs_are_what_requests_ask_for()
         → run_of_task request.options.format request.task ≡ Some kind
         → job_of request ≡ Some (job.Run kind request.variant request.options.limits) }
     ensures import { (request : Request) → request.task ≡ Import
-        → job_of request ≡ Some (job.Import request.variant request.options.lines_are) }
+        → job_of request ≡ Some (job.Import request.variant request.options.lines_are
+        request.options.noted) }
     ensures freecell { (number : ℕ)
         → job_of (deal_request FreeCell number) ≡ Some (job.Deal dealt.FreeCell number) }
     ensures bakers_game { (number : ℕ)

@@ -16,6 +16,7 @@ use Rattle.fc_collect.specs.declared.{
   streams.{faults.Summary.{Summary}, limits.Limits.{Limits}},
 }
 use Rattle.fc_import.specs.declared.changes.Noted.TheVariants.{Doubts}
+use Rattle.fc_import.specs.declared.layout.LinesAre.{LinesAre, TheVariants.{Columns, Rows, Unsaid}}
 use Rattle.fcanon_runs.specs.declared.output.Written.{Written}
 
 -- ======== The numbers by which C knows games, tasks, formats and faults. From: this project's profile.
@@ -32,6 +33,10 @@ format_at number = slice_index_or (Lines ∷ Header ∷ Json ∷ []) number Line
 abbrev pub kind_at : (task format : ℕ) → RunKind
 kind_at task format =
     slice_index_or (Show ∷ Canon ∷ Check ∷ Group ∷ Share ∷ Expand ∷ Unique ∷ Table (format_at format) ∷ Same ∷ Symmetries ∷ Count (count_format (format_at format)) ∷ []) task Show
+
+-- 1 is columns, 2 rows, and with any other number it is not said
+abbrev pub lines_at : ℕ → LinesAre
+lines_at number = slice_index_or (Unsaid ∷ Columns ∷ Rows ∷ []) number Unsaid
 
 -- a run that is not to take any size takes what one does that is given no limits
 abbrev pub limits_at : ℕ → Limits

@@ -3,7 +3,7 @@ ghost use Rattle.std.specs.Prelude.{◌<◌, ◌≡◌, ◌≢◌, ◌≤◌, �
 ghost use Rattle.fcanon_runs.specs.{fault_answer, HandsOverImport, ImportFaultOf, ImportOf};
 ghost use Rattle.fcanon_runs.specs.{NeedsRoomForImport, variant_at};
 
-use crate::numbers::{DONE, NO_GAME, NO_ROOM, answer_to, game_of};
+use crate::numbers::{DONE, NO_GAME, NO_ROOM, answer_to, game_of, lines_of};
 use crate::output::{Written, put_front};
 use fc_collect::{Counted, RunFault, Summary, Variant};
 use fc_import::{LinesAre, Noted, run_import};
@@ -11,11 +11,13 @@ use std::alloc::Global;
 
 /// Makes a collection of this game of the text, as the program does, and puts it to the front of
 /// the output, and what is said of the text to the front of the notes. Where one of them has too
-/// little room, `written` and `noted` say how much is needed.
+/// little room, `written` and `noted` say how much is needed. `lines` has what lines of cards are
+/// that may be columns or rows: 1 for columns, 2 for rows, and any other number where it is not said.
 #[unsafe(no_mangle)]
 pub extern "C" fn fcanon_import(
     alloc: Global,
     game: u32,
+    lines: u32,
     input: &[u8],
     output: &mut [u8],
     notes: &mut [u8],
@@ -36,7 +38,7 @@ pub extern "C" fn fcanon_import(
     let Some(variant) = game_of(game) else {
         return NO_GAME;
     };
-    let imported = match import_over(alloc, variant, input) {
+    let imported = match import_over(alloc, variant, lines_of(lines), input) {
         Ok(imported) => imported,
         Err(fault) => return answer_to(fault),
     };
@@ -60,7 +62,12 @@ struct Imported {
 }
 
 // Imports the input from its first byte to its last.
-fn import_over(alloc: Global, variant: Variant, input: &[u8]) -> Result<Imported, RunFault>
+fn import_over(
+    alloc: Global,
+    variant: Variant,
+    lines_are: LinesAre,
+    input: &[u8],
+) -> Result<Imported, RunFault>
     ensures done { IfOk result (λ imported. ImportOf variant input.now
         imported.text.items imported.said.items imported.summary) }
     ensures fault { IfErr result (λ fault. fault_answer fault ≡ 13 → ImportFaultOf input.now) }
@@ -71,7 +78,7 @@ fn import_over(alloc: Global, variant: Variant, input: &[u8]) -> Result<Imported
     match run_import(
         alloc,
         variant,
-        LinesAre::Unsaid,
+        lines_are,
         Noted::Doubts,
         &mut reader,
         &mut writer,

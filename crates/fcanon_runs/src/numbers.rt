@@ -1,8 +1,9 @@
 //! The numbers by which C knows games, tasks and formats, and those that calls answer.
 ghost use Rattle.std.specs.Prelude.{◌<◌, ◌≡◌, ◌≤◌, IfSome, None};
-ghost use Rattle.fcanon_runs.specs.{fault_answer, format_at, kind_at, variant_at};
+ghost use Rattle.fcanon_runs.specs.{fault_answer, format_at, kind_at, lines_at, variant_at};
 
 use fc_collect::{CountFormat, Format, RunFault, RunKind, Variant};
+use fc_import::LinesAre;
 
 /// The call did what it says.
 pub(crate) const DONE: u32 = 0;
@@ -67,6 +68,17 @@ fn format_of(number: u32) -> Option<Format>
         1 => Some(Format::Header),
         2 => Some(Format::Json),
         _ => None,
+    }
+}
+
+/// What lines of cards are by this number, where they may be columns or rows.
+pub(crate) fn lines_of(number: u32) -> LinesAre
+    ensures { result ≡ lines_at number }
+{
+    match number {
+        1 => LinesAre::Columns,
+        2 => LinesAre::Rows,
+        _ => LinesAre::Unsaid,
     }
 }
 

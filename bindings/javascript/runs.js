@@ -1,0 +1,86 @@
+// runs.js: what fcanon's commands print of a text in memory, by the calls of fcanon_runs.h, in the
+// WebAssembly module fcanon_runs.wasm.
+
+import { GAMES } from './calls.js';
+
+// tools/tables wrote this from fcanon_runs.h, to the next empty line.
+export const TASKS = ['show', 'canon', 'check', 'group', 'share', 'expand', 'unique', 'table', 'same', 'symmetries',
+  'count'];
+const FORMATS = ['lines', 'header', 'json'];
+const LINES = ['unsaid', 'columns', 'rows'];
+const FAULTS = { 1: 'no such game', 10: 'no such task', 11: 'no such format', 12: 'out of memory', 13: 'input too large' };
+const [DONE, NO_ROOM, NO_MEMORY] = [0, 9, 12];
+
+const [REQUEST_BYTES, SEED_PLACE, WRITTEN_BYTES, SIZE_BYTES] = [24, 16, 24, 8];
+
+export class Runs {
+  constructor(exports) {
+    this.exports = exports;
+  }
+
+  static async from(bytes) {
+    return new Runs((await WebAssembly.instantiate(bytes)).instance.exports);
+  }
+
+  // What a command prints of the bytes of a collection, of how many records, and how many of them are refused.
+  run(task, input, { format = 'lines', game = 'freecell', anySize = false } = {}) {
+    const words = [TASKS.indexOf(task), FORMATS.indexOf(format), GAMES.indexOf(game), Number(anySize)];
+    return this.#untilThereIsRoom(input, (room) =>
+      this.#lent([REQUEST_BYTES, WRITTEN_BYTES, input.length, room.output], (request, written, text, output) => {
+        const view = new DataView(this.exports.memory.buffer);
+        words.forEach((word, at) => view.setUint32(request + 4 * at, word, true));
+        crypto.getRandomValues(this.#bytes(request + SEED_PLACE, 8));
+        this.#bytes(text, input.length).set(input);
+        const places = [request, text, input.length, output, room.output, written].map(BigInt);
+        return this.#taken(this.exports.fcanon_run(...places), written, output);
+      }));
+  }
+
+  // The collection that `import` makes of the bytes, what it says of them, and both counts. Lines that
+  // may be columns or rows are what is said.
+  import(input, { game = 'freecell', lines = 'unsaid' } = {}) {
+    return this.#untilThereIsRoom(input, (room) => {
+      const sizes = [WRITTEN_BYTES, SIZE_BYTES, input.length, room.output, room.notes];
+      return this.#lent(sizes, (written, noted, text, output, notes) => {
+        this.#bytes(text, input.length).set(input);
+        const places = [text, input.length, output, room.output, notes, room.notes, written, noted].map(BigInt);
+        const answer = this.exports.fcanon_import(GAMES.indexOf(game), LINES.indexOf(lines), ...places);
+        return this.#taken(answer, written, output, noted, notes);
+      });
+    });
+  }
+
+  // Calls with room for some output, and once more with what is needed where that was too little.
+  #untilThereIsRoom(input, call) {
+    const first = call({ output: 2 * input.length + 4096, notes: 4096 });
+    return first.needs ? call(first.needs) : first;
+  }
+
+  // Takes memory of these sizes, in bytes, for a call, and gives it back after it.
+  #lent(sizes, call) {
+    const places = sizes.map((size) => Number(this.exports.malloc(BigInt(size))));
+    try {
+      if (places.includes(0)) throw new Error(FAULTS[NO_MEMORY]);
+      return call(...places);
+    } finally {
+      places.forEach((place) => this.exports.free(BigInt(place)));
+    }
+  }
+
+  #taken(answer, written, output, noted, notes) {
+    if (answer !== DONE && answer !== NO_ROOM) throw new Error(FAULTS[answer] ?? `answer ${answer}`);
+    const [length, records, refused] = [0, 8, 16].map((at) => this.#number(written + at));
+    const notesLength = notes ? this.#number(noted) : 0;
+    if (answer === NO_ROOM) return { needs: { output: length, notes: notesLength } };
+    const said = this.#bytes(notes ?? 0, notesLength).slice();
+    return { text: this.#bytes(output, length).slice(), said, records, refused };
+  }
+
+  #bytes(place, length) {
+    return new Uint8Array(this.exports.memory.buffer, place, length);
+  }
+
+  #number(place) {
+    return Number(new DataView(this.exports.memory.buffer).getBigUint64(place, true));
+  }
+}
