@@ -35,9 +35,10 @@ demo: all ## shows Microsoft's deal 1
 library: all ## builds the library for C: build/libfcanon.a, build/libfcanon.so, build/fcanon.h
 	@tools/library
 
-page: library needs-python3 ## builds the page build/fcanon.html, and build/fcanon.wasm
+page: library needs-python3 ## builds the page build/fcanon.html, and its modules build/*.wasm
 	@page/build-module build/fcanon.wasm
-	@page/assemble build/fcanon.wasm build/fcanon.html
+	@page/build-runs build/fcanon_runs.wasm
+	@page/assemble build/fcanon.wasm build/fcanon_runs.wasm build/fcanon.html
 	@echo "build/fcanon.html is built: open it in a browser."
 
 book: needs-python3 ## makes linked pages on what is proved, and how, in build/book

@@ -1,8 +1,9 @@
 // What can be done: each action changes the store's state once, and is undone as one.
 
+import { textOf } from '../bindings/javascript/calls.js';
 import { collection } from './collection.mjs';
 import { say } from './elements.mjs';
-import { fcanon, MOST, MOVE_SIZE, movesIn, textOf } from './library.mjs';
+import { fcanon, MOST, moveAt, movesIn } from './library.mjs';
 import { bytesOf, endingOf, GREATER, isSkipped, joined, LINE_FEED, linesOf } from './lines.mjs';
 import { carriedTo, headerLine, isWon, listLine, verdictOf } from './lists.mjs';
 import { anyPassage, areEqual, inAnyOrder, isColumn, PLACE, upTo } from './passages.mjs';
@@ -104,13 +105,13 @@ export function carryTo(member) {
 
 // Puts another text in the place of this one.
 export function replace(what, bytes, change = {}) {
-  apply({ what, change: { bytes, begun: [], number: 1, name: null, ...AT_FIRST, ...change } });
+  apply({ what, change: { bytes, begun: [], number: 1, name: null, imported: null, ...AT_FIRST, ...change } });
 }
 
 // What was typed in the text field.
 export function type(bytes) {
   const back = store.state.exchange ? AT_FIRST : {};
-  apply({ what: 'the typing', joins: 'typing', change: { bytes, begun: [], carried: null, ...back }, isTyped: true });
+  apply({ what: 'the typing', joins: 'typing', change: { bytes, begun: [], imported: null, carried: null, ...back } });
 }
 
 export const chooseGame = (game) => apply({ what: 'the choice of a game', change: { game } });
@@ -154,8 +155,7 @@ export function keep() {
 
 // The first moves of a list, as moves of several cards.
 function asRuns(list, count) {
-  const moves = upTo(Math.min(count, movesIn(list)))
-    .map((place) => list.bytes.subarray(MOVE_SIZE * place, MOVE_SIZE * (place + 1)));
+  const moves = upTo(Math.min(count, movesIn(list))).map((place) => moveAt(list, place));
   const isOne = (move) => list.sign === '>' && [...textOf(move.slice(0, 2))].every(isColumn);
   return moves.flatMap((move) => (isOne(move) ? [move[0], move[1], 1] : [...move]));
 }

@@ -1,7 +1,7 @@
 // A drawn board: 52 cards that stay, and go where the board has them.
 
+import { CELL_COUNTS, CELLS, RANKS, SUITS } from '../bindings/javascript/calls.js';
 import { drawing, element, prefersStill, suitDrawing, at } from './elements.mjs';
-import { CELL_COUNTS, CELLS, RANKS, SUITS } from './library.mjs';
 import { cardsByPile, cardText, HOMES, isColumn, pileKeys, rankOf, renamed, suitOf, upTo } from './passages.mjs';
 import { pileName } from './words.mjs';
 

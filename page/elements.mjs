@@ -58,3 +58,10 @@ export function say(words, isBad = false) {
   at('counter').classList.toggle('bad', isBad);
   if (!prefersStill.matches && words !== '') at('counter').animate({ opacity: [.3, 1] }, { duration: 250 });
 }
+
+// Saves a file of these parts.
+export function download(parts, name) {
+  const link = element('a', { href: URL.createObjectURL(new Blob(parts, { type: 'text/plain' })), download: name });
+  link.click();
+  setTimeout(() => URL.revokeObjectURL(link.href), 10_000);
+}

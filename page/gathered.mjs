@@ -1,8 +1,9 @@
 // The boards that were seen, gathered by their canonical boards: many boards, one position.
 
+import { SUITS, textOf } from '../bindings/javascript/calls.js';
 import { showSeen } from './actions.mjs';
 import { at, element } from './elements.mjs';
-import { fcanon, SUITS, textOf } from './library.mjs';
+import { fcanon } from './library.mjs';
 import { areEqual, columnsOf, rankOf, stayingPassage, suitOf } from './passages.mjs';
 import { exchangedOf, shown } from './shown.mjs';
 import { store } from './store.mjs';

@@ -1,8 +1,9 @@
 // Moves by hand on either board: by pointer, in a board by keys, and typed as they are written.
 
+import { SUITS, wordsOf } from '../bindings/javascript/calls.js';
 import { makeMove, shuffle } from './actions.mjs';
 import { at, hide, say, setIdle } from './elements.mjs';
-import { fcanon, SUITS, wordsOfReason } from './library.mjs';
+import { fcanon } from './library.mjs';
 import { areEqual, cardsByPile, isColumn, keyAfter, keyBefore, pileKeys, renamed, suitOf } from './passages.mjs';
 import { shown } from './shown.mjs';
 import { redo, store, undo } from './store.mjs';
@@ -127,7 +128,7 @@ function whyNot(tried, name, key) {
   const { game } = shown.record;
   const { answer } = held.cards.size === 1 ? fcanon.play(game, board, { sign: '>', bytes: tried.move }) : tried;
   const capacity = isColumn(key) ? fcanon.capacity(game, board, key.charCodeAt(0)) : 1;
-  return refusalWords({ game, board, passage, cards: held.cards, key, reason: wordsOfReason(answer), capacity });
+  return refusalWords({ game, board, passage, cards: held.cards, key, reason: wordsOf(answer), capacity });
 }
 
 // Says all moves that the game allows on the left board; cells that are empty are alike, and so are such columns.

@@ -1,15 +1,15 @@
 // Bytes of a text: its lines and words, changes of it, and where the text field has them.
 
 const [TAB, BLANK] = [9, 32];
-export const [LINE_FEED, CARRIAGE_RETURN, NUMBER_SIGN, GREATER, AT_SIGN, LETTER_V] = [10, 13, 35, 62, 64, 118];
+const [CARRIAGE_RETURN, NUMBER_SIGN, AT_SIGN] = [13, 35, 64];
+export const [LINE_FEED, GREATER] = [10, 62];
 
 // A mark of the order of bytes is a character like others: what is dropped has no place.
 export const asText = new TextDecoder('utf-8', { ignoreBOM: true });
 export const bytesOf = (text) => new TextEncoder().encode(text);
 
-export const isGap = (byte) => byte === BLANK || byte === TAB;
-export const isMoveGap = (byte) => isGap(byte) || byte === CARRIAGE_RETURN || byte === LINE_FEED;
-export const lower = (byte) => (byte >= 65 && byte <= 90 ? byte + 32 : byte);
+const isGap = (byte) => byte === BLANK || byte === TAB;
+export const isApart = (byte) => isGap(byte) || byte === CARRIAGE_RETURN || byte === LINE_FEED;
 
 // Where the line from `start` on ends, without its carriage return, and where the next one begins.
 export function lineAt(bytes, start, limit) {
@@ -31,12 +31,13 @@ export function firstAfter(bytes, start, end, test) {
   return start;
 }
 
-export function* wordsOf(bytes, start, end, isApart) {
-  const isPart = (byte) => !isApart(byte);
-  for (let from = firstAfter(bytes, start, end, isPart), to; from < end; from = firstAfter(bytes, to, end, isPart)) {
-    to = firstAfter(bytes, from, end, isApart);
-    yield { start: from, end: to };
+// Where headers begin: at each `@` that begins a line.
+export function headersIn(bytes, from = 0) {
+  const starts = [];
+  for (let place = bytes.indexOf(AT_SIGN, from); place >= 0; place = bytes.indexOf(AT_SIGN, place + 1)) {
+    if (place === 0 || bytes[place - 1] === LINE_FEED) starts.push(place);
   }
+  return starts;
 }
 
 // Whether a line is blank or a comment.

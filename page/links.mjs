@@ -1,7 +1,8 @@
 // Links hold what is seen, all after the `#`: the number of a deal or else a text, the list, the place in it, and the
 // shuffle.
 
-import { CELL_COUNTS, CELLS, fcanon, GAMES, SUITS } from './library.mjs';
+import { CELL_COUNTS, CELLS, GAMES, SUITS } from '../bindings/javascript/calls.js';
+import { fcanon } from './library.mjs';
 import { bytesOf } from './lines.mjs';
 import { headerLine, listLine } from './lists.mjs';
 import { areEqual } from './passages.mjs';
@@ -62,11 +63,11 @@ export function linked(hash) {
   const dealt = board && `@ ${GAMES[game]} deal-${deal}\n${fcanon.write(game, board)}${given.get('list') ?? ''}\n`;
   const text = dealt || given.get('text');
   if (!text) return null;
-  const whole = (name) => Math.max(0, Math.trunc(Number(given.get(name))) || 0);
+  const number = (name) => Math.max(0, Math.trunc(Number(given.get(name))) || 0);
   const shuffle = given.has('shuffle') ? shuffleOf(given.get('shuffle')) : null;
   return {
-    ...AT_FIRST, bytes: bytesOf(text), game, number: whole('record') || 1, name: null, begun: [],
-    list: dealt ? 0 : whole('list'), step: whole('step'), isSorted: given.has('sorted'),
+    ...AT_FIRST, bytes: bytesOf(text), game, number: number('record') || 1, name: null, begun: [], imported: null,
+    list: dealt ? 0 : number('list'), step: number('step'), isSorted: given.has('sorted'),
     shuffle, times: shuffle ? 1 : 0, seen: [{ shuffle, exchange: null }],
   };
 }

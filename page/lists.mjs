@@ -1,12 +1,13 @@
 // Lists of moves: as they are written, what becomes of them, and the boards on their way.
 
-import { COUNTS, fcanon, GAMES, MOVE_SIZE, movesIn, textOf, wordsOfAnswer } from './library.mjs';
+import { GAMES, wordsOf } from '../bindings/javascript/calls.js';
+import { COUNTS, fcanon, moveAt, movesIn } from './library.mjs';
 
 export const headerLine = (record) => `@ ${GAMES[record.game]} ${record.name}\n`;
 
 // A move of a list as it is printed.
 export function moveText(list, place) {
-  const [from, to, count] = list.bytes.subarray(MOVE_SIZE * place, MOVE_SIZE * (place + 1));
+  const [from, to, count] = moveAt(list, place);
   return String.fromCharCode(from, to) + (count > 0 ? 'v' + COUNTS[count - 1] : '');
 }
 
@@ -20,7 +21,7 @@ export const isWon = (board) => board.subarray(0, 4).every((height) => height ==
 // What becomes of a list, as `check` says it after the list's number.
 export function verdictOf(game, board, list) {
   const played = fcanon.play(game, board, list);
-  if (played.answer !== 0) return `illegal ${played.made} ${wordsOfAnswer(played.answer)}`;
+  if (played.answer !== 0) return `illegal ${played.made} ${wordsOf(played.answer)}`;
   return `${isWon(played.board) ? 'wins' : 'legal'} ${played.made}`;
 }
 
@@ -30,20 +31,18 @@ export function stepsOf(record, list) {
   const played = fcanon.play(record.game, record.board, list, (board) => boards.push(board));
   const other = fcanon.play(record.game, record.canonical, list.image, (board) => images.push(board));
   const isAlike = played.answer === other.answer && played.made === other.made;
-  return { boards, images, isAlike, refusal: played.answer === 0 ? null : wordsOfAnswer(played.answer) };
+  return { boards, images, isAlike, refusal: played.answer === 0 ? null : wordsOf(played.answer) };
 }
 
 // How many cards can go where the next move of a list leads, which the game refuses since they are too many.
 export function capacityFor(record, list, boards) {
-  const [, digit] = list.bytes.subarray(MOVE_SIZE * (boards.length - 1));
+  const [, digit] = moveAt(list, boards.length - 1);
   return fcanon.capacity(record.game, boards[boards.length - 1], digit);
 }
 
 // The one-card moves of a move that the game allows on the board.
 export function expandedMove(game, board, list, place) {
-  if (list.sign === '>') return [moveText(list, place)];
-  const moves = fcanon.expand(game, board, list.bytes.subarray(MOVE_SIZE * place, MOVE_SIZE * (place + 1)));
-  return Array.from({ length: moves.length / 2 }, (_, at) => textOf(moves.subarray(2 * at, 2 * at + 2)));
+  return list.sign === '>' ? [moveText(list, place)] : fcanon.expand(game, board, moveAt(list, place));
 }
 
 // A list of one record, on the board of another of its group.

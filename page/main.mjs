@@ -1,22 +1,23 @@
 // The page's beginning: what listens to what, and how a state is drawn.
 
+import { start } from '../bindings/javascript/calls.js';
 import {
   chooseGame, chooseList, keep, replace, shuffle, sort, stepTo, swap,
 } from './actions.mjs';
 import { collection, read } from './collection.mjs';
 import { demonstrate, skip, stopOnActs } from './demonstration.mjs';
-import { at, element, nameButton, say, setIdle, write } from './elements.mjs';
+import { at, download, nameButton, say, setIdle, write } from './elements.mjs';
+import { startEngine } from './engine.mjs';
 import { drawGathered } from './gathered.mjs';
 import { holdMore, listenToHands, release, sayMoves } from './hands.mjs';
+import { answerAs, drawImported, importText } from './imported.mjs';
 import { forget, keepSoon, kept, listenToLeaving } from './keeping.mjs';
-import { start } from './library.mjs';
 import { bytesOf } from './lines.mjs';
 import { linked, linkOf, LONGEST } from './links.mjs';
-import { numbered } from './records.mjs';
-import { PIECES } from './printed.mjs';
+import { copyPrinted, drawPrinted, listCommands, savePrinted } from './printed.mjs';
 import {
-  copyPrinted, deal, download, downloadPrinted, drawCarried, drawChosen, drawCollection, drawPrinted, drawSaid,
-  drawShare, drawText, openDropped, openFiles, paste, showCarried, typeText,
+  deal, drawCarried, drawChosen, drawCollection, drawSaid, drawShare, drawText, openDropped, openFiles, paste,
+  showCarried, typeText,
 } from './positions.mjs';
 import { derive, settled, shown } from './shown.mjs';
 import { apply, begin, redo, store, undo } from './store.mjs';
@@ -42,12 +43,10 @@ function draw(before, action) {
   store.read = reading.then((isDone) => { if (isDone) drawAll(action); });
 }
 
-// What is seen while a large text is read: how far it is, and its first record.
-function drawReading(records, count) {
-  drawSaid(`Reading: ${inFigures(records.length)} of ${inFigures(count)} records.`);
-  if (collection.records.length > 0 || records.every((record) => record.fault)) return;
-  collection.records = numbered([...records]);
-  drawBoards({});
+// What is seen while a large text is read: its first record.
+function drawReading() {
+  drawSaid(`Reading ${inFigures(collection.bytes.length)} bytes ..`);
+  if (collection.records.length > 0) drawBoards({});
 }
 
 function drawAll(action) {
@@ -56,6 +55,7 @@ function drawAll(action) {
   drawBoards(action);
   at('game').value = store.state.game;
   drawText();
+  drawImported();
   drawHistory();
   say(action.says ?? '', action.isBad);
   if (action.isKept) keepSoon();
@@ -170,7 +170,11 @@ function listenToText(on) {
   on('carry', 'click', showCarried);
   on('command', 'change', drawPrinted);
   on('copy', 'click', copyPrinted);
-  on('save-printed', 'click', downloadPrinted);
+  on('save-printed', 'click', savePrinted);
+  on('program', 'toggle', drawPrinted);
+  on('import', 'click', importText);
+  on('as-columns', 'click', answerAs('columns'));
+  on('as-rows', 'click', answerAs('rows'));
   on('link', 'click', () => shown && makeLink());
   addEventListener('hashchange', follow);
   addEventListener('dragover', (event) => event.preventDefault());
@@ -247,11 +251,18 @@ async function show() {
   await store.read;
 }
 
+// The bytes of a module that is packed into the page.
+async function moduleOf(id) {
+  const packed = Uint8Array.from(atob(at(id).textContent), (letter) => letter.charCodeAt(0));
+  const stream = new Blob([packed]).stream().pipeThrough(new DecompressionStream('gzip'));
+  return new Uint8Array(await new Response(stream).arrayBuffer());
+}
+
 async function main() {
-  const module = Uint8Array.from(atob(at('module').textContent), (letter) => letter.charCodeAt(0));
-  const { instance } = await WebAssembly.instantiate(module, {});
-  start(instance.exports);
-  at('command').replaceChildren(...Object.keys(PIECES).map((name) => element('option', {}, name)));
+  const [calls, runs] = await Promise.all(['calls', 'runs'].map(moduleOf));
+  start(await WebAssembly.compile(calls));
+  await startEngine(runs);
+  listCommands();
   store.draw = draw;
   listen();
   settle();

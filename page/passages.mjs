@@ -1,6 +1,7 @@
 // The bytes of boards and passages, which fcanon.h describes, and their piles under passages.
 
-import { CELL_COUNTS, CELLS, fcanon, RANKS, SUITS } from './library.mjs';
+import { CELL_COUNTS, CELLS, RANKS, SUITS } from '../bindings/javascript/calls.js';
+import { fcanon } from './library.mjs';
 
 export const HOMES = 'HCDS';
 export const PLACE = { cells: 4, lengths: 12, cards: 20 };

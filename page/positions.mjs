@@ -1,27 +1,29 @@
-// The reader's positions: the text field, refused records, groups, what the program prints, and files.
+// The reader's positions: the text field, refused records, groups, and files.
 
+import { GAMES } from '../bindings/javascript/calls.js';
 import { carryTo, choose, dealNumber, replace, type } from './actions.mjs';
-import { collection, inSlices, isLarge, LARGE } from './collection.mjs';
-import { at, element, setIdle, isIdle, write } from './elements.mjs';
-import { fcanon, GAMES, TITLES } from './library.mjs';
-import { afterField, asText, bytesOf, fieldText, joined, spliceOf } from './lines.mjs';
+import { collection, isLarge, LARGE } from './collection.mjs';
+import { at, element, write } from './elements.mjs';
+import { importAsNeeded } from './imported.mjs';
+import { fcanon, TITLES } from './library.mjs';
+import { afterField, asText, bytesOf, fieldText, headersIn, isSkipped, joined, linesOf, spliceOf } from './lines.mjs';
 import { carriedTo, listLine, verdictOf } from './lists.mjs';
-import { PIECES } from './printed.mjs';
-import { faultsAt, recordSpans } from './records.mjs';
+import { drawPrinted } from './printed.mjs';
+import { faultsAt, whole } from './records.mjs';
 import { shown } from './shown.mjs';
 import { store } from './store.mjs';
 import { counted, inFigures } from './words.mjs';
 
-const MOST_SHOWN = { faults: 20, groups: 60, members: 100, printed: 100_000 };
+const MOST_SHOWN = { faults: 20, groups: 60, members: 100 };
 
 // ---- the text
 
 export function drawCollection() {
-  const { records, isTooLarge } = collection;
+  const { records, fault } = collection;
   const refused = records.filter((record) => record.fault);
   const counts = [`${inFigures(records.length)} read`, ...refused.length > 0 ? [`${refused.length} refused`] : []];
   const said = records.length > 0 ? `${counts.join(', ')}.` : 'Paste a position, open a file, or deal a number.';
-  drawSaid(isTooLarge ? 'input too large' : said, isTooLarge);
+  drawSaid(fault ?? said, fault !== null);
   drawFaults(refused);
   drawGroups();
   drawPrinted();
@@ -51,14 +53,23 @@ export function drawText() {
   field.setSelectionRange(end, end);
 }
 
-export const typeText = () => type(afterField(store.state.bytes, at('text').value));
+// Another text in the place of this one, which comes from elsewhere.
+function come(what, bytes) {
+  replace(what, bytes);
+  return importAsNeeded();
+}
+
+export function typeText({ inputType = '' }) {
+  type(afterField(store.state.bytes, at('text').value));
+  if (/^insertFrom(Paste|Drop)$/.test(inputType)) importAsNeeded();
+}
 
 // A large text that is pasted does not go through the field.
 export function paste(event) {
   const text = event.clipboardData?.getData('text') ?? '';
   if (text.length <= LARGE) return;
   event.preventDefault();
-  replace('the paste', bytesOf(text));
+  come('the paste', bytesOf(text));
 }
 
 export function deal(event) {
@@ -79,7 +90,8 @@ const nameOf = (file) => file.name.replace(/\.[^.]*$/, '').replace(/[^!-~]/g, '-
 // The bytes of a file, such that they can follow those of others: with a header where there is none at first.
 async function following(file, place) {
   const bytes = new Uint8Array(await file.arrayBuffer());
-  const isHeaded = place === 0 || recordSpans(bytes)?.[0]?.isHeaded !== false;
+  const before = [...linesOf(bytes, 0, headersIn(bytes)[0] ?? bytes.length)];
+  const isHeaded = place === 0 || before.every((line) => isSkipped(bytes, line));
   const header = isHeaded ? '' : `@ ${GAMES[store.state.game]} ${nameOf(file)}\n`;
   return joined(bytesOf(header), bytes, bytesOf(bytes.at(-1) === 10 ? '' : '\n'));
 }
@@ -89,7 +101,7 @@ export async function openFiles(files) {
   if (files.length === 0) return;
   const isOne = files.length === 1;
   const parts = isOne ? [new Uint8Array(await files[0].arrayBuffer())] : await Promise.all([...files].map(following));
-  replace(isOne ? `opening ${files[0].name}` : `opening ${files.length} files`, joined(...parts));
+  await come(isOne ? `opening ${files[0].name}` : `opening ${files.length} files`, joined(...parts));
 }
 
 // Files or a text that are dropped anywhere on the page.
@@ -99,26 +111,7 @@ export function openDropped(event) {
   if (files.length === 0 && (text === '' || event.target === at('text'))) return;
   event.preventDefault();
   if (files.length > 0) openFiles(files);
-  else replace('the drop', bytesOf(text));
-}
-
-export function download(parts, name) {
-  const link = element('a', { href: URL.createObjectURL(new Blob(parts, { type: 'text/plain' })), download: name });
-  link.click();
-  setTimeout(() => URL.revokeObjectURL(link.href), 10_000);
-}
-
-export async function downloadPrinted() {
-  const command = at('command').value;
-  const parts = [];
-  const { records } = collection;
-  if (isIdle(at('save-printed'))) return;
-  setIdle('save-printed', true);
-  const seeProgress = () => write('copied', `${inFigures(parts.length)} pieces ..`);
-  const isDone = await inSlices(PIECES[command](records), records.length, (piece) => parts.push(piece), seeProgress);
-  setIdle('save-printed', false);
-  write('copied', isDone ? 'Saved.' : '');
-  if (isDone) download(parts, `${command}.collection`);
+  else come('the drop', bytesOf(text));
 }
 
 // ---- faults
@@ -186,29 +179,6 @@ export function drawChosen() {
   }
 }
 
-// The beginning of what a command prints.
-export function drawPrinted() {
-  const parts = [];
-  let size = 0;
-  for (const piece of PIECES[at('command').value](collection.records)) {
-    parts.push(piece);
-    size += piece.length;
-    if (size > MOST_SHOWN.printed) break;
-  }
-  write('printed', parts.join(''));
-  write('copied', size > MOST_SHOWN.printed ? 'The beginning is shown; save it to have all.' : '');
-}
-
-export async function copyPrinted() {
-  try {
-    await navigator.clipboard.writeText(at('printed').textContent);
-    write('copied', 'Copied.');
-  } catch {
-    getSelection().selectAllChildren(at('printed'));
-    write('copied', 'Selected: copy it by Ctrl-C.');
-  }
-}
-
 // ---- a list carried to another member of the group
 
 export function drawShare() {
@@ -224,7 +194,7 @@ export function drawShare() {
   if (!isNone) drawCarried();
 }
 
-const chosenMember = () => collection.records[Number(at('member').value) - 1];
+const chosenMember = () => whole(collection.records[Number(at('member').value) - 1], collection.bytes);
 
 export function drawCarried() {
   const member = chosenMember();

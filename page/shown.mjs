@@ -4,6 +4,7 @@ import { collection } from './collection.mjs';
 import { fcanon, MOVE_SIZE } from './library.mjs';
 import { stepsOf, verdictOf } from './lists.mjs';
 import { areEqual, PLACE, stayingPassage } from './passages.mjs';
+import { whole } from './records.mjs';
 import { AT_FIRST } from './store.mjs';
 
 const MOST_ROWS = { least: 6, most: 9 }; // below the first card of a column; longer columns are squeezed
@@ -23,10 +24,11 @@ const isGood = (record) => record !== undefined && !record.fault;
 
 // The record of that number and name, or else of that name, or else the first one. Where the name is null any will do.
 function pick({ number, name }) {
-  const { records } = collection;
+  const { records, bytes } = collection;
   const record = records[number - 1];
-  if (isGood(record) && (name === null || record.name === name)) return record;
-  return records.find((it) => it.name === name && isGood(it)) ?? records.find(isGood) ?? null;
+  const isIt = isGood(record) && (name === null || record.name === name);
+  const found = isIt ? record : records.find((it) => it.name === name && isGood(it)) ?? records.find(isGood);
+  return found ? whole(found, bytes) : null;
 }
 
 // Whether a record that was read again has the board and the moves that lead to what is shown.

@@ -3,8 +3,8 @@
 // A state is the bytes of the text and the game of a record without a header; the record that is shown, by its number
 // and its name (null for any), the list and how many of its moves are made; the passage of the shuffle, or null, and
 // how many times it was shuffled; two exchanged cards, or null; whether the right board is made canonical anew; a list
-// carried here from another record, or null; which lists were begun by hand; and the boards that were seen, each a
-// shuffle and an exchange. Nothing in a state changes.
+// carried here from another record, or null; which lists were begun by hand; the boards that were seen, each a shuffle
+// and an exchange; and the bytes that were imported, with what is said of them, or null. Nothing in a state changes.
 
 import { History } from './history.mjs';
 
@@ -12,7 +12,7 @@ const UNSEEN = [{ shuffle: null, exchange: null }];
 export const AT_FIRST = {
   list: 0, step: 0, shuffle: null, times: 0, exchange: null, isSorted: false, carried: null, seen: UNSEEN,
 };
-const EMPTY = { bytes: new Uint8Array(), game: 0, number: 1, name: null, begun: [], ...AT_FIRST };
+const EMPTY = { bytes: new Uint8Array(), game: 0, number: 1, name: null, begun: [], imported: null, ...AT_FIRST };
 
 export const store = {
   state: EMPTY, history: new History(), read: null, draw: () => {}, acted: () => {}, touched: () => {},

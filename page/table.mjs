@@ -1,8 +1,9 @@
 // The two boards, and what is said of them.
 
+import { CELL_COUNTS, CELLS, SUITS } from '../bindings/javascript/calls.js';
 import { BoardView } from './boards.mjs';
 import { at, drawing, element, hide, nameButton, setIdle, write } from './elements.mjs';
-import { CELL_COUNTS, CELLS, fcanon, MOVE_SIZE, movesIn, SUITS, TITLES } from './library.mjs';
+import { fcanon, moveAt, movesIn, TITLES } from './library.mjs';
 import { capacityFor, expandedMove, isWon } from './lists.mjs';
 import { cardsByPile, countEquivalent, keyAfter, keyBefore, upTo } from './passages.mjs';
 import { shown } from './shown.mjs';
@@ -129,9 +130,7 @@ function moveNow(step) {
   return `${here}; on the right board ${moveWords(game, beside, fcanon.carry(game, there, one(list, step)), 0)}`;
 }
 
-function one({ sign, bytes }, place) {
-  return { sign, bytes: bytes.subarray(MOVE_SIZE * place, MOVE_SIZE * (place + 1)) };
-}
+const one = (list, place) => ({ sign: list.sign, bytes: moveAt(list, place) });
 
 // What is said of the move that was made, of the next one, and of the boards.
 function drawMove() {

@@ -1,6 +1,7 @@
 // Words of players: cards, piles and moves, as they are seen and as they are read out.
 
-import { fcanon, GAMES, IN_SUIT, MOVE_SIZE, TITLES } from './library.mjs';
+import { GAMES } from '../bindings/javascript/calls.js';
+import { fcanon, IN_SUIT, moveAt, TITLES } from './library.mjs';
 import { cardsByPile, cardText, isColumn, renamed, suitOf } from './passages.mjs';
 
 const BUILDING = IN_SUIT.map((it) => (it ? 'by one in the same suit' : 'by one in the other colour'));
@@ -49,7 +50,7 @@ function cardsOfMove(game, board, move) {
 
 // A move of a list on a board: its cards, and where they go.
 export function moveWords(game, board, list, place) {
-  const move = list.bytes.slice(MOVE_SIZE * place, MOVE_SIZE * (place + 1));
+  const move = moveAt(list, place);
   const isOne = list.sign === '>' && isColumn(String.fromCharCode(move[0])) && isColumn(String.fromCharCode(move[1]));
   if (isOne) move[2] = 1;
   const [from, to] = String.fromCharCode(...move.subarray(0, 2));

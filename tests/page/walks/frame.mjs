@@ -46,6 +46,7 @@ export function choose(name) {
 }
 
 export function printedBy(command) {
+  at('program').open = true;
   set('command', command, 'change');
   return at('printed').textContent;
 }

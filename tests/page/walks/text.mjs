@@ -1,12 +1,19 @@
 // The text, its records and their groups, and links.
 
-import { all, at, choose, differ, frame, load, paste, printedBy, set, until } from './frame.mjs';
+import { all, at, choose, differ, frame, later, load, paste, printedBy, set, until } from './frame.mjs';
 import { asDrawn, drawn } from './drawn.mjs';
 
+const MOST_PRINTED = 100_000; // so much of what is printed is shown
+
 export function collections({ cases }) {
-  return cases.flatMap(({ game, text, printed }) => {
+  return cases.flatMap(({ game, text, printed, faults }) => {
     paste(text, game);
-    return Object.keys(printed).flatMap((command) => differ(command, printedBy(command), printed[command]));
+    const shown = all('#faults li').slice(0, 20).map((line) => line.firstChild.textContent.trim());
+    return [...differ(text.slice(0, 100), shown.join('\n'), faults.join('\n')),
+      ...Object.entries(printed).flatMap(([command, wanted]) => [
+        ...differ(command, printedBy(command), wanted.slice(0, MOST_PRINTED)),
+        ...differ('is shown whole', !at('copied').textContent.startsWith('The beginning'), wanted.length <= MOST_PRINTED),
+      ])];
   });
 }
 
@@ -90,18 +97,81 @@ export async function linkedDeals({ deals: [{ number, board }] }) {
   return [...found, ...differ('another deal', drawn('left'), asDrawn(board))];
 }
 
-// A large file is read in slices, and is not put in the field; a text past the limits is not read.
-export async function large({ example, records }) {
-  const times = Math.ceil(400_000 / example.length);
+// Opens a large file, and gives what is wrong of what is said, counted and put in the field.
+async function openLarge({ example, records, large: { times, count } }) {
   const given = new frame.contentWindow.DataTransfer();
   given.items.add(new frame.contentWindow.File([example.repeat(times)], 'large'));
   at('file').files = given.files;
   at('file').dispatchEvent(new frame.contentWindow.Event('change'));
   const wanted = `${(times * (records.length + 1)).toLocaleString('en')} read, ${times} refused.`;
   await until(() => at('said').textContent === wanted);
-  const found = differ('said', at('said').textContent, wanted);
-  found.push(...differ('field', at('text').readOnly && at('text').value.length < 10_000, true));
+  printedBy('count');
+  await until(() => at('printed').textContent !== '');
+  return [...differ('said', at('said').textContent, wanted), ...differ('counted', at('printed').textContent, count),
+    ...differ('field', at('text').readOnly && at('text').value.length < 10_000, true)];
+}
+
+// Counts the workers that the page makes, or lets it make none.
+function watchWorkers(canBeMade) {
+  const { Worker } = frame.contentWindow;
+  const made = [];
+  frame.contentWindow.Worker = class extends Worker {
+    constructor(...given) {
+      if (!canBeMade) throw new Error('no worker is made here');
+      super(...given);
+      made.push(this);
+    }
+  };
+  return made;
+}
+
+// A large file is read and printed in one worker, or on the page's own thread where none can be made, and is not put in
+// the field; a text past the limits is not read.
+export async function large(given) {
+  await load();
+  watchWorkers(false);
+  const found = await openLarge(given);
+  await load();
+  const made = watchWorkers(true);
+  found.push(...await openLarge(given), ...differ('workers', made.length, 1));
   paste('#'.repeat(65_537));
   const isShown = !at('shown').hidden || at('groups').querySelector('button') !== null;
   return [...found, ...differ('past the limit', `${at('said').textContent} ${isShown}`, 'input too large false')];
+}
+
+// What a reader pastes into the empty field.
+function pasteAsReader(text) {
+  at('text').value = text;
+  const { InputEvent } = frame.contentWindow;
+  at('text').dispatchEvent(new InputEvent('input', { bubbles: true, inputType: 'insertFromPaste' }));
+}
+
+const notesShown = () => (at('imported').offsetParent ? all('#notes li').map((note) => note.textContent).join('\n') : '');
+
+// Rows that are pasted become what `import` makes of them, with its notes; a question is answered by a button; what is
+// read as it is stays as it is, until it is asked for.
+export async function imported({ example, imports: { rows, square } }) {
+  await load();
+  pasteAsReader(rows.given);
+  await until(() => at('text').value === rows.text);
+  const found = [...differ('rows', at('text').value, rows.text), ...differ('notes', notesShown(), rows.notes.join('\n')),
+    ...differ('asks nothing', at('ask').hidden, true)];
+  at('undo').click();
+  found.push(...differ('undone', at('text').value, rows.given), ...differ('without notes', notesShown(), ''));
+  for (const name of ['columns', 'rows']) {
+    pasteAsReader(square.given);
+    await until(() => !at('ask').hidden);
+    found.push(...differ('as it was', at('text').value, square.given),
+      ...differ('question', notesShown(), square.notes.join('\n')));
+    at(`as-${name}`).click();
+    await until(() => at('text').value === square[name].text);
+    found.push(...differ(name, at('text').value, square[name].text),
+      ...differ('notes', notesShown(), square[name].notes.join('\n')), ...differ('asks no more', at('ask').hidden, true));
+  }
+  pasteAsReader(example);
+  await later(100);
+  found.push(...differ('a collection', at('text').value, example), ...differ('no notes', notesShown(), ''));
+  at('import').click();
+  await until(() => notesShown() !== '');
+  return [...found, ...differ('asked for', at('text').value === example, false)];
 }

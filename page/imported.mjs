@@ -1,0 +1,61 @@
+// What keepers have is read as `import` reads it: rows, drawings, solutions. What it says of them is beside the field.
+
+import { replace } from './actions.mjs';
+import { collection, isLarge } from './collection.mjs';
+import { at, element, say, write } from './elements.mjs';
+import { later, now } from './engine.mjs';
+import { asText } from './lines.mjs';
+import { amend, store } from './store.mjs';
+
+const MOST_NOTES = 100;
+const QUESTION = 'may be columns or rows'; // in a note that asks
+
+// The text as it was given, and all that is said of it.
+function takeImport(given, what, { text, said }) {
+  const imported = { bytes: given, said: asText.decode(said) };
+  if (text.length > 0) replace(what, text, { imported });
+  else amend({ imported });
+}
+
+// Imports these bytes; where a question is answered, its answer is given.
+async function importBytes(bytes, what, lines) {
+  const work = { work: 'import', bytes, game: store.state.game, lines };
+  const before = store.state;
+  try {
+    const done = isLarge() ? await later(work) : now(work);
+    if (store.state === before) takeImport(bytes, what, done);
+  } catch (error) {
+    say(error.message, true);
+  }
+}
+
+export const importText = () => importBytes(store.state.bytes, 'the import');
+
+export const answerAs = (lines) => () => importBytes(store.state.imported.bytes, `the answer ${lines}`, lines);
+
+// Whether a text that came from elsewhere is imported at once: where nothing of it is taken as it is, or where it is one
+// board without a header, whose lines may be rows.
+function isForImport({ records }) {
+  const isBare = records.length === 1 && !records[0].isHeaded;
+  return records.length > 0 && (isBare || records.every((record) => record.fault));
+}
+
+// Imports what came from elsewhere, where there is a need to, and `import` has something to say of it.
+export async function importAsNeeded() {
+  await store.read;
+  const { bytes, game } = store.state;
+  if (!isForImport(collection) || isLarge()) return;
+  const done = now({ work: 'import', bytes, game });
+  if (done.said.length > 0) takeImport(bytes, 'the import', done);
+}
+
+export function drawImported() {
+  const { imported } = store.state;
+  const notes = imported?.said.split('\n').slice(0, -1).map((note) => note.replace(/^fcanon: /, '')) ?? [];
+  at('imported').hidden = !imported;
+  at('ask').hidden = !notes.some((note) => note.endsWith(QUESTION) || note.includes(`${QUESTION}:`));
+  const drawn = [...at('notes').children].map((item) => item.textContent);
+  const shown = notes.length > MOST_NOTES ? [...notes.slice(0, MOST_NOTES), '..', notes.at(-1)] : notes;
+  if (shown.join('\n') !== drawn.join('\n')) at('notes').replaceChildren(...shown.map((note) => element('li', {}, note)));
+  if (imported) write('imported-said', notes.length > 0 ? 'Read as `import` reads it:' : 'Import reads this as it is.');
+}
