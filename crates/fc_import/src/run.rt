@@ -74,18 +74,16 @@ fn write_read<Wr: Write>(
         (Wr.contents (inner_of output.old)) (Wr.contents (inner_of output.new))
         said.new.items result }
 {
-    match read_text(alloc, bytes) {
-        Ok(text) => write_made(
-            alloc,
-            variant,
-            lines_are,
-            noted,
-            text.as_slice(),
-            output,
-            said,
-        ),
-        Err(_) => Err(RunFault::Memory),
-    }
+    let text = read_text(alloc, bytes)?;
+    write_made(
+        alloc,
+        variant,
+        lines_are,
+        noted,
+        text.as_slice(),
+        output,
+        said,
+    )
 }
 
 // Reads the input to its end, and puts all of it into `bytes`.
@@ -101,9 +99,7 @@ fn read_to_end<Rd: Read>(
         (Rd.remaining (inner_of input.old)) (Rd.remaining (inner_of input.new))
         bytes.new.items result }
 {
-    let Ok(mut room) = zeros(alloc, ROOM) else {
-        return Err(RunFault::Memory);
-    };
+    let mut room = zeros(alloc, ROOM)?;
     for _turn in 0..MOST_READS {
         match read_more(input, room.as_mut_slice(), bytes) {
             Ok(true) => {}
@@ -146,10 +142,8 @@ fn read_more<Rd: Read>(
     if bytes.len() + given > MOST_BYTES {
         return Err(RunFault::TooLarge);
     }
-    match bytes.extend_from_slice(&room[..given]) {
-        Ok(()) => Ok(true),
-        Err(_) => Err(RunFault::Memory),
-    }
+    bytes.extend_from_slice(&room[..given])?;
+    Ok(true)
 }
 
 // Writes what is made of the text.
@@ -169,9 +163,7 @@ fn write_made<Wr: Write>(
         (Wr.contents (inner_of output.old)) (Wr.contents (inner_of output.new))
         said.new.items result }
 {
-    let Ok(product) = product_of(alloc, variant, lines_are, noted, text) else {
-        return Err(RunFault::Memory);
-    };
+    let product = product_of(alloc, variant, lines_are, noted, text)?;
     *said = product.said;
     match write_text(output, product.written.as_slice()) {
         Ok(()) => Ok(product.summary),
