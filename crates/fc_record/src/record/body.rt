@@ -11,7 +11,7 @@ ghost use Rattle.fc_record.specs.inside.{IfFault, IsFirstFault, IsNoFurther, unr
 
 use crate::record::{Contents, MoveList, RecordFault, RecordFaultKind, begins_line};
 use fc_board::{Board, Move, Rule, RunMove};
-use fc_text::{Lines, MovesFault, Notated, read_list as read_listed, read_spelled, take_printed};
+use fc_text::{Lines, MovesFault, Notated, read_spelled, take_printed};
 use memchr::memchr;
 use std::alloc::Global;
 
@@ -213,7 +213,7 @@ fn read_after<R: Rule, M: Notated>(
         × IsFirstFault (M.is_token R.game) text.now found) }
     ensures small { IfFault result (λ fault. fault.place ≤ 2 ^ 61) }
 {
-    match read_listed::<R, M>(alloc, text) {
+    match fc_text::read_list::<R, M>(alloc, text) {
         Ok(moves) => Ok(moves),
         Err(fault) => Err(unread_list(place, fault)),
     }
