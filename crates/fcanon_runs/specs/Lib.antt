@@ -15,8 +15,8 @@ use Rattle.fc_collect.specs.declared.{
   streams.faults.RunFault.{RunFault, TheVariants.{Memory, Read, ReaderNeverEnds, TooLarge, Write}},
   streams.{faults.Summary.{Summary}, limits.Limits.{Limits}},
 }
-use Rattle.fc_import.specs.declared.changes.Noted.TheVariants.{Doubts}
-use Rattle.fc_import.specs.declared.layout.LinesAre.{LinesAre, TheVariants.{Columns, Rows, Unsaid}}
+use Rattle.fc_import.specs.declared.{changes.Noted.TheVariants.{Doubts}, layout.LinesAre.{LinesAre}}
+use Rattle.fc_import.specs.declared.layout.LinesAre.TheVariants.{Columns, Rows, Unsaid}
 use Rattle.fcanon_runs.specs.declared.output.Written.{Written}
 
 -- ======== The numbers by which C knows games, tasks, formats and faults. From: this project's profile.
