@@ -111,18 +111,23 @@ async function openLarge({ example, records, large: { times, count } }) {
     ...differ('field', at('text').readOnly && at('text').value.length < 10_000, true)];
 }
 
-// Counts the workers that the page makes, or lets it make none.
+// Lists what the page has its workers do, and that each is made; or lets it make none.
 function watchWorkers(canBeMade) {
   const { Worker } = frame.contentWindow;
-  const made = [];
+  const done = [];
   frame.contentWindow.Worker = class extends Worker {
     constructor(...given) {
       if (!canBeMade) throw new Error('no worker is made here');
       super(...given);
-      made.push(this);
+      done.push('made');
+    }
+
+    postMessage(message) {
+      if (message.work) done.push(message.work);
+      super.postMessage(message);
     }
   };
-  return made;
+  return done;
 }
 
 // A large file is read and printed in one worker, or on the page's own thread where none can be made, and is not put in
@@ -132,8 +137,8 @@ export async function large(given) {
   watchWorkers(false);
   const found = await openLarge(given);
   await load();
-  const made = watchWorkers(true);
-  found.push(...await openLarge(given), ...differ('workers', made.length, 1));
+  const done = watchWorkers(true);
+  found.push(...await openLarge(given), ...differ('by a worker', done.join(), 'made,read,print'));
   paste('#'.repeat(65_537));
   const isShown = !at('shown').hidden || at('groups').querySelector('button') !== null;
   return [...found, ...differ('past the limit', `${at('said').textContent} ${isShown}`, 'input too large false')];
@@ -173,5 +178,7 @@ export async function imported({ example, imports: { rows, square } }) {
   found.push(...differ('a collection', at('text').value, example), ...differ('no notes', notesShown(), ''));
   at('import').click();
   await until(() => notesShown() !== '');
-  return [...found, ...differ('asked for', at('text').value === example, false)];
+  found.push(...differ('asked for', at('text').value === example, false));
+  at('more').click();
+  return [...found, ...differ('no notes of another text', notesShown(), '')];
 }
