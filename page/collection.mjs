@@ -26,7 +26,8 @@ export function read(bytes, game, see) {
   const { before, after, start, end } = recordsAround(isAnew ? [] : last.records, bytes.length, splice);
   collection = { ...NONE, bytes, game };
   const work = { work: 'read', bytes: bytes.subarray(start, end), game };
-  if (end - start > LARGE) return readLater(work, (said) => finish([...before, ...recordsOf(said, start), ...after]), see);
+  const take = (said) => finish([...before, ...recordsOf(said, start), ...after]);
+  if (end - start > LARGE) return readLater(work, take, see);
   return orFault(() => {
     const records = recordsOf(now(work), start);
     const replaced = last.records.slice(before.length, last.records.length - after.length);

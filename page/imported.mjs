@@ -33,7 +33,7 @@ export const importText = () => importBytes(store.state.bytes, 'the import');
 
 export const answerAs = (lines) => () => importBytes(store.state.imported.bytes, `the answer ${lines}`, lines);
 
-// Whether a text that came from elsewhere is imported at once: where nothing of it is taken as it is, or where it is one
+// Whether a text that came from elsewhere is imported at once: where no record of it is accepted, or where it is one
 // board without a header, whose lines may be rows.
 function isForImport({ records }) {
   const isBare = records.length === 1 && !records[0].isHeaded;
@@ -56,6 +56,7 @@ export function drawImported() {
   at('ask').hidden = !notes.some((note) => note.endsWith(QUESTION) || note.includes(`${QUESTION}:`));
   const drawn = [...at('notes').children].map((item) => item.textContent);
   const shown = notes.length > MOST_NOTES ? [...notes.slice(0, MOST_NOTES), '..', notes.at(-1)] : notes;
-  if (shown.join('\n') !== drawn.join('\n')) at('notes').replaceChildren(...shown.map((note) => element('li', {}, note)));
+  const items = shown.map((note) => element('li', {}, note));
+  if (shown.join('\n') !== drawn.join('\n')) at('notes').replaceChildren(...items);
   if (imported) write('imported-said', notes.length > 0 ? 'Read as `import` reads it:' : 'Import reads this as it is.');
 }

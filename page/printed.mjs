@@ -26,7 +26,8 @@ export function drawPrinted() {
   if (!isLarge()) return takePrinted(asked, () => now(work));
   write('printed', '');
   write('copied', 'Printing ..');
-  asked.ready = later(work).then((value) => takePrinted(asked, () => value), (error) => takePrinted(asked, () => { throw error; }));
+  const fail = (error) => takePrinted(asked, () => { throw error; });
+  asked.ready = later(work).then((value) => takePrinted(asked, () => value), fail);
 }
 
 // Takes what was asked for, if nothing else is asked for now.

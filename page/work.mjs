@@ -44,7 +44,9 @@ function recordsIn({ bytes, game }) {
 }
 
 const WORK = {
-  print: printFor, read: recordsIn, import: ({ bytes, game, lines }) => runs.import(bytes, { game: GAMES[game], lines }),
+  print: printFor,
+  read: recordsIn,
+  import: ({ bytes, game, lines }) => runs.import(bytes, { game: GAMES[game], lines }),
 };
 
 // What comes of what is asked for: its value, or why there is none.
