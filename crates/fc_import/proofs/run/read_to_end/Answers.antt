@@ -1,12 +1,14 @@
-use Rattle.std.proofs.Common.{◌∙◌, ap, arith, length, Ok, subst, sym}
-use Rattle.std.proofs.KnownBytes.{Consumes-nil}
-use Rattle.std.specs.Io.KnownBytes.{Consumes}
+use Rattle.std.proofs.{Common.{◌∙◌, ap, arith, length, Ok, subst, sym}, KnownBytes.{Consumes-nil}}
+use Rattle.std.{proofs.lemmas.Result.{err_from_is_err_and}, specs.Io.KnownBytes.{Consumes}}
 use Rattle.fc_import.proofs.RunLemmas.{all_read, counted_all, counted_end, counted_fault}
-use Rattle.fc_import.proofs.RunLemmas.{counted_more, counted_none, given_up, grown_none, never_ended, read_on}
+use Rattle.fc_import.proofs.RunLemmas.{counted_more, counted_none, given_up, grown_none}
+use Rattle.fc_import.proofs.RunLemmas.{never_ended, read_on}
 use Rattle.fc_import.proofs.run.read_to_end.Goals as goal
 
-pub returns-in_default-clause-counted : goal.returns-in_default-clause-counted
-returns-in_default-clause-counted g c = counted_none _ c.args.input.now c.args.input.now 0 (grown_none _) (omega arith)
+pub returns-in_err-room-clause-counted : goal.returns-in_err-room-clause-counted
+returns-in_err-room-clause-counted g c =
+    let p = err_from_is_err_and c.from_residual.result c.from_residual.ensures.1 in
+    rw (p.1, p.2) (counted_none _ c.args.input.now c.args.input.now 0 (grown_none _) (omega arith))
 
 pub loop-turn-init : goal.loop-turn-init
 loop-turn-init g c = record {
