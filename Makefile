@@ -1,7 +1,8 @@
 # `make` proves and builds the program build/fcanon; `make help` lists the other targets.
 .POSIX:
-.PHONY: all demo library page book deals test bench chaos edits mutants install uninstall \
-	install-program install-library dist clean help needs-rt needs-python3 needs-cc needs-fc-solve
+.PHONY: all demo library page book paper deals test bench chaos edits mutants install uninstall \
+	install-program install-library dist clean help needs-rt needs-python3 needs-cc needs-fc-solve \
+	needs-pdflatex
 
 PROGRAM = build/fcanon
 PREFIX = /usr/local
@@ -44,6 +45,10 @@ page: library needs-python3 ## builds the page build/fcanon.html, and its module
 book: needs-python3 ## makes linked pages on what is proved, and how, in build/book
 	@tools/book/make build/book
 	@echo "build/book/index.html is made: open it in a browser."
+
+paper: needs-pdflatex ## makes a paper of six pages on it, build/fcanon-paper.pdf
+	@tools/paper build/fcanon-paper.pdf
+	@echo "build/fcanon-paper.pdf is made."
 
 deals: all needs-python3 needs-fc-solve ## makes a store of Microsoft's deals, solved, in build/deals: LAST=32000
 	@tools/deals build/fcanon build/deals 1 $(LAST)
@@ -108,3 +113,8 @@ needs-fc-solve:
 	@command -v fc-solve >/dev/null || { \
 		echo "This needs Freecell Solver: put the command fc-solve on the PATH (in Debian" \
 			"the package freecell-solver-bin)." >&2; exit 1; }
+
+needs-pdflatex:
+	@command -v pdflatex >/dev/null || { \
+		echo "This needs LaTeX: put the command pdflatex on the PATH (in Debian the packages" \
+			"texlive-latex-recommended, texlive-fonts-recommended and lmodern)." >&2; exit 1; }
