@@ -75,8 +75,8 @@ class Browser:
         """Opens the page as for one who was never here."""
         if self.is_open:
             self.value("at('forget').click()")
+        self.renew()
         self.resize(wide, high)
-        self.go("about:blank")
         self.go(PAGE.as_uri() + place)
         until(lambda: self.value("document.body?.dataset.is === 'ready'"))
         self.is_open = True
@@ -112,6 +112,10 @@ class Chromium(Browser):
         if self.forced:
             self.ask("Emulation.setEmulatedMedia", features=[{"name": "forced-colors", "value": "active"}])
         self.ask("Emulation.setTouchEmulationEnabled", enabled=self.fingers)
+
+    def renew(self):
+        """Leaves the page."""
+        self.go("about:blank")
 
     def resize(self, wide, high):
         self.ask("Emulation.setDeviceMetricsOverride", width=wide, height=high, deviceScaleFactor=1, mobile=self.fingers)
@@ -173,8 +177,13 @@ class Firefox(Browser):
 
     def begin(self):
         self.ask("session.new", capabilities={})
-        # The first tab leaves the focus to the field of addresses.
+        self.context = self.ask("browsingContext.getTree")["contexts"][0]["context"]
+
+    def renew(self):
+        """Goes on in another tab, which has the focus; in the first one, or after many keys, a field of the browser has it."""
+        before = self.context
         self.context = self.ask("browsingContext.create", type="tab")["context"]
+        self.ask("browsingContext.close", context=before)
 
     def resize(self, wide, high):
         self.ask("browsingContext.setViewport", context=self.context, viewport={"width": wide, "height": high})

@@ -55,9 +55,9 @@ def empty_piles(browser):
     browser.open(1440, 900, EMPTY)
     drawn = counted(browser.paper(), LINES)
     piles = drawn - counted(without(browser, ".pile::after { visibility: hidden; }"), LINES)
-    grounds = drawn - counted(without(browser, ".board { background: none; box-shadow: none; }"), LINES)
     faults = [] if piles >= PILES else [f"{piles} lines are drawn for empty piles"]
-    return faults if grounds >= 2 else [*faults, f"{grounds} lines are drawn for the grounds of boards"]
+    bare = counted(without(browser, ".board { print-color-adjust: economy !important; }"), LINES)
+    return faults if bare != drawn else [*faults, "the boards have no ground"]
 
 
 def controls(browser):
