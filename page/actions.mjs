@@ -141,11 +141,20 @@ export function dealNumber(game, number) {
   return board !== null;
 }
 
+// A name for a shuffled board, with the first number that none has yet.
+function shuffledName(name) {
+  const first = `${name.replace(/-shuffled-\d+$/, '').slice(0, FIRST_NAME)}-shuffled`;
+  const names = new Set(collection.records.map((record) => record.name));
+  let number = 1;
+  while (names.has(`${first}-${number}`)) number += 1;
+  return `${first}-${number}`;
+}
+
 // Adds the left board as it is before all moves, with its lists, and goes on from there.
 export function keep() {
   const { record, shuffle: passage, times, chosen, step } = shown;
   const board = fcanon.image(record.game, record.board, passage);
-  const name = times > 0 ? `${record.name.slice(0, FIRST_NAME)}-shuffled-${times}` : record.name;
+  const name = times > 0 ? shuffledName(record.name) : record.name;
   const lists = record.lists.map((list) => listLine(fcanon.carry(record.game, passage, list)));
   const text = fcanon.write(record.game, board) + lists.join('');
   append('keeping the board', { game: record.game, name }, text, { list: chosen, step });

@@ -13,23 +13,19 @@ export function element(name, properties, ...children) {
   return made;
 }
 
-// A drawing that is in the page as a symbol.
-export function drawing(name, className) {
-  const svg = document.createElementNS('http://www.w3.org/2000/svg', 'svg');
-  svg.setAttribute('class', className);
-  svg.append(document.createElementNS('http://www.w3.org/2000/svg', 'use'));
-  svg.firstChild.setAttribute('href', `#${name}`);
-  return svg;
+// An element of a drawing with these attributes.
+export function shape(name, attributes, ...children) {
+  const made = document.createElementNS('http://www.w3.org/2000/svg', name);
+  for (const [key, value] of Object.entries(attributes)) made.setAttribute(key, value);
+  made.append(...children);
+  return made;
 }
 
+// A drawing that is in the page as a symbol.
+export const drawing = (name, className) => shape('svg', { class: className }, shape('use', { href: `#${name}` }));
+
 // A drawing of a suit, which may become another one: what a `use` shows is made anew when that changes.
-export function suitDrawing(className) {
-  const svg = document.createElementNS('http://www.w3.org/2000/svg', 'svg');
-  svg.setAttribute('class', className);
-  svg.setAttribute('viewBox', '0 0 100 100');
-  svg.append(document.createElementNS('http://www.w3.org/2000/svg', 'path'));
-  return svg;
-}
+export const suitDrawing = (className) => shape('svg', { class: className, viewBox: '0 0 100 100' }, shape('path', {}));
 
 // Puts a text where it is not there yet, so that nothing is read out twice.
 export function write(id, words) {

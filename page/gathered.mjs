@@ -2,7 +2,7 @@
 
 import { SUITS, textOf } from '../bindings/javascript/calls.js';
 import { showSeen } from './actions.mjs';
-import { at, element } from './elements.mjs';
+import { at, element, shape } from './elements.mjs';
 import { fcanon } from './library.mjs';
 import { areEqual, columnsOf, rankOf, stayingPassage, suitOf } from './passages.mjs';
 import { exchangedOf, shown } from './shown.mjs';
@@ -10,13 +10,6 @@ import { store } from './store.mjs';
 import { counted, exchangedWords } from './words.mjs';
 
 const MOST_DRAWN = 8; // boards of a frame
-const SVG = 'http://www.w3.org/2000/svg';
-
-function svgElement(name, properties) {
-  const made = document.createElementNS(SVG, name);
-  for (const [key, value] of Object.entries(properties)) made.setAttribute(key, value);
-  return made;
-}
 
 const pictures = new Map(); // those that were drawn, by what they show
 
@@ -36,9 +29,8 @@ function pictureOf(board, className) {
     const [x, y, across, down] = [8 * column + 1, pitch * row + 2, width, height].map((it) => it.toFixed(2));
     bars[suitOf(card)] += `M${x} ${y}h${across}v${down}h-${across}z`;
   }));
-  const svg = svgElement('svg', { viewBox: '0 0 64 40', class: `picture ${className}`, 'aria-hidden': true });
-  svg.append(...bars.map((d, suit) => svgElement('path', { d, class: `suit-${SUITS[suit]}` })));
-  return svg;
+  return shape('svg', { viewBox: '0 0 64 40', class: `picture ${className}`, 'aria-hidden': true },
+    ...bars.map((d, suit) => shape('path', { d, class: `suit-${SUITS[suit]}` })));
 }
 
 // Each board that was seen with its canonical board, in the order in which they were seen first, none twice.

@@ -58,5 +58,5 @@ export function drawImported() {
   const shown = notes.length > MOST_NOTES ? [...notes.slice(0, MOST_NOTES), '..', notes.at(-1)] : notes;
   const items = shown.map((note) => element('li', {}, note));
   if (shown.join('\n') !== drawn.join('\n')) at('notes').replaceChildren(...items);
-  if (imported) write('imported-said', notes.length > 0 ? 'Read as `import` reads it:' : 'Import reads this as it is.');
+  if (imported) write('imported-said', notes.length > 0 ? 'Import says of this:' : 'Import reads this as it is.');
 }

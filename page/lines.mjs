@@ -58,13 +58,19 @@ export function joined(...parts) {
   return all;
 }
 
-// What makes the one text the other: from a place on, some bytes are taken and others put; or null of equal texts.
-export function spliceOf(before, after) {
-  if (before === after) return null;
+// How much two texts, of bytes or of characters, have in common: where they begin to differ, and how much at their ends.
+function commonOf(before, after) {
   const least = Math.min(before.length, after.length);
   let from = 0, same = 0;
   while (from < least && before[from] === after[from]) from++;
   while (same < least - from && before[before.length - 1 - same] === after[after.length - 1 - same]) same++;
+  return { from, same };
+}
+
+// What makes the one text the other: from a place on, some bytes are taken and others put; or null of equal texts.
+export function spliceOf(before, after) {
+  if (before === after) return null;
+  const { from, same } = commonOf(before, after);
   if (from === before.length && from === after.length) return null;
   return { from, taken: before.slice(from, before.length - same), put: after.slice(from, after.length - same) };
 }
@@ -105,11 +111,8 @@ export function endingOf(bytes) {
 // The bytes after the field's text was changed. What was not touched keeps its bytes.
 export function afterField(bytes, text) {
   const before = fieldText(bytes);
-  const least = Math.min(before.length, text.length);
-  let from = 0, same = 0;
-  while (from < least && before[from] === text[from]) from++;
+  let { from, same } = commonOf(before, text);
   if (isFirstOfTwo(before, from - 1)) from--;
-  while (same < least - from && before[before.length - 1 - same] === text[text.length - 1 - same]) same++;
   if (isFirstOfTwo(before, before.length - same - 1)) same--;
   const put = bytesOf(text.slice(from, text.length - same).replaceAll('\n', endingOf(bytes)));
   return joined(bytes.subarray(0, placeOf(bytes, from)), put, bytes.subarray(placeOf(bytes, before.length - same)));

@@ -172,11 +172,18 @@ const watcher = new IntersectionObserver((seen) => {
   if (seen.some((it) => it.isIntersecting)) drawMoreGroups();
 });
 
-// Marks the record that is shown.
+// Marks the record that is shown, and brings it in sight in its list.
 export function drawChosen() {
   for (const button of at('groups').querySelectorAll('button')) {
-    button.setAttribute('aria-pressed', Number(button.value) === shown?.base.number);
+    const isShown = Number(button.value) === shown?.base.number;
+    if (isShown && button.ariaPressed !== 'true') bringInSight(button);
+    button.ariaPressed = isShown;
   }
+}
+
+function bringInSight(button) {
+  const [one, all] = [button, at('groups')].map((it) => it.getBoundingClientRect());
+  at('groups').scrollTop += Math.max(0, Math.ceil(one.bottom - all.bottom)) + Math.min(0, Math.floor(one.top - all.top));
 }
 
 // ---- a list carried to another member of the group

@@ -12,14 +12,17 @@ import {
 } from './history.mjs';
 import { captions, expanded, scrubbed, stepped } from './lists.mjs';
 import { contrasts, fitting, focused, largeLetters, named } from './seen.mjs';
-import { collections, dealt, faults, imported, large, linked, linkedDeals, names, shared } from './text.mjs';
+import {
+  collections, dealt, faults, imported, kept, large, linked, linkedDeals, names, shared,
+} from './text.mjs';
 import { counted, demonstration, demonstrationLeft, gathered, still } from './theorem.mjs';
 
 const PARTS = {
   'commands on collections': collections, boards, 'piles and their images': images, suits, faces,
   'lists stepped': stepped, captions, 'moves of several cards': expanded, 'lists scrubbed and played': scrubbed,
   'keys in a board': walked, shuffled, swapped, 'moves typed': typed, 'moves amid a list': branched,
-  'moves by pointer': pressed, refusals, deals: dealt, faults, names, 'shared lists': shared, links: linked,
+  'moves by pointer': pressed, refusals, deals: dealt, faults, names, 'boards kept': kept,
+  'shared lists': shared, links: linked,
   'links of deals': linkedDeals, 'large texts': large, 'what is pasted': imported, 'names of controls': named, contrasts,
   focus: focused, 'all sizes': fitting, 'large letters': largeLetters, 'runs by keys': counts,
   'states of piles': states, 'what can move': legal, 'letters turned off': lettersOff, 'what is dragged': gripped,

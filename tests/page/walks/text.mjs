@@ -41,6 +41,21 @@ export function names() {
   return [...found, ...differ('elements of a name', made, 0), ...differ('harm', window.harm, undefined)];
 }
 
+// Boards that are kept have names of their own, and the last one is in sight in the list.
+export async function kept({ example, records: [{ name }] }) {
+  paste(example);
+  choose(name);
+  for (let turn = 0; turn < 20; turn++) {
+    at('shuffle').click();
+    at('keep').click();
+  }
+  const wanted = Array.from({ length: 20 }, (_, place) => `${name}-shuffled-${place + 1}`);
+  const names = all('#groups button').map((button) => button.textContent).filter((it) => it.includes('shuffled'));
+  const found = differ('names', names.join(), wanted.join());
+  const [list, chosen] = ['#groups', '#groups [aria-pressed=true]'].map((it) => all(it)[0].getBoundingClientRect());
+  return [...found, ...differ('in sight', chosen.top >= list.top && chosen.bottom <= list.bottom, true)];
+}
+
 export function dealt({ deals }) {
   paste('# mine\n');
   return deals.flatMap(({ game, number, board }) => {
