@@ -25,11 +25,10 @@ function chance() {
 function acts() {
   const by = chance();
   const shuffle = () => shuffleBy(anyPassage(shown.record.game, by));
-  const { game } = shown.record;
   const first = PLACE.cards;
   const lengths = shown.sides.own.subarray(PLACE.lengths, PLACE.cards);
   const places = [first + lengths[0] - 1, first + lengths[0] + lengths[1] - 1];
-  return game >= 0 ? [shuffle, shuffle, shuffle, () => exchangeBy(places), exchangeBack] : [];
+  return [shuffle, shuffle, shuffle, () => exchangeBy(places), exchangeBack];
 }
 
 function showNext() {

@@ -37,19 +37,15 @@ export function amend(change, action = {}) {
   become({ ...store.state, ...change }, action);
 }
 
-export function undo() {
+// Goes back or forth in the history, and says what that was.
+function go(way, says) {
   store.acted();
-  const { undoes } = store.history;
-  const state = store.history.undo(store.state);
-  if (state) become(state, { says: `Undone: ${undoes}.`, isKept: true });
+  const state = store.history[way](store.state);
+  if (state) become(state, { says, isKept: true });
 }
 
-export function redo() {
-  store.acted();
-  const { redoes } = store.history;
-  const state = store.history.redo(store.state);
-  if (state) become(state, { says: `Done again: ${redoes}.`, isKept: true });
-}
+export const undo = () => go('undo', `Undone: ${store.history.undoes}.`);
+export const redo = () => go('redo', `Done again: ${store.history.redoes}.`);
 
 // Forgets all, and begins from a state.
 export function begin(change) {
