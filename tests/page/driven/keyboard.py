@@ -87,7 +87,7 @@ def played(browser):
     return faults + same("two of a run", ["QD", "JC"], browser.value("cards('left', '5').map((it) => it.dataset.card)"))
 
 
-def solved(browser, moves=10):
+def solved(browser, moves=6):
     """The first moves of a solution by arrows and Enter lead where its steps lead."""
     browser.open(1440, 900, "#deal=1&list=" + quote(SOLUTION))
     go_to(browser, "#on")

@@ -3,7 +3,7 @@
 from page.driven import forced, keyboard, printed, touch
 from page.driven.browsers import driven
 
-WALKS = [({}, [keyboard, printed]), ({"fingers": True}, [touch]), ({"forced": True}, [forced])]
+WALKS = [({}, [keyboard]), ({}, [printed]), ({"fingers": True}, [touch]), ({"forced": True}, [forced])]
 
 
 def found_by(part, browser):
@@ -14,9 +14,7 @@ def found_by(part, browser):
         return [str(error)]
 
 
-def walked(program):
-    """The parts of all walks in a browser, each with what it finds wrong."""
-    for kinds, walks in WALKS:
-        with driven(program, **kinds) as browser:
-            for name, part in (it for walk in walks for it in walk.PARTS.items()):
-                yield f"{name} in {program}", found_by(part, browser)
+def walked(program, kinds, walks):
+    """The parts of some walks in one browser, each with what it finds wrong."""
+    with driven(program, **kinds) as browser:
+        return [(f"{name} in {program}", found_by(part, browser)) for walk in walks for name, part in walk.PARTS.items()]
