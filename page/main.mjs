@@ -16,8 +16,8 @@ import { bytesOf } from './lines.mjs';
 import { linked, linkOf, LONGEST } from './links.mjs';
 import { copyPrinted, drawPrinted, listCommands, savePrinted } from './printed.mjs';
 import {
-  deal, drawCarried, drawChosen, drawCollection, drawSaid, drawShare, drawText, openDropped, openFiles, paste,
-  showCarried, typeText,
+  chooseFound, deal, drawCarried, drawChosen, drawCollection, drawFound, drawSaid, drawShare, drawText, openDropped,
+  openFiles, paste, showCarried, typeText,
 } from './positions.mjs';
 import { derive, settled, shown } from './shown.mjs';
 import { apply, begin, redo, store, undo } from './store.mjs';
@@ -166,6 +166,8 @@ function listenToText(on) {
   on('save', 'click', () => download([collection.bytes], 'positions.collection'));
   on('more', 'click', () => replace('more examples', bytesOf(at('examples').textContent)));
   on('forget', 'click', forgetAll);
+  on('find', 'input', drawFound);
+  on('find-row', 'submit', chooseFound);
   on('member', 'change', drawCarried);
   on('carry', 'click', showCarried);
   on('command', 'change', drawPrinted);

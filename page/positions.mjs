@@ -15,6 +15,7 @@ import { store } from './store.mjs';
 import { counted, inFigures } from './words.mjs';
 
 const MOST_SHOWN = { faults: 20, groups: 60, members: 100 };
+const LEAST_SEARCHED = 12; // records, among which one looks for a name
 
 // ---- the text
 
@@ -139,13 +140,21 @@ function select(place, word) {
 
 // ---- groups
 
-function groupElement(group) {
+let groupsFound = []; // the groups with a record that is looked for, each with those of its records
+
+// The records of a group whose names have what is looked for: all where nothing is.
+function membersFound(group) {
+  const part = at('find').value.trim().toLowerCase();
+  return part === '' ? group : group.filter(({ name }) => name.toLowerCase().includes(part));
+}
+
+function groupElement({ group, members: found }) {
   const button = (record) => element('button', {
     type: 'button', value: record.number, onclick: () => choose(record),
     aria: { pressed: record === shown?.base },
   }, record.name);
-  const members = group.slice(0, MOST_SHOWN.members).map(button);
-  const left = group.length - members.length;
+  const members = found.slice(0, MOST_SHOWN.members).map(button);
+  const left = found.length - members.length;
   if (group.length === 1) return element('li', {}, ...members);
   const said = element('span', { className: 'soft' }, `${inFigures(group.length)} are one:`);
   return element('li', { className: 'several' }, said, ...members, ...left > 0 ? [`and ${inFigures(left)} more`] : []);
@@ -153,16 +162,32 @@ function groupElement(group) {
 
 // Groups are drawn as far as they are seen: the list's last line, once it is seen, draws some more.
 function drawGroups() {
-  const { length } = collection.groups;
+  write('groups-title', counted(collection.groups.length, 'different position'));
+  at('find-row').hidden = collection.records.length < LEAST_SEARCHED;
+  if (at('find-row').hidden) at('find').value = '';
+  drawFound();
+}
+
+// Lists the groups of the records that are looked for by a part of their names.
+export function drawFound() {
+  const groups = collection.groups.map((group) => ({ group, members: membersFound(group) }));
+  groupsFound = groups.filter(({ members }) => members.length > 0);
+  const found = groupsFound.reduce((count, { members }) => count + members.length, 0);
+  write('find-said', at('find').value.trim() === '' ? '' : `${inFigures(found)} found`);
   at('groups').replaceChildren(element('li', { className: 'end' }));
-  write('groups-title', counted(length, 'different position'));
   drawMoreGroups();
+}
+
+// Shows the first record that is found.
+export function chooseFound(event) {
+  event.preventDefault();
+  if (groupsFound.length > 0) choose(groupsFound[0].members[0]);
 }
 
 function drawMoreGroups() {
   const end = at('groups').lastElementChild;
   const drawn = at('groups').children.length - 1;
-  const more = collection.groups.slice(drawn, drawn + MOST_SHOWN.groups);
+  const more = groupsFound.slice(drawn, drawn + MOST_SHOWN.groups);
   end.before(...more.map(groupElement));
   watcher.unobserve(end);
   if (more.length > 0) watcher.observe(end);

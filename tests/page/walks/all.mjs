@@ -13,7 +13,7 @@ import {
 import { captions, expanded, scrubbed, stepped } from './lists.mjs';
 import { contrasts, fitting, focused, largeLetters, named } from './seen.mjs';
 import {
-  collections, dealt, faults, imported, kept, large, linked, linkedDeals, names, shared,
+  collections, dealt, faults, imported, kept, large, linked, linkedDeals, names, searched, shared,
 } from './text.mjs';
 import { counted, demonstration, demonstrationLeft, gathered, still } from './theorem.mjs';
 
@@ -21,7 +21,7 @@ const PARTS = {
   'commands on collections': collections, boards, 'piles and their images': images, suits, faces,
   'lists stepped': stepped, captions, 'moves of several cards': expanded, 'lists scrubbed and played': scrubbed,
   'keys in a board': walked, shuffled, swapped, 'moves typed': typed, 'moves amid a list': branched,
-  'moves by pointer': pressed, refusals, deals: dealt, faults, names, 'boards kept': kept,
+  'moves by pointer': pressed, refusals, deals: dealt, faults, names, 'names looked for': searched, 'boards kept': kept,
   'shared lists': shared, links: linked,
   'links of deals': linkedDeals, 'large texts': large, 'what is pasted': imported, 'names of controls': named, contrasts,
   focus: focused, 'all sizes': fitting, 'large letters': largeLetters, 'runs by keys': counts,

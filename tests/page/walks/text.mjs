@@ -29,6 +29,27 @@ export function faults({ refused }) {
   });
 }
 
+// One board under 300 names: a part of a name finds its records, also those that are not listed at first, and Enter
+// shows the first. Few records are not looked through.
+export function searched() {
+  const board = 'Found: H-K C-K D-K S-K\n';
+  const { InputEvent } = frame.contentWindow;
+  const look = (part) => {
+    at('find').value = part;
+    at('find').dispatchEvent(new InputEvent('input', { bubbles: true }));
+    const listed = all('#groups button').map((button) => button.textContent);
+    return `${listed.slice(0, 3)} ${listed.length} ${at('find-said').textContent}`;
+  };
+  paste(Array.from({ length: 300 }, (_, number) => `@ freecell Game-${number}\n${board}`).join(''));
+  const found = [...differ('found', look('game-29'), 'Game-29,Game-290,Game-291 11 11 found'),
+    ...differ('nothing found', look('x'), ' 0 0 found'), ...differ('all', look(' '), 'Game-0,Game-1,Game-2 100 ')];
+  look('E-29');
+  at('find-row').requestSubmit();
+  found.push(...differ('shown', all('#groups [aria-pressed=true]')[0]?.textContent, 'Game-29'));
+  paste(`@ freecell one\n${board}`);
+  return [...found, ...differ('of one record', `${at('find-row').hidden} ${at('find').value}`, 'true ')];
+}
+
 // Names are text and no more.
 export function names() {
   const name = '<img/src=x/onerror=parent.harm=1><b>&amp;';
