@@ -1,8 +1,8 @@
 -- What a move does, and when it is refused.
 use Rattle.std.specs.{List.{filter}, Prelude.{◌&&◌, ◌*◌, ◌++◌, ◌+◌, ◌-◌, ◌==◌, ◌^◌, ◌∷◌, ◌≡◌, ◌≢◌}}
-use Rattle.std.specs.Prelude.{◌≤◌, ◌⊎◌, [], Bool, drop, false, if◌then◌else◌, is_none, IsFalse}
-use Rattle.std.specs.Prelude.{length, List, min, nat_le, nat_lt, None, not, Option, set, slice_get}
-use Rattle.std.specs.Prelude.{slice_index, slice_index_or, Some, take, true, ℕ}
+use Rattle.std.specs.Prelude.{◌≤◌, ◌⊎◌, [], Bool, codes, drop, false, if◌then◌else◌, is_none}
+use Rattle.std.specs.Prelude.{IsFalse, length, List, min, nat_le, nat_lt, None, not, Option, set}
+use Rattle.std.specs.Prelude.{slice_get, slice_index, slice_index_or, Some, take, true, ℕ}
 use Rattle.fc_card.specs.{places, rank_of, suit_of}
 use Rattle.fc_board.specs.{Boards.{Board}, Games.{Builds, Fills, Game}}
 use Rattle.fc_board.specs.Moves.{Fits, is_column_to_column, RunFits}
@@ -206,6 +206,23 @@ abbrev pub run_refusal : Game → Board → RunMove → Option StepFault
 run_refusal game board (One move) = refusal game board move
 run_refusal game board (Run from to said) =
     fault_or (not (from == to)) SamePile (onto game board from to said (last_card (column_at board from)) (last_card (column_at board to)))
+
+-- ---- the reasons in words
+-- the reasons in the order of their numbers, from 0
+abbrev pub step_faults : List StepFault
+step_faults = SamePile ∷ EmptySource ∷ TargetTaken ∷ KingsOnly ∷ NotBuilding ∷ NotNext ∷ NoRun ∷ OverCapacity ∷ WrongCount ∷ []
+
+-- the words for why a move is refused. From: this project's profile
+abbrev pub step_reason : StepFault → List ℕ
+step_reason SamePile = codes "same pile"
+step_reason EmptySource = codes "empty source"
+step_reason TargetTaken = codes "target taken"
+step_reason KingsOnly = codes "kings only"
+step_reason NotBuilding = codes "not building"
+step_reason NotNext = codes "not next"
+step_reason NoRun = codes "no run"
+step_reason OverCapacity = codes "over capacity"
+step_reason WrongCount = codes "wrong count"
 
 -- ---- what the board is after it
 -- the board after a move that is allowed

@@ -36,6 +36,35 @@ pub enum StepFault {
     WrongCount,
 }
 
+impl StepFault {
+    ghost use Rattle.std.specs.Prelude.{◌≡◌, slice_get, Some};
+    ghost use Rattle.fc_board.specs.Steps.{step_faults, step_reason};
+
+    /// The reason in two words, as the program prints it.
+    pub fn words(self) -> &'static str
+        ensures { result.now ≡ step_reason self }
+    {
+        match self {
+            StepFault::SamePile => "same pile",
+            StepFault::EmptySource => "empty source",
+            StepFault::TargetTaken => "target taken",
+            StepFault::KingsOnly => "kings only",
+            StepFault::NotBuilding => "not building",
+            StepFault::NotNext => "not next",
+            StepFault::NoRun => "no run",
+            StepFault::OverCapacity => "over capacity",
+            StepFault::WrongCount => "wrong count",
+        }
+    }
+
+    /// The place of the reason among all, from 0.
+    pub fn number(self) -> u32
+        ensures { slice_get step_faults result ≡ Some self }
+    {
+        self as u32
+    }
+}
+
 /// Which move of a list is refused, and why.
 #[derive(Clone, Copy, PartialEq, Eq, Debug)]
 pub struct PlayFault {

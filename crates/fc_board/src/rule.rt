@@ -60,6 +60,49 @@ pub enum Variant {
     EightOff,
 }
 
+/// The words for the games in headers and options, in the order of their numbers.
+pub static VARIANT_WORDS: [&str; 3] = ["freecell", "bakers_game", "eight_off"];
+
+impl Variant {
+    ghost use Rattle.std.specs.{List.{find}, Prelude.{◌<◌, ◌≡◌, ◌≤◌, IfSome, None}, Str.{bytes_eq}};
+    ghost use Rattle.fc_board.specs.Games.{variant_at, variant_word, variants};
+
+    /// The game of this number: 0 is FreeCell, 1 Baker's Game and 2 Eight Off.
+    pub fn numbered(number: u32) -> Option<Variant>
+        ensures some { IfSome result (λ variant. (number < 3) × (variant ≡ variant_at number)) }
+        ensures none { result ≡ None → 3 ≤ number }
+    {
+        match number {
+            0 => Some(Variant::FreeCell),
+            1 => Some(Variant::BakersGame),
+            2 => Some(Variant::EightOff),
+            _ => None,
+        }
+    }
+
+    /// The game of this word, letter by letter.
+    pub fn named(word: &str) -> Option<Variant>
+        ensures { result ≡ find (λ variant. bytes_eq word.now (variant_word variant)) variants }
+    {
+        if word == Variant::FreeCell.word() {
+            Some(Variant::FreeCell)
+        } else if word == Variant::BakersGame.word() {
+            Some(Variant::BakersGame)
+        } else if word == Variant::EightOff.word() {
+            Some(Variant::EightOff)
+        } else {
+            None
+        }
+    }
+
+    /// The word for the game in headers and options.
+    pub fn word(self) -> &'static str
+        ensures { result.now ≡ variant_word self }
+    {
+        VARIANT_WORDS[self as usize]
+    }
+}
+
 mod bakers_game;
 mod eight_off;
 mod freecell;

@@ -9,14 +9,12 @@ use Rattle.fc_board.specs.{Boards.{Board, IsWellFormed}, Games.{AscendByWord, Ga
 use Rattle.fc_board.specs.{Moves.{Fits, move_between, RunFits}, Passages.{carried, Carries}}
 use Rattle.fc_board.specs.Passages.{inverse_passage, IsPassage, Passage, passage_product}
 use Rattle.fc_board.specs.Play.{Expands, expansion_of}
-use Rattle.fc_board.specs.Steps.{capacity, refusal, run_refusal, Step}
-use Rattle.fc_board.specs.declared.{
-  fault.StepFault.{StepFault, TheVariants.{EmptySource, KingsOnly, NoRun, NotBuilding, NotNext}},
-  fault.StepFault.TheVariants.{OverCapacity, SamePile, TargetTaken, WrongCount},
-  moves.{Move.{Move}, Place.{Place, TheVariants.{Cell as ToCell, Column as ToColumn, Home}}},
-  moves.Source.{Source, TheVariants.{Cell as FromCell, Column as FromColumn}},
-  run_move.RunMove.{RunMove, TheVariants.{One, Run}},
-}
+use Rattle.fc_board.specs.Steps.{capacity, refusal, run_refusal, Step, step_faults}
+use Rattle.fc_board.specs.declared.{fault.StepFault.{StepFault}, moves.{Move.{Move}, Place.{Place}}}
+use Rattle.fc_board.specs.declared.moves.Place.TheVariants.{Cell as ToCell, Column as ToColumn}
+use Rattle.fc_board.specs.declared.moves.{Place.TheVariants.{Home}, Source.{Source}}
+use Rattle.fc_board.specs.declared.moves.Source.TheVariants.{Cell as FromCell, Column as FromColumn}
+use Rattle.fc_board.specs.declared.run_move.RunMove.{RunMove, TheVariants.{One, Run}}
 use Rattle.fc_text.specs.Faults.{first_fault}
 use Rattle.fc_text.specs.Notation.{column_digits, source_character, target_character}
 use Rattle.fc_text.specs.{Printed.{text_of}, Spelling.{Spells}}
@@ -102,7 +100,7 @@ board_hash board = to_le_bytes w64 (sip_hash (all_bytes board)) ++ to_le_bytes w
 
 -- an answer from 32 on is the number of one of these reasons against a move
 abbrev pub reason_of : ℕ → Option StepFault
-reason_of answer = slice_get (SamePile ∷ EmptySource ∷ TargetTaken ∷ KingsOnly ∷ NotBuilding ∷ NotNext ∷ NoRun ∷ OverCapacity ∷ WrongCount ∷ []) (answer - 32)
+reason_of answer = slice_get step_faults (answer - 32)
 
 -- an answer from 64 on is the number of one of these faults of a text, and one from 128 on that of a missing card
 abbrev pub fault_kind_of : ℕ → Option BoardFaultKind

@@ -4,16 +4,16 @@ use Rattle.std.specs.List.{count_by, filter, find, flat_map, join_with_byte, lis
 use Rattle.std.specs.{Option.{is_some, option_to_list}, Prelude.{◌&&◌, ◌++◌, ◌-◌, ◌==◌, ◌∷◌, []}}
 use Rattle.std.specs.Prelude.{Bool, codes, if◌then◌else◌, length, List, map, None, Option, Some, ℕ}
 use Rattle.std.specs.Str.{bytes_eq}
-use Rattle.fc_board.specs.{Games.{game_of, renamings_of}, Moves.{MoveList}}
+use Rattle.fc_board.specs.{Games.{game_of, renamings_of, variant_word}, Moves.{MoveList}}
 use Rattle.fc_board.specs.Passages.{inverse_passage, Passage, passage_product}
 use Rattle.fc_board.specs.Play.{list_verdict}
 use Rattle.fc_board.specs.declared.rule.Variant.{Variant}
 use Rattle.fc_text.specs.{Bytes.{blank, line_feed}, Printed.{text_of}}
 use Rattle.{fc_canon.specs.{chosen_passage, least_text}, fc_collect.specs.Records.{outputs_after}}
 use Rattle.fc_record.specs.Grammar.{Accepted, Contents, Heading, Reading, reading_of, Refused}
-use Rattle.fc_record.specs.{Grammar.{variant_word}, Printing.{header_text, image_line, is_refused}}
-use Rattle.fc_record.specs.Printing.{list_line, name_of, printed, show_lines}
-use Rattle.fc_record.specs.{RecordTexts.{RecordText}, Tables.{is_win, json_object}}
+use Rattle.fc_record.specs.Printing.{header_text, image_line, is_refused, list_line, name_of}
+use Rattle.fc_record.specs.{Printing.{printed, show_lines}, RecordTexts.{RecordText}}
+use Rattle.fc_record.specs.Tables.{is_win, json_object}
 use Rattle.fc_collect.specs.declared.streams.faults.Summary.{Summary}
 
 -- -------- The groups of a collection: the accepted records of one variant whose boards are equivalent; and what `group` and `unique` print of them. From: this project's profile.

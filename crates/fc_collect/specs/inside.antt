@@ -4,11 +4,12 @@ use Rattle.std.specs.Io.KnownBytes.{Appends, Consumes, IsAtEnd, Keeps}
 use Rattle.std.specs.{List.{AllZip, count_by, flat_map}, Option.{is_some}, Prelude.{◌&&◌, ◌++◌}}
 use Rattle.std.specs.Prelude.{◌+◌, ◌<◌, ◌∷◌, ◌≡◌, ◌≤◌, [], All, Bool, codes, drop, Err, length}
 use Rattle.std.specs.{Prelude.{List, map, None, Ok, Option, Result, Some, take, ℕ}, Str.{bytes_eq}}
-use Rattle.fc_board.specs.{Boards.{Board, IsWellFormed}, Games.{game_of, renamings_of}}
-use Rattle.fc_board.specs.{Moves.{ListFits}, Passages.{carried}}
+use Rattle.fc_board.specs.Boards.{Board, IsWellFormed}
+use Rattle.fc_board.specs.{Games.{game_of, renamings_of, variant_word}, Moves.{ListFits}}
+use Rattle.fc_board.specs.Passages.{carried}
 use Rattle.{fc_board.specs.declared.rule.Variant.{Variant}, fc_text.specs.Bytes.{blank}}
 use Rattle.fc_canon.specs.{chosen_passage, key_of}
-use Rattle.fc_record.specs.{Grammar.{Contents, Heading, variant_word}, Printing.{printed_with}}
+use Rattle.fc_record.specs.{Grammar.{Contents, Heading}, Printing.{printed_with}}
 use Rattle.fc_record.specs.RecordTexts.{header_mark, RecordText}
 use Rattle.fc_record.specs.declared.record.RecordFault.{RecordFault}
 use Rattle.fc_record.specs.declared.record.RecordText.{RecordText as GivenText}

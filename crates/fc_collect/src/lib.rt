@@ -13,7 +13,6 @@ pub use commands::{
 pub(crate) use engine::{Command, run_records, write_full};
 pub use engine::{write_bytes, write_text};
 pub use fc_board::Variant;
-pub use fc_record::variant_word;
 pub(crate) use groups::{
     AnyBoard, AnyGame, EachGroup, Gathered, Gathering, GroupKey, ShareLines, key_and_passage,
 };

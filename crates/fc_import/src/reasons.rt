@@ -1,6 +1,6 @@
 //! Why a board or a list is not imported, and what to write instead.
 
-use fc_board::{PlayFault, StepFault};
+use fc_board::PlayFault;
 use fc_record::push_number;
 use fc_text::BoardFaultKind;
 use std::alloc::{AllocError, Global};
@@ -48,22 +48,8 @@ pub(crate) fn move_reason(
     push_number(number, &mut words)?;
     words.extend_from_slice(b" does not play on the board before: ")?;
     words.extend_from_slice(match fault {
-        Some(fault) => step_words(fault.fault),
+        Some(fault) => fault.fault.words().as_bytes(),
         None => b"no move of this game",
     })?;
     Ok(words)
-}
-
-fn step_words(fault: StepFault) -> &'static [u8] {
-    match fault {
-        StepFault::SamePile => b"same pile",
-        StepFault::EmptySource => b"empty source",
-        StepFault::TargetTaken => b"target taken",
-        StepFault::KingsOnly => b"kings only",
-        StepFault::NotBuilding => b"not building",
-        StepFault::NotNext => b"not next",
-        StepFault::NoRun => b"no run",
-        StepFault::OverCapacity => b"over capacity",
-        StepFault::WrongCount => b"wrong count",
-    }
 }

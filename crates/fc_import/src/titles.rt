@@ -1,7 +1,6 @@
 //! What titles and headers say of the boards after them: a name, and a game.
 
 use fc_board::{Rule, Variant};
-use fc_collect::variant_word;
 use fc_text::{Tokens, next_word};
 use std::alloc::{AllocError, Global};
 
@@ -70,7 +69,7 @@ pub(crate) fn is_of_variant<R: Rule>(line: &[u8]) -> bool {
         Some(game) => game
             .text
             .trim_ascii()
-            .eq_ignore_ascii_case(variant_word(R::VARIANT)),
+            .eq_ignore_ascii_case(R::VARIANT.word().as_bytes()),
         None => false,
     }
 }

@@ -13,7 +13,7 @@ use Rattle.fc_board.proofs.RunPlayLemmas.{list_expanded, one_card, wins_expanded
 use Rattle.fc_board.specs.{Boards.{Board, IsWellFormed}, Games.{Game, game_of, RuleLaws}}
 use Rattle.fc_board.specs.Moves.{Fits, ListFits, move_count, MoveList, OneCard, Runs}
 use Rattle.fc_board.specs.Play.{Legal, list_verdict, OnlyLegal, Plays, Refused, RefusedAt, Verdict}
-use Rattle.fc_board.specs.Play.{Won}
+use Rattle.fc_board.specs.{Play.{Won}, Steps.{step_reason}}
 use Rattle.fc_board.specs.declared.fault.StepFault.{StepFault}
 use Rattle.fc_laws.proofs.ReadAgainLemmas.{all_again, AreReadAs, ReadsAgain, same_printed, Stays}
 use Rattle.fc_board.specs.declared.fault.StepFault.TheVariants as step
@@ -31,8 +31,7 @@ use Rattle.fc_record.specs.Grammar.{Accepted, begins_with, Contents, Heading, li
 use Rattle.fc_record.specs.Printing.{check_lines, comment_line, expand_lines, expanded_by}
 use Rattle.fc_record.specs.Printing.{expanded_line, heading_line, list_line, name_of}
 use Rattle.fc_record.specs.Printing.{numbered_lines, one_card_moves, printed, show_lines}
-use Rattle.fc_record.specs.Printing.{step_reason, verdict_line, verdict_words}
-use Rattle.fc_record.specs.RecordTexts.{header_mark}
+use Rattle.fc_record.specs.{Printing.{verdict_line, verdict_words}, RecordTexts.{header_mark}}
 use Rattle.fc_collect.{proofs.LimitLemmas.{IsNumbered}, specs.Groups.{Member, members_among}}
 use Rattle.fc_collect.specs.{Limits.{most_countable}, Records.{output_of_records, records_of}}
 use Rattle.fc_laws.proofs.AcceptanceLemmas.{Says-from_accepted}

@@ -15,14 +15,14 @@ use Rattle.std.proofs.lemmas.List.{Elements.{All-weaker}, Sums.{AllPass-from_lis
 use Rattle.std.{proofs.lemmas.Slice.Eq.{bytes_eq-Decides}, specs.Fmt.{decimal}}
 use Rattle.std.specs.{List.{flat_map, join_with_byte, list_all}, Str.{bytes_eq}}
 use Rattle.{fc_canon.specs.{chosen_passage}, fc_card.specs.{IsOrder, suit_letters}}
-use Rattle.fc_board.specs.{Boards.{Board}, Games.{Game, game_of, renamings_of}, Moves.{MoveList}}
-use Rattle.fc_board.specs.Play.{list_verdict}
+use Rattle.fc_board.specs.{Boards.{Board}, Games.{Game, game_of, renamings_of, variant_word}}
+use Rattle.fc_board.specs.{Moves.{MoveList}, Play.{list_verdict}}
 use Rattle.fc_board.specs.declared.rule.Variant.TheVariants.{BakersGame, EightOff, FreeCell}
 use Rattle.fc_board.specs.declared.rule.Variant.{Variant}
 use Rattle.fc_text.specs.{Bytes.{line_feed}, Notation.{cell_letters, column_digits}}
 use Rattle.fc_record.proofs.HeadingLemmas.{bytes_of_name, decimal-high, heading_said, IsHeading}
 use Rattle.fc_record.proofs.HeadingLemmas.{IsInName, named, unnamed, without}
-use Rattle.fc_record.specs.{Grammar.{begins_with, Heading, variant_word}, Printing.{name_of}}
+use Rattle.fc_record.specs.{Grammar.{begins_with, Heading}, Printing.{name_of}}
 use Rattle.fc_record.specs.{RecordTexts.{header_mark}, Tables.{first_win, is_win, json_object}}
 use Rattle.fc_record.specs.Tables.{json_string, number_or_null, table_fields, table_object}
 use Rattle.fc_collect.proofs.{KeyedLemmas.{chosen}, ShareLemmas.{few_cells}}

@@ -15,8 +15,8 @@ use Rattle.fc_card.specs.{suit_of}
 use Rattle.fc_board.specs.{Games.{Game, game_of}, Moves.{MoveList, OneCard, Runs}}
 use Rattle.fc_board.specs.declared.rule.Variant.{Variant}
 use Rattle.fc_text.{proofs.PlaceLemmas.{no_item_misses}, specs.Bytes.{is_gap, line_feed}}
-use Rattle.fc_text.specs.Faults.{cards_of_item, first_fault, first_faulty, items_of, lowest_missing}
-use Rattle.fc_text.specs.{Faults.{missing_card}, Lines.{Piece, words_from}}
+use Rattle.fc_text.specs.Faults.{board_reason, cards_of_item, first_fault, first_faulty, items_of}
+use Rattle.fc_text.specs.{Faults.{lowest_missing, missing_card}, Lines.{Piece, words_from}}
 use Rattle.fc_text.specs.{Notation.{BadToken, ListFault, TooMany}, Readings.{moves_read, runs_read}}
 use Rattle.fc_text.specs.declared.fault.{BoardFault.{BoardFault}, BoardFaultKind.{BoardFaultKind}}
 use Rattle.fc_text.specs.declared.fault.BoardFaultKind.TheVariants.{BadCard, BadFoundation}
@@ -29,7 +29,7 @@ use Rattle.fc_record.specs.Grammar.{board_part, fault_at, has_two_marks, header_
 use Rattle.fc_record.specs.Grammar.{heading_of, heading_of_words, is_name, IsFaulty, later_line}
 use Rattle.fc_record.specs.Grammar.{list_read, list_with, reading_of, Refused, stray_line}
 use Rattle.fc_record.specs.Grammar.{variant_named, with_header, without_header}
-use Rattle.fc_record.specs.Printing.{board_reason, name_of, record_reason}
+use Rattle.fc_record.specs.Printing.{name_of, record_reason}
 use Rattle.fc_record.specs.{RecordTexts.{header_mark, RecordText}, Tables.{refusal_object}}
 use Rattle.fc_record.specs.declared.record.RecordFault.{RecordFault}
 use Rattle.fc_record.specs.declared.record.RecordFaultKind.{RecordFaultKind}

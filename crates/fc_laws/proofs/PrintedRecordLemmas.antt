@@ -7,7 +7,7 @@ use Rattle.std.proofs.lemmas.List.Elements.{All-contains_itself, All-head, All-n
 use Rattle.std.proofs.lemmas.List.{Elements.{All-weaker}, Folds.{find-append}}
 use Rattle.std.{proofs.Math.Seq.{drop-append_seam, take-append_seam}, specs.Fmt.{decimal}}
 use Rattle.std.specs.{List.{find, flat_map, join_with_byte}, Option.{option_map, unwrap_or}}
-use Rattle.fc_board.specs.{Boards.{Board, IsWellFormed}, Games.{Game, game_of}}
+use Rattle.fc_board.specs.{Boards.{Board, IsWellFormed}, Games.{Game, game_of, variant_word}}
 use Rattle.fc_board.specs.Moves.{Fits, MoveList, OneCard, RunFits, Runs}
 use Rattle.fc_board.specs.declared.rule.Variant.{Variant}
 use Rattle.fc_text.proofs.{LineLemmas.{first_line, InLine}, PrintedTextLemmas.{bytes_in_lines}}
@@ -27,10 +27,10 @@ use Rattle.fc_record.proofs.TextLineLemmas.{AreLines, AreLines-append, AreLines-
 use Rattle.fc_record.proofs.TextLineLemmas.{AreLines-line, ends-after, ends-line_feed, lines_after}
 use Rattle.fc_record.specs.Grammar.{Accepted, after_header, AreLists, begins_with, board_part}
 use Rattle.fc_record.specs.Grammar.{Contents, Heading, IsList, list_lines, list_mark, lists_start}
-use Rattle.fc_record.specs.Grammar.{next_list, no_lines, Reading, reading_of, variant_word}
-use Rattle.fc_record.specs.{Grammar.{with_header, without_header}, Printing.{after_blank}}
-use Rattle.fc_record.specs.Printing.{header_text, heading_line, list_line, marks_of, name_of}
-use Rattle.fc_record.specs.{Printing.{printed, show_lines}, RecordTexts.{header_mark, RecordText}}
+use Rattle.fc_record.specs.Grammar.{next_list, no_lines, Reading, reading_of, with_header}
+use Rattle.fc_record.specs.{Grammar.{without_header}, Printing.{after_blank, header_text}}
+use Rattle.fc_record.specs.Printing.{heading_line, list_line, marks_of, name_of, printed}
+use Rattle.fc_record.specs.{Printing.{show_lines}, RecordTexts.{header_mark, RecordText}}
 use Rattle.fc_collect.proofs.ShareLemmas.{few_cells}
 use Rattle.fc_collect.specs.{Groups.{Member, members_among, name_of_member}, inside.{member_of}}
 use Rattle.fc_collect.specs.Limits.{most_countable}

@@ -11,8 +11,8 @@ use Rattle.std.{proofs.lemmas.Slice.Eq.{bytes_eq-Decides}, specs.Fmt.{decimal}}
 use Rattle.std.specs.List.{flat_map, join_with_byte, list_all, slice_split, zip}
 use Rattle.fc_card.specs.{suit_letters}
 use Rattle.fc_board.{proofs.CarriedLemmas.{carried-IsWellFormed}, specs.Boards.{Board}}
-use Rattle.fc_board.specs.{Games.{Game, game_of}, Moves.{MoveList}, Passages.{carried}}
-use Rattle.fc_board.specs.Play.{list_verdict, Wins}
+use Rattle.fc_board.specs.{Games.{Game, game_of, variant_word}, Moves.{MoveList}}
+use Rattle.fc_board.specs.{Passages.{carried}, Play.{list_verdict, Wins}}
 use Rattle.fc_board.specs.declared.rule.Variant.TheVariants.{BakersGame, EightOff, FreeCell}
 use Rattle.fc_board.specs.declared.rule.Variant.{Variant}
 use Rattle.fc_text.specs.Bytes.{dash, IsLess, line_feed, tab}
@@ -20,11 +20,10 @@ use Rattle.fc_text.specs.Notation.{cell_letters, column_digits}
 use Rattle.fc_record.proofs.HeadingLemmas.{bytes_of_name, decimal-high, heading_said, IsHeading}
 use Rattle.fc_record.proofs.HeadingLemmas.{IsInName, named, unnamed, without}
 use Rattle.fc_record.proofs.ObjectLemmas.{number_as_it_is}
-use Rattle.fc_record.specs.Grammar.{begins_with, Contents, Heading, variant_word}
-use Rattle.fc_record.specs.{Printing.{name_of}, RecordTexts.{header_mark}, Tables.{column_names}}
-use Rattle.fc_record.specs.Tables.{first_win, is_win, json_object, json_string, json_values}
-use Rattle.fc_record.specs.Tables.{number_or_null, side_by_side, table_fields, table_line}
-use Rattle.fc_record.specs.Tables.{table_object}
+use Rattle.fc_record.specs.{Grammar.{begins_with, Contents, Heading}, Printing.{name_of}}
+use Rattle.fc_record.specs.{RecordTexts.{header_mark}, Tables.{column_names, first_win, is_win}}
+use Rattle.fc_record.specs.Tables.{json_object, json_string, json_values, number_or_null}
+use Rattle.fc_record.specs.Tables.{side_by_side, table_fields, table_line, table_object}
 use Rattle.fc_collect.{proofs.KeyedLemmas.{chosen, text_is}, specs.Groups.{belong_together}}
 use Rattle.fc_collect.specs.Groups.{canonical_text, Member, members_among, passage_of}
 use Rattle.fc_collect.specs.{inside.{HasBoard}, Records.{records_of}}

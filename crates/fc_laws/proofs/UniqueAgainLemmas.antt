@@ -6,9 +6,8 @@ use Rattle.std.proofs.lemmas.Grind.{flat_map-append}
 use Rattle.std.proofs.lemmas.List.Elements.{All-cons, All-head, All-nil, All-tail}
 use Rattle.std.proofs.lemmas.List.{Folds.{list_any-append}, map-append}
 use Rattle.std.specs.{List.{flat_map, list_any}, Str.{bytes_eq}}
-use Rattle.fc_board.specs.declared.rule.Variant.{Variant}
+use Rattle.fc_board.specs.{declared.rule.Variant.{Variant}, Games.{variant_word}}
 use Rattle.fc_record.specs.Grammar.{Accepted, begins_with, Reading, reading_of, Refused}
-use Rattle.fc_record.specs.Grammar.{variant_word}
 use Rattle.fc_record.specs.Printing.{is_refused, printed, printed_by, refuses, show_lines}
 use Rattle.fc_record.specs.RecordTexts.{header_mark, RecordText}
 use Rattle.fc_collect.proofs.GroupLemmas.{Apart, has_one, leaders-Apart}

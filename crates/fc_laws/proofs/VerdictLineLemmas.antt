@@ -9,12 +9,12 @@ use Rattle.fc_board.proofs.MoveListLemmas.{list_refused-exactly, list_won-exactl
 use Rattle.fc_board.specs.{Boards.{Board}, Games.{Game}}
 use Rattle.fc_board.specs.{Moves.{ListFits, move_count, MoveList, OneCard, Runs}, Play.{Legal}}
 use Rattle.fc_board.specs.Play.{list_verdict, OnlyLegal, Plays, Refused, RefusedAt, Verdict, Wins}
-use Rattle.fc_board.specs.Play.{Won}
+use Rattle.fc_board.specs.{Play.{Won}, Steps.{step_reason}}
 use Rattle.fc_board.specs.declared.fault.StepFault.{StepFault}
 use Rattle.fc_board.specs.declared.fault.StepFault.TheVariants as step
 use Rattle.fc_text.specs.Bytes.{blank, line_feed}
 use Rattle.fc_record.proofs.HeadingLemmas.{decimal-high}
-use Rattle.fc_record.specs.Printing.{step_reason, verdict_line, verdict_words}
+use Rattle.fc_record.specs.Printing.{verdict_line, verdict_words}
 
 -- ---- verdicts on lists in either form
 

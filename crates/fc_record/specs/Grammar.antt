@@ -4,10 +4,9 @@ use Rattle.std.specs.{Option.{option_map, unwrap_or}, Prelude.{◌&&◌, ◌+◌
 use Rattle.std.specs.Prelude.{Bool, codes, drop, Err, false, if◌then◌else◌, length, List, nat_le}
 use Rattle.std.specs.Prelude.{None, Ok, Option, Result, Some, take, true, ℕ}
 use Rattle.std.specs.Str.{str_eq_ignore_ascii_case}
-use Rattle.fc_board.specs.{Boards.{Board}, Games.{Game, game_of}, Moves.{MoveList, OneCard, Runs}}
-use Rattle.fc_board.specs.declared.rule.Rule.{Ghosts}
-use Rattle.fc_board.specs.declared.rule.Variant.TheVariants.{BakersGame, EightOff, FreeCell}
-use Rattle.fc_board.specs.declared.rule.Variant.{Variant}
+use Rattle.fc_board.specs.{Boards.{Board}, Games.{Game, game_of, variant_word, variants}}
+use Rattle.fc_board.specs.Moves.{MoveList, OneCard, Runs}
+use Rattle.fc_board.specs.declared.rule.{Rule.{Ghosts}, Variant.{Variant}}
 use Rattle.fc_text.specs.{Bytes.{is_gap, line_feed}, Faults.{first_fault}}
 use Rattle.fc_text.specs.Lines.{lines_from, Piece, trim_carriage_return, words_from}
 use Rattle.fc_text.specs.Notation.{BadToken, IsRunToken, IsToken, Listed, ListFault, TooMany}
@@ -46,15 +45,9 @@ pub record Heading : Type 0 where
   pub has_header : Bool
   pub name : Option (List ℕ)
 
--- the word of a variant
-abbrev pub variant_word : Variant → List ℕ
-variant_word FreeCell = codes "freecell"
-variant_word BakersGame = codes "bakers_game"
-variant_word EightOff = codes "eight_off"
-
 -- the variant that a word names, in any case
 abbrev pub variant_named : List ℕ → Option Variant
-variant_named word = find (λ variant. str_eq_ignore_ascii_case word (variant_word variant)) (FreeCell ∷ BakersGame ∷ EightOff ∷ [])
+variant_named word = find (λ variant. str_eq_ignore_ascii_case word (variant_word variant)) variants
 
 -- a name has at most 64 bytes, each a printing one of ASCII
 abbrev pub is_name : List ℕ → Bool

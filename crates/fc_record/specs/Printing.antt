@@ -2,39 +2,23 @@
 use Rattle.std.specs.{Fmt.{decimal}, List.{flat_map}, Prelude.{◌++◌, ◌+◌, ◌∷◌, [], Bool, codes}}
 use Rattle.std.specs.Prelude.{false, if◌then◌else◌, length, List, map, nat_le, None, Option}
 use Rattle.std.specs.Prelude.{slice_index, Some, true, ℕ}
-use Rattle.fc_card.specs.{card_text, renaming_text}
-use Rattle.fc_board.specs.{Boards.{Board}, Games.{Game, game_of, renamings_of}}
+use Rattle.fc_card.specs.{renaming_text}
+use Rattle.fc_board.specs.{Boards.{Board}, Games.{Game, game_of, renamings_of, variant_word}}
 use Rattle.fc_board.specs.Moves.{list_image, move_count, MoveList, OneCard, Runs}
 use Rattle.fc_board.specs.{Passages.{Passage}, Play.{expansions, list_verdict, OnlyLegal}}
-use Rattle.fc_board.specs.Play.{Refused as ListRefused, Verdict, Won}
-use Rattle.fc_board.specs.declared.{fault.StepFault.{StepFault}, moves.Move.{Move}}
-use Rattle.fc_board.specs.declared.rule.Variant.{Variant}
-use Rattle.fc_text.specs.Bytes.{blank, line_feed, number_sign}
+use Rattle.fc_board.specs.{Play.{Refused as ListRefused, Verdict, Won}, Steps.{step_reason}}
+use Rattle.fc_board.specs.declared.{moves.Move.{Move}, rule.Variant.{Variant}}
+use Rattle.fc_text.specs.{Bytes.{blank, line_feed, number_sign}, Faults.{board_reason}}
 use Rattle.fc_text.specs.Notation.{cell_letters, column_digits, most_moves, print}
 use Rattle.fc_text.specs.Printed.{text_of}
-use Rattle.fc_text.specs.declared.fault.BoardFaultKind.{BoardFaultKind, TheVariants.{BadCard}}
-use Rattle.fc_text.specs.declared.fault.BoardFaultKind.TheVariants.{BadFoundation, MissingCard}
-use Rattle.fc_text.specs.declared.fault.BoardFaultKind.TheVariants.{RepeatedCard, RepeatedLine}
-use Rattle.fc_text.specs.declared.fault.BoardFaultKind.TheVariants.{TooManyCells, TooManyColumns}
 use Rattle.fc_canon.specs.{chosen_passage, least_text, symmetries_of}
 use Rattle.fc_record.specs.Grammar.{Accepted, Contents, Heading, list_mark, Reading, reading_of}
-use Rattle.fc_record.specs.{Grammar.{Refused, variant_word}, RecordTexts.{RecordText}}
+use Rattle.fc_record.specs.{Grammar.{Refused}, RecordTexts.{RecordText}}
 use Rattle.fc_record.specs.declared.record.RecordFault.{RecordFault}
 use Rattle.fc_record.specs.declared.record.RecordFaultKind.{RecordFaultKind}
-use Rattle.fc_board.specs.declared.fault.StepFault.TheVariants as step
 use Rattle.fc_record.specs.declared.record.RecordFaultKind.TheVariants as kind
 
--- -------- The reasons that are printed for refusing a record and a move, and for giving a run up, one for each kind of fault. From: this project's profile.
-
--- the words for a kind of fault; a missing card is named as it is printed
-abbrev pub board_reason : BoardFaultKind → List ℕ
-board_reason BadCard = codes "bad card"
-board_reason TooManyColumns = codes "too many columns"
-board_reason TooManyCells = codes "too many cells"
-board_reason BadFoundation = codes "bad foundation"
-board_reason RepeatedLine = codes "repeated line"
-board_reason RepeatedCard = codes "repeated card"
-board_reason (MissingCard card) = codes "missing card " ++ card_text card
+-- -------- The reasons that are printed for refusing a record, one for each kind of fault. From: this project's profile.
 
 -- the words for what is at fault in a record
 abbrev pub record_reason : RecordFaultKind → List ℕ
@@ -43,18 +27,6 @@ record_reason (kind.Board fault) = board_reason fault
 record_reason kind.BadToken = codes "bad token"
 record_reason kind.TooManyMoves = codes "too many moves"
 record_reason kind.StrayLine = codes "stray line"
-
--- the words for why a move is refused
-abbrev pub step_reason : StepFault → List ℕ
-step_reason step.SamePile = codes "same pile"
-step_reason step.EmptySource = codes "empty source"
-step_reason step.TargetTaken = codes "target taken"
-step_reason step.KingsOnly = codes "kings only"
-step_reason step.NotBuilding = codes "not building"
-step_reason step.NotNext = codes "not next"
-step_reason step.NoRun = codes "no run"
-step_reason step.OverCapacity = codes "over capacity"
-step_reason step.WrongCount = codes "wrong count"
 
 -- -------- What is printed for a record, line by line: by `show`, `canon`, `check` and `expand` where it is accepted, and by every command where it is refused. From: this project's profile; boards are in Freecell Solver's board text, and moves in standard notation.
 

@@ -3,12 +3,12 @@ use Rattle.std.specs.{Fmt.{decimal}, List.{flat_map, join_with_byte, zip}, Prelu
 use Rattle.std.specs.Prelude.{◌==◌, ◌||◌, ◌∷◌, [], Bool, codes, drop, false, if◌then◌else◌, length}
 use Rattle.std.specs.{Prelude.{List, map, Option, slice_index, take, true, ℕ}, Str.{bytes_eq}}
 use Rattle.{fc_canon.specs.{chosen_passage, least_text}, fc_card.specs.{renaming_text}}
-use Rattle.fc_board.specs.{Boards.{Board}, Games.{Game, game_of, renamings_of}, Moves.{MoveList}}
-use Rattle.fc_board.specs.Play.{list_verdict, Verdict, Won}
+use Rattle.fc_board.specs.{Boards.{Board}, Games.{Game, game_of, renamings_of, variant_word}}
+use Rattle.fc_board.specs.{Moves.{MoveList}, Play.{list_verdict, Verdict, Won}}
 use Rattle.fc_text.specs.Bytes.{blank, dash, line_feed, tab}
 use Rattle.fc_text.specs.Notation.{cell_letters, column_digits}
-use Rattle.fc_record.specs.Grammar.{Contents, Heading, variant_word}
-use Rattle.fc_record.specs.{Printing.{name_of, record_reason}, RecordTexts.{RecordText}}
+use Rattle.fc_record.specs.{Grammar.{Contents, Heading}, Printing.{name_of, record_reason}}
+use Rattle.fc_record.specs.RecordTexts.{RecordText}
 use Rattle.fc_record.specs.declared.record.RecordFault.{RecordFault}
 
 -- -------- JSON texts of one line. From: RFC 8259.

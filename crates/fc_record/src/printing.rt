@@ -25,7 +25,7 @@ mod verdict;
 
 use heading::push_heading;
 pub(crate) use heading::{BAKERS_GAME_FRONT, EIGHT_OFF_FRONT, FREECELL_FRONT};
-pub use heading::{push_header, push_name, push_number, variant_word};
+pub use heading::{push_header, push_name, push_number};
 pub use lists::push_list;
 use lists::{push_expanded_lines, push_lists};
 use object::{push_board_members, push_list_members, push_passage_members};

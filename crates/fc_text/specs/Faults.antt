@@ -1,10 +1,10 @@
 -- The first fault of a text that spells no board, item by item in the order of the bytes.
 use Rattle.std.specs.List.{find, flat_map, list_any, range_with_len}
 use Rattle.std.specs.{Option.{is_some, option_map, option_or, option_to_list}, Prelude.{◌&&◌, ◌++◌}}
-use Rattle.std.specs.Prelude.{◌==◌, ◌∷◌, [], Bool, count_by, false, if◌then◌else◌, length, List}
-use Rattle.std.specs.Prelude.{map, nat_le, None, not, Option, Some, ℕ}
-use Rattle.{fc_board.specs.Games.{Game}, fc_card.specs.{card_of}}
-use Rattle.fc_text.specs.Rows.{Row, rows_of}
+use Rattle.std.specs.Prelude.{◌==◌, ◌∷◌, [], Bool, codes, count_by, false, if◌then◌else◌, length}
+use Rattle.std.specs.Prelude.{List, map, nat_le, None, not, Option, Some, ℕ}
+use Rattle.{fc_board.specs.Games.{Game}, fc_card.specs.{card_of, card_text}}
+use Rattle.fc_text.specs.{Bytes.{blank}, Rows.{Row, rows_of}}
 use Rattle.fc_text.specs.Spelling.{card_spelled, cell_spelled, foundation_spelled, is_section}
 use Rattle.fc_text.specs.declared.{
   board.reader.Section.{Section, TheVariants.{Column, Foundations, Freecells}},
@@ -13,6 +13,23 @@ use Rattle.fc_text.specs.declared.{
   fault.BoardFaultKind.TheVariants.{BadFoundation, MissingCard, RepeatedCard, RepeatedLine},
   fault.BoardFaultKind.TheVariants.{TooManyCells, TooManyColumns},
 }
+
+-- -------- The kinds of fault in words. From: this project's profile.
+
+-- the words for a kind of fault
+abbrev pub fault_words : BoardFaultKind → List ℕ
+fault_words RepeatedLine = codes "repeated line"
+fault_words TooManyColumns = codes "too many columns"
+fault_words TooManyCells = codes "too many cells"
+fault_words BadCard = codes "bad card"
+fault_words BadFoundation = codes "bad foundation"
+fault_words RepeatedCard = codes "repeated card"
+fault_words (MissingCard card) = codes "missing card"
+
+-- and after them the card that is missing, as it is printed
+abbrev pub board_reason : BoardFaultKind → List ℕ
+board_reason (MissingCard card) = fault_words (MissingCard card) ++ blank ∷ card_text card
+board_reason fault = fault_words fault
 
 -- -------- The first fault of a text that spells no board, item by item in the order of the bytes. From: Freecell Solver's board text and this project's profile.
 

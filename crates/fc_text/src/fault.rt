@@ -21,6 +21,26 @@ pub enum BoardFaultKind {
     MissingCard(Card),
 }
 
+impl BoardFaultKind {
+    ghost use Rattle.std.specs.Prelude.{◌≡◌};
+    ghost use Rattle.fc_text.specs.Faults.{fault_words};
+
+    /// The kind of fault in words, without the card that is missing.
+    pub fn words(&self) -> &'static str
+        ensures { result.now ≡ fault_words self.now }
+    {
+        match self {
+            BoardFaultKind::RepeatedLine => "repeated line",
+            BoardFaultKind::TooManyColumns => "too many columns",
+            BoardFaultKind::TooManyCells => "too many cells",
+            BoardFaultKind::BadCard => "bad card",
+            BoardFaultKind::BadFoundation => "bad foundation",
+            BoardFaultKind::RepeatedCard => "repeated card",
+            BoardFaultKind::MissingCard(_) => "missing card",
+        }
+    }
+}
+
 /// The first fault of a text, and the offset in bytes of the name, line or word at fault; of a
 /// missing card it is the length of the text.
 #[derive(Clone, Copy, PartialEq, Eq, Debug)]

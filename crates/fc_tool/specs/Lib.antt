@@ -9,11 +9,11 @@ use Rattle.std.specs.{List.{find, fold}, Prelude.{◌++◌, ◌==◌, ◌∷◌,
 use Rattle.std.specs.Prelude.{Err, false, IfSome, if◌then◌else◌, is_ok, List, map, None, Ok, Option}
 use Rattle.std.specs.Prelude.{option_and_then, option_map, pos, Result, Some, true, ℕ}
 use Rattle.std.specs.Str.{bytes_eq, Parse.{digits_value, without_leading_sign}}
-use Rattle.{fc_board.specs.Games.{Game, game_of}, fc_deal.specs.{deal, dealt_board, IsDealNumber}}
+use Rattle.fc_board.specs.Games.{Game, game_of, variant_word, variants}
 use Rattle.fc_board.specs.declared.rule.Variant.TheVariants.{BakersGame, EightOff, FreeCell}
 use Rattle.fc_board.specs.declared.rule.Variant.{Variant}
 use Rattle.fc_text.specs.{Bytes.{line_feed}, Printed.{text_of}}
-use Rattle.{fc_import.specs.Import.{ImportFits}, fc_record.specs.Grammar.{variant_word}}
+use Rattle.{fc_deal.specs.{deal, dealt_board, IsDealNumber}, fc_import.specs.Import.{ImportFits}}
 use Rattle.fc_collect.specs.Limits.{AreCountable, fault_words, largest, most_countable, standard}
 use Rattle.fc_collect.specs.Promises.{Transfers, WritesAsCounted, WritesText}
 use Rattle.fc_collect.specs.{Runs.{count_format, RunsWithin, TransfersWithin}, Streams.{inner_of}}
@@ -41,11 +41,11 @@ use Rattle.fc_collect.specs.declared.streams.faults.RunFault.TheVariants as run
 
 -- how the command line writes the three games
 abbrev pub variant_names : List Text
-variant_names = codes "freecell" ∷ codes "bakers_game" ∷ codes "eight_off" ∷ []
+variant_names = map variant_word variants
 
 -- and those of them that are dealt by number
 abbrev pub dealt_names : List Text
-dealt_names = codes "freecell" ∷ codes "bakers_game" ∷ []
+dealt_names = map variant_word (FreeCell ∷ BakersGame ∷ [])
 
 -- the parser of a value takes these names and no other text
 abbrev pub TakesAlone : List Text → ValueParser → Type 0
@@ -55,7 +55,7 @@ TakesAlone names other = ⊥
 -- the option `--variant`, which is freecell where it is not given
 abbrev pub variant_option : ValueParser → Rule
 variant_option choices =
-    record (new_rule (codes "variant")) { long = Some (codes "variant"); value_names = 1; parser = Some choices; defaults = codes "freecell" ∷ [] }
+    record (new_rule (codes "variant")) { long = Some (codes "variant"); value_names = 1; parser = Some choices; defaults = variant_word FreeCell ∷ [] }
 
 -- an option of this name that takes no value
 abbrev pub flag_option : Text → Text → Rule
@@ -166,7 +166,7 @@ task_named name = find (λ task. bytes_eq name (command_of task)) tasks
 
 -- the variant that a value of `--variant` names
 abbrev pub variant_of_argument : Text → Option Variant
-variant_of_argument name = find (λ variant. bytes_eq name (variant_word variant)) (FreeCell ∷ BakersGame ∷ EightOff ∷ [])
+variant_of_argument name = find (λ variant. bytes_eq name (variant_word variant)) variants
 
 -- the variant that the rows of a command's own arguments give
 abbrev pub variant_in : List Row → Option Variant

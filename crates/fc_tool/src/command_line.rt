@@ -11,6 +11,7 @@ use crate::request::{Request, TASKS, Task, WordsFault};
 use clap::builder::ValueParser;
 use clap::error::ErrorKind;
 use clap::{Arg, ArgAction, Command};
+use fc_board::{VARIANT_WORDS, Variant};
 use fc_collect::MOST_COUNTABLE;
 use std::alloc::{AllocError, Global};
 
@@ -23,20 +24,14 @@ use help::{
 };
 use matches::request_of;
 
-/// How the command line writes the three games.
-static VARIANTS: [&str; 3] = ["freecell", "bakers_game", "eight_off"];
-
-/// The games that are dealt by number.
-static DEALT: [&str; 2] = ["freecell", "bakers_game"];
-
 /// Reads what the words ask for; the first is the program's name.
 ///
 /// `None` stands for a value outside the program's tables, which no parse gives.
 pub fn read_words(alloc: Global, words: &[String]) -> Result<Option<Request>, WordsFault>
     ensures { Reads (map string_bytes words.now) result }
 {
-    let choices = ValueParser::from(VARIANTS.as_slice());
-    let dealt = ValueParser::from(DEALT.as_slice());
+    let choices = ValueParser::from(VARIANT_WORDS.as_slice());
+    let dealt = ValueParser::from(&VARIANT_WORDS[..2]);
     let Ok(program) = program(alloc, choices, dealt) else {
         return Err(WordsFault::Memory);
     };
@@ -114,7 +109,7 @@ fn variant_option<'a>(alloc: Global, choices: ValueParser<'a>, help: &'a str) ->
         .long("variant")
         .value_name("VARIANT")
         .value_parser(choices)
-        .default_value("freecell")
+        .default_value(Variant::FreeCell.word())
         .hide_default_value(true)
         .hide_possible_values(true)
         .help(help)

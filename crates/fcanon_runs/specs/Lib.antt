@@ -1,9 +1,7 @@
 -- The numbers by which C knows games, tasks and formats, and what a run over memory hands over.
 use Rattle.std.specs.Prelude.{◌++◌, ◌<◌, ◌==◌, ◌∷◌, ◌≡◌, ◌≤◌, ◌⊎◌, [], drop, if◌then◌else◌, length}
 use Rattle.std.specs.Prelude.{List, slice_index_or, ℕ}
-use Rattle.fc_board.specs.declared.rule.Variant.TheVariants.{BakersGame, EightOff, FreeCell}
-use Rattle.fc_board.specs.declared.rule.Variant.{Variant}
-use Rattle.{fc_import.specs.Import.{Makes}, fc_record.specs.Printing.{is_refused}}
+use Rattle.{fc_board.specs.declared.rule.Variant.{Variant}, fc_record.specs.Printing.{is_refused}}
 use Rattle.fc_collect.specs.Limits.{largest, most_bytes, standard}
 use Rattle.fc_collect.specs.Promises.{Begins, CountsRecords, IsWithinLimits}
 use Rattle.fc_collect.specs.Records.{records_from}
@@ -15,15 +13,11 @@ use Rattle.fc_collect.specs.declared.{
   streams.faults.RunFault.{RunFault, TheVariants.{Memory, Read, ReaderNeverEnds, TooLarge, Write}},
   streams.{faults.Summary.{Summary}, limits.Limits.{Limits}},
 }
+use Rattle.{fc_import.specs.Import.{Makes}, fcanon_runs.specs.declared.output.Written.{Written}}
 use Rattle.fc_import.specs.declared.{changes.Noted.TheVariants.{Doubts}, layout.LinesAre.{LinesAre}}
 use Rattle.fc_import.specs.declared.layout.LinesAre.TheVariants.{Columns, Rows, Unsaid}
-use Rattle.fcanon_runs.specs.declared.output.Written.{Written}
 
 -- ======== The numbers by which C knows games, tasks, formats and faults. From: this project's profile.
-
--- 0 is FreeCell, 1 Baker's Game and 2 Eight Off
-abbrev pub variant_at : ℕ → Variant
-variant_at number = slice_index_or (FreeCell ∷ BakersGame ∷ EightOff ∷ []) number EightOff
 
 -- 0 is lines, 1 a table with a header, and 2 JSON
 abbrev pub format_at : ℕ → Format

@@ -1,9 +1,10 @@
 //! An import of a text in memory.
 ghost use Rattle.std.specs.Prelude.{◌<◌, ◌≡◌, ◌≢◌, ◌≤◌, ◌⊎◌, IfErr, IfOk, length};
+ghost use Rattle.fc_board.specs.Games.{variant_at};
 ghost use Rattle.fcanon_runs.specs.{fault_answer, HandsOverImport, ImportFaultOf, ImportOf};
-ghost use Rattle.fcanon_runs.specs.{NeedsRoomForImport, variant_at};
+ghost use Rattle.fcanon_runs.specs.{NeedsRoomForImport};
 
-use crate::numbers::{DONE, NO_GAME, NO_ROOM, answer_to, game_of, lines_of};
+use crate::numbers::{DONE, NO_GAME, NO_ROOM, answer_to, lines_of};
 use crate::output::{Written, put_front};
 use fc_collect::{Counted, RunFault, Summary, Variant};
 use fc_import::{LinesAre, Noted, run_import};
@@ -35,7 +36,7 @@ pub extern "C" fn fcanon_import(
     ensures no_counts { 0 < result → result ≢ 9
         → (written.new ≡ written.old) × (noted.new ≡ noted.old) }
 {
-    let Some(variant) = game_of(game) else {
+    let Some(variant) = Variant::numbered(game) else {
         return NO_GAME;
     };
     let imported = match import_over(alloc, variant, lines_of(lines), input) {

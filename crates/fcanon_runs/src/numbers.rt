@@ -1,8 +1,8 @@
 //! The numbers by which C knows games, tasks and formats, and those that calls answer.
 ghost use Rattle.std.specs.Prelude.{◌<◌, ◌≡◌, ◌≤◌, IfSome, None};
-ghost use Rattle.fcanon_runs.specs.{fault_answer, format_at, kind_at, lines_at, variant_at};
+ghost use Rattle.fcanon_runs.specs.{fault_answer, format_at, kind_at, lines_at};
 
-use fc_collect::{CountFormat, Format, RunFault, RunKind, Variant};
+use fc_collect::{CountFormat, Format, RunFault, RunKind};
 use fc_import::LinesAre;
 
 /// The call did what it says.
@@ -21,19 +21,6 @@ const NO_MEMORY: u32 = 12;
 const TOO_LARGE: u32 = 13;
 /// The input was not read to its end. No input is known that does this.
 const NOT_READ: u32 = 14;
-
-/// The game of this number.
-pub(crate) fn game_of(number: u32) -> Option<Variant>
-    ensures some { IfSome result (λ variant. (number < 3) × (variant ≡ variant_at number)) }
-    ensures none { result ≡ None → 3 ≤ number }
-{
-    match number {
-        0 => Some(Variant::FreeCell),
-        1 => Some(Variant::BakersGame),
-        2 => Some(Variant::EightOff),
-        _ => None,
-    }
-}
 
 /// The kind of run of a task and a format by their numbers. Each task takes each format, also where
 /// it has one alone.

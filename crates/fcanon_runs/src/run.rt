@@ -1,10 +1,10 @@
 //! A run of a command over a collection in memory.
 ghost use Rattle.std.specs.Prelude.{◌<◌, ◌≡◌, ◌≢◌, ◌≤◌, ◌⊎◌, IfErr, IfOk, length};
-ghost use Rattle.fc_collect.specs.Limits.{AreCountable};
+ghost use Rattle.{fc_board.specs.Games.{variant_at}, fc_collect.specs.Limits.{AreCountable}};
 ghost use Rattle.fcanon_runs.specs.{fault_answer, FaultOf, HandsOver, kind_at, limits_at};
-ghost use Rattle.fcanon_runs.specs.{NeedsRoom, OutputOf, variant_at};
+ghost use Rattle.fcanon_runs.specs.{NeedsRoom, OutputOf};
 
-use crate::numbers::{NO_FORMAT, NO_GAME, NO_TASK, answer_to, game_of, kind_of};
+use crate::numbers::{NO_FORMAT, NO_GAME, NO_TASK, answer_to, kind_of};
 use crate::output::{Written, hand_over};
 use fc_collect::{Counted, Limits, RunFault, RunKind, Seed, Summary, Variant, run_within};
 use std::alloc::Global;
@@ -54,7 +54,7 @@ pub extern "C" fn fcanon_run(
     ensures kept { 0 < result → output.new ≡ output.old }
     ensures no_counts { 0 < result → result ≢ 9 → written.new ≡ written.old }
 {
-    let Some(variant) = game_of(request.game) else {
+    let Some(variant) = Variant::numbered(request.game) else {
         return NO_GAME;
     };
     if request.task > 10 {

@@ -47,15 +47,5 @@ pub(crate) fn reason_number(fault: StepFault) -> u32
     ensures number { reason_of result ≡ Some fault }
     ensures from_32 { 32 ≤ result }
 {
-    match fault {
-        StepFault::SamePile => 32,
-        StepFault::EmptySource => 33,
-        StepFault::TargetTaken => 34,
-        StepFault::KingsOnly => 35,
-        StepFault::NotBuilding => 36,
-        StepFault::NotNext => 37,
-        StepFault::NoRun => 38,
-        StepFault::OverCapacity => 39,
-        StepFault::WrongCount => 40,
-    }
+    32 + fault.number()
 }

@@ -4,11 +4,12 @@ ghost use Rattle.std.specs.Prelude.{◌≡◌, ◌≤◌, [], codes, length, Lis
 ghost use Rattle.fc_board.specs.{Boards.{Board}, Games.{game_of}};
 ghost use Rattle.fc_board.specs.Moves.{move_count, MoveList, OneCard};
 ghost use Rattle.fc_board.specs.Play.{Legal, list_verdict, Plays, RefusedAt, Wins};
+ghost use Rattle.fc_board.specs.Steps.{step_reason};
 ghost use Rattle.fc_board.specs.declared.{fault.StepFault.{StepFault}, rule.Variant.{Variant}};
 ghost use Rattle.fc_text.specs.Bytes.{blank, line_feed, number_sign};
 ghost use Rattle.fc_record.specs.{Grammar.{begins_with, Heading}, Printing.{check_lines}};
 ghost use Rattle.fc_record.specs.Printing.{expand_lines, expanded_line, list_line, name_of};
-ghost use Rattle.fc_record.specs.Printing.{one_card_moves, step_reason, verdict_line};
+ghost use Rattle.fc_record.specs.Printing.{one_card_moves, verdict_line};
 ghost use Rattle.fc_collect.specs.{Groups.{Member, members_among}, Records.{records_of}};
 
 /// The line of `check` for a list of an accepted record says that it wins exactly if it does, that

@@ -1,8 +1,8 @@
 //! Numbers, the names of records and their headers, as they are printed.
 ghost use Rattle.std.specs.{Fmt.{decimal}, Option.{option_map}};
 ghost use Rattle.std.specs.Prelude.{◌++◌, ◌∷◌, ◌≡◌, ◌≤◌, [], codes, length, OnOk};
-ghost use Rattle.fc_text.specs.Bytes.{blank};
-ghost use Rattle.fc_record.specs.Grammar.{heading_seen, variant_word};
+ghost use Rattle.{fc_board.specs.Games.{variant_word}, fc_text.specs.Bytes.{blank}};
+ghost use Rattle.fc_record.specs.Grammar.{heading_seen};
 ghost use Rattle.fc_record.specs.Printing.{header_text, heading_line, name_of};
 
 use crate::record::Heading;
@@ -93,16 +93,5 @@ fn push_front(variant: Variant, out: &mut Vec<u8>) -> Result<(), AllocError>
         Variant::FreeCell => out.extend_from_slice(&FREECELL_FRONT),
         Variant::BakersGame => out.extend_from_slice(&BAKERS_GAME_FRONT),
         Variant::EightOff => out.extend_from_slice(&EIGHT_OFF_FRONT),
-    }
-}
-
-/// The word of the game in a header: `freecell`, `bakers_game` or `eight_off`.
-pub fn variant_word(variant: Variant) -> &'static [u8]
-    ensures { result.now ≡ variant_word variant }
-{
-    match variant {
-        Variant::FreeCell => b"freecell",
-        Variant::BakersGame => b"bakers_game",
-        Variant::EightOff => b"eight_off",
     }
 }

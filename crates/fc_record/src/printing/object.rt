@@ -1,13 +1,12 @@
 //! The members of a table's object. Of its strings only a name may have a byte that is escaped.
 ghost use Rattle.std.specs.{Fmt.{decimal}, Option.{option_map}, Prelude.{◌++◌, ◌==◌, ◌||◌, ◌∷◌}};
 ghost use Rattle.std.specs.Prelude.{◌≡◌, [], codes, if◌then◌else◌, length, map, OnOk, slice_index};
-ghost use Rattle.fc_card.specs.{renaming_text};
+ghost use Rattle.{fc_board.specs.Games.{variant_word}, fc_card.specs.{renaming_text}};
 ghost use Rattle.fc_text.specs.Notation.{cell_letters, column_digits};
-ghost use Rattle.fc_record.specs.{Grammar.{variant_word}, inside.Fitting.{AllFit}};
-ghost use Rattle.fc_record.specs.Printing.{name_of};
+ghost use Rattle.fc_record.specs.{inside.Fitting.{AllFit}, Printing.{name_of}};
 ghost use Rattle.fc_record.specs.Tables.{first_win, json_string, number_or_null, side_by_side};
 
-use super::heading::{push_number, variant_word};
+use super::heading::push_number;
 use super::passage::{push_places, push_renaming};
 use super::table::{number_of_first_win, push_side_by_side};
 use crate::record::MoveList;
@@ -32,7 +31,7 @@ pub(super) fn push_board_members(
     out.extend_from_slice(b"{\"name\":")?;
     push_name_string(number, name, out)?;
     out.extend_from_slice(b",\"variant\":\"")?;
-    out.extend_from_slice(variant_word(variant))?;
+    out.extend_from_slice(variant.word().as_bytes())?;
     out.extend_from_slice(b"\",\"board\":\"")?;
     push_side_by_side(canonical, out)?;
     Ok(())

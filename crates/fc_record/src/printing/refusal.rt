@@ -1,8 +1,9 @@
 //! What is printed for a record that is refused, and the reasons for refusing a record and a move.
 ghost use Rattle.std.specs.Option.{option_map};
-ghost use Rattle.std.specs.Prelude.{◌++◌, ◌+◌, ◌^◌, ◌≡◌, ◌≤◌, [], List, OnOk, Option, ℕ};
-ghost use Rattle.fc_card.specs.{card_text};
-ghost use Rattle.fc_record.specs.Printing.{board_reason, record_reason, refusal_line, step_reason};
+ghost use Rattle.std.specs.Prelude.{◌++◌, ◌+◌, ◌^◌, ◌∷◌, ◌≡◌, ◌≤◌, [], List, OnOk, Option, ℕ};
+ghost use Rattle.{fc_board.specs.Steps.{step_reason}, fc_card.specs.{card_text}};
+ghost use Rattle.fc_text.specs.{Bytes.{blank}, Faults.{board_reason}};
+ghost use Rattle.fc_record.specs.Printing.{record_reason, refusal_line};
 ghost use Rattle.fc_record.specs.{RecordTexts.{RecordText as SaidText}, Tables.{refusal_object}};
 ghost use Rattle.fc_record.specs.declared.record.RecordFault.{RecordFault as FaultValue};
 
@@ -132,39 +133,24 @@ pub(crate) fn push_reason(kind: RecordFaultKind, out: &mut Vec<u8>) -> Result<()
 fn push_board_reason(kind: BoardFaultKind, out: &mut Vec<u8>) -> Result<(), AllocError>
     ensures printed { OnOk result (out.new.items ≡ out.old.items ++ board_reason kind) }
 {
-    match kind {
-        BoardFaultKind::BadCard => out.extend_from_slice(b"bad card"),
-        BoardFaultKind::TooManyColumns => out.extend_from_slice(b"too many columns"),
-        BoardFaultKind::TooManyCells => out.extend_from_slice(b"too many cells"),
-        BoardFaultKind::BadFoundation => out.extend_from_slice(b"bad foundation"),
-        BoardFaultKind::RepeatedLine => out.extend_from_slice(b"repeated line"),
-        BoardFaultKind::RepeatedCard => out.extend_from_slice(b"repeated card"),
-        BoardFaultKind::MissingCard(card) => {
-            out.extend_from_slice(b"missing card ")?;
-            push_card(card, out)
-        }
+    out.extend_from_slice(kind.words().as_bytes())?;
+    if let BoardFaultKind::MissingCard(card) = kind {
+        push_missing(card, out)
+    } else {
+        Ok(())
     }
 }
 
-fn push_card(card: Card, out: &mut Vec<u8>) -> Result<(), AllocError>
-    ensures printed { OnOk result (out.new.items ≡ out.old.items ++ card_text card) }
+// Prints which card is missing, after a blank.
+fn push_missing(card: Card, out: &mut Vec<u8>) -> Result<(), AllocError>
+    ensures printed { OnOk result (out.new.items ≡ out.old.items ++ blank ∷ card_text card) }
 {
-    out.extend_from_slice(&[card.rank().letter(), card.suit().letter()])
+    out.extend_from_slice(&[b' ', card.rank().letter(), card.suit().letter()])
 }
 
 /// Prints the words for why a move is refused.
 pub(crate) fn push_step_reason(fault: StepFault, out: &mut Vec<u8>) -> Result<(), AllocError>
     ensures printed { OnOk result (out.new.items ≡ out.old.items ++ step_reason fault) }
 {
-    match fault {
-        StepFault::SamePile => out.extend_from_slice(b"same pile"),
-        StepFault::EmptySource => out.extend_from_slice(b"empty source"),
-        StepFault::TargetTaken => out.extend_from_slice(b"target taken"),
-        StepFault::KingsOnly => out.extend_from_slice(b"kings only"),
-        StepFault::NotBuilding => out.extend_from_slice(b"not building"),
-        StepFault::NotNext => out.extend_from_slice(b"not next"),
-        StepFault::NoRun => out.extend_from_slice(b"no run"),
-        StepFault::OverCapacity => out.extend_from_slice(b"over capacity"),
-        StepFault::WrongCount => out.extend_from_slice(b"wrong count"),
-    }
+    out.extend_from_slice(fault.words().as_bytes())
 }

@@ -1,12 +1,12 @@
 //! The fields of a table's line.
 ghost use Rattle.std.specs.{Fmt.{decimal}, Option.{option_map}, Prelude.{◌++◌, ◌∷◌, ◌≡◌, []}};
 ghost use Rattle.std.specs.Prelude.{IfNone, IfSome, length, map, OnOk, slice_index};
-ghost use Rattle.fc_card.specs.{renaming_text};
+ghost use Rattle.{fc_board.specs.Games.{variant_word}, fc_card.specs.{renaming_text}};
 ghost use Rattle.fc_text.specs.{Bytes.{dash, tab}, Notation.{cell_letters, column_digits}};
-ghost use Rattle.fc_record.specs.{Grammar.{variant_word}, inside.Fitting.{AllFit}};
-ghost use Rattle.fc_record.specs.{Printing.{name_of}, Tables.{first_win, side_by_side}};
+ghost use Rattle.fc_record.specs.{inside.Fitting.{AllFit}, Printing.{name_of}};
+ghost use Rattle.fc_record.specs.Tables.{first_win, side_by_side};
 
-use super::heading::{push_name, push_number, variant_word};
+use super::heading::{push_name, push_number};
 use super::passage::{push_places, push_renaming};
 use crate::record::MoveList;
 use fc_board::{Board, Rule, Variant};
@@ -30,7 +30,7 @@ pub(super) fn push_board_fields(
 {
     push_name(number, name, out)?;
     out.push(b'\t')?;
-    out.extend_from_slice(variant_word(variant))?;
+    out.extend_from_slice(variant.word().as_bytes())?;
     out.push(b'\t')?;
     push_side_by_side(canonical, out)?;
     out.push(b'\t')?;

@@ -2,13 +2,14 @@
 ghost use Rattle.std.specs.{List.{list_all, position_or_len}, Option.{option_map}, Prelude.{◌&&◌}};
 ghost use Rattle.std.specs.Prelude.{◌++◌, ◌+◌, ◌∷◌, ◌≡◌, ◌≤◌, codes, drop, Err, IfErr, IfOk};
 ghost use Rattle.std.specs.Prelude.{IfSome, length, nat_le, Ok};
+ghost use Rattle.fc_board.specs.Games.{variant_word};
 ghost use Rattle.fc_text.specs.{Bytes.{blank, is_gap}, Lines.{words_from}};
 ghost use Rattle.fc_record.specs.Grammar.{after_header, fault_at, heading_of, heading_of_words};
 ghost use Rattle.fc_record.specs.Grammar.{heading_seen, is_line_feed, is_name, variant_named};
-ghost use Rattle.fc_record.specs.Grammar.{variant_word, with_header};
+ghost use Rattle.fc_record.specs.Grammar.{with_header};
 ghost use Rattle.fc_record.specs.declared.record.RecordFaultKind.TheVariants.{BadHeader};
 
-use crate::printing::{BAKERS_GAME_FRONT, EIGHT_OFF_FRONT, FREECELL_FRONT, variant_word};
+use crate::printing::{BAKERS_GAME_FRONT, EIGHT_OFF_FRONT, FREECELL_FRONT};
 use crate::record::{Heading, RecordFault, RecordFaultKind};
 use fc_board::Variant;
 use fc_text::{next_word, strip_prefix, trim_carriage_return};
@@ -156,11 +157,11 @@ fn bad_header(place: usize) -> RecordFault
 fn variant_named(word: &[u8]) -> Option<Variant>
     ensures { result ≡ variant_named word.now }
 {
-    if word.eq_ignore_ascii_case(variant_word(Variant::FreeCell)) {
+    if word.eq_ignore_ascii_case(Variant::FreeCell.word().as_bytes()) {
         Some(Variant::FreeCell)
-    } else if word.eq_ignore_ascii_case(variant_word(Variant::BakersGame)) {
+    } else if word.eq_ignore_ascii_case(Variant::BakersGame.word().as_bytes()) {
         Some(Variant::BakersGame)
-    } else if word.eq_ignore_ascii_case(variant_word(Variant::EightOff)) {
+    } else if word.eq_ignore_ascii_case(Variant::EightOff.word().as_bytes()) {
         Some(Variant::EightOff)
     } else {
         None

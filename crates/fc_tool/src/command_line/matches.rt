@@ -3,7 +3,7 @@ ghost use Rattle.clap.specs.Words.{first_of, found_of, rows_of, subcommand_rows_
 ghost use Rattle.std.specs.{Option.{option_map}, Prelude.{◌<◌, ◌^◌, ◌≡◌, ◌≤◌, option_and_then}};
 ghost use Rattle.fc_tool.specs.{any_size_in, format_in, is_true, limits_in, limits_named, lines_in};
 ghost use Rattle.fc_tool.specs.{noted_in, number_between, number_in, request_of, start_named};
-ghost use Rattle.fc_tool.specs.{variant_in, variant_of_argument};
+ghost use Rattle.fc_tool.specs.{variant_in};
 
 use crate::request::{Options, Request, Task};
 use clap::ArgMatches;
@@ -84,7 +84,7 @@ fn noted_in(own: &ArgMatches<'_>) -> Noted
 fn variant_in(own: &ArgMatches<'_>) -> Option<Variant>
     ensures { result ≡ variant_in (rows_of (found_of own.now)) }
 {
-    variant_of_argument(own.get_str("variant")?)
+    Variant::named(own.get_str("variant")?)
 }
 
 fn any_size_in(own: &ArgMatches<'_>) -> bool
@@ -174,15 +174,4 @@ fn number_between(text: &str, least: u64, most: u64) -> Option<u64>
         return None;
     }
     Some(number)
-}
-
-fn variant_of_argument(name: &str) -> Option<Variant>
-    ensures { result ≡ variant_of_argument name.now }
-{
-    match name {
-        "freecell" => Some(Variant::FreeCell),
-        "bakers_game" => Some(Variant::BakersGame),
-        "eight_off" => Some(Variant::EightOff),
-        _ => None,
-    }
 }
