@@ -11,9 +11,9 @@ use Rattle.fc_record.specs.{Printing.{list_line}, RecordTexts.{ends_line}}
 use Rattle.fc_collect.specs.declared.streams.faults.Summary.{Summary}
 use Rattle.fc_import.proofs.SilenceLemmas.{all_taken, both_empty, note_said}
 use Rattle.fc_import.{proofs.TakingLemmas.{put_five, spelled_out}, specs.Import.{a_board, a_list}}
-use Rattle.fc_import.specs.Import.{collection, headed, Imported, left_out, Makes, no_board}
-use Rattle.fc_import.specs.Import.{no_board_line, none_yet, once_more, one_more, passed, Reading}
-use Rattle.fc_import.specs.Import.{refusals, refused_board, refused_by, refused_list, StandsAsList}
+use Rattle.fc_import.specs.Import.{collection, headed, Imported, left_out, ListNeedsNoNote, Makes}
+use Rattle.fc_import.specs.Import.{no_board, no_board_line, none_yet, once_more, one_more, passed}
+use Rattle.fc_import.specs.Import.{Reading, refusals, refused_board, refused_by, refused_list}
 use Rattle.fc_import.specs.Import.{too_much, too_much_line, with_tally}
 use Rattle.fc_import.specs.Notes.{counted, IsNote, line_feeds, Place, place_text, SaysUnless, State}
 use Rattle.fc_import.specs.Words.{named_moves}
@@ -62,12 +62,12 @@ silent_as : {holds other : Type 0} (place : Place) (piece said : List ℕ) → (
 silent_as place piece said so (inl (holds, none)) silent = inl (so holds, none)
 silent_as place piece said so (inr (fails, note)) silent = absurd (note_said place piece said note silent)
 
--- lines that stand as a list name its moves
-moves_named : (asked : Noted) (game : Game) (piece : List ℕ) (list : MoveList) → StandsAsList asked game piece list
+-- lines that need no note of a list name its moves
+moves_named : (asked : Noted) (game : Game) (piece : List ℕ) (list : MoveList) → ListNeedsNoNote asked game piece list
     → named_moves game piece ≡ named_moves game (list_line list)
-moves_named Doubts game piece list stands = stands
-moves_named Changes game piece list stands = ap (named_moves game) stands
-moves_named Strict game piece list stands = ap (named_moves game) stands
+moves_named Doubts game piece list silent = silent
+moves_named Changes game piece list silent = ap (named_moves game) silent
+moves_named Strict game piece list silent = ap (named_moves game) silent
 
 -- a piece of which nothing was said is read so where doubts alone are noted
 still_silent : {variant : Variant} {game : Game} {state : State} {piece : List ℕ} {next : State}

@@ -13,9 +13,9 @@ use Rattle.fc_text.{proofs.SpellingLemmas.{spelled}, specs.Faults.{first_fault}}
 use Rattle.fc_text.specs.{Lines.{Piece, with_end}, Printed.{text_of}, Spelling.{Spells}}
 use Rattle.fc_text.specs.declared.fault.BoardFault.{BoardFault}
 use Rattle.fc_record.specs.{Printing.{header_text}, RecordTexts.{ends_line}}
-use Rattle.fc_import.specs.Import.{a_board, by_columns, CanBe, HasCards, HasNoHeader, headed}
-use Rattle.fc_import.specs.Import.{Imported, IsHeading, IsNamed, IsPacked, none_yet, once_more}
-use Rattle.fc_import.specs.Import.{one_more, Reading, SpellsOut, StandsAsBoard}
+use Rattle.fc_import.specs.Import.{a_board, BoardNeedsNoNote, by_columns, CanBe, HasCards}
+use Rattle.fc_import.specs.Import.{HasNoHeader, headed, Imported, IsHeading, IsNamed, IsPacked}
+use Rattle.fc_import.specs.Import.{none_yet, once_more, one_more, Reading, SpellsOut}
 use Rattle.fc_import.specs.inside.{IsMade, printing, Says, state_of, Takes, TakesName}
 use Rattle.fc_import.specs.Notes.{after, first_state, State, tally_of}
 use Rattle.fc_import.specs.Words.{is_between, named_lines}
@@ -99,12 +99,12 @@ none_read game piece board fault is turned (inl spelled) =
     absurd (let e = sym is ∙ faultless-from_Spells game piece board spelled in cc)
 none_read game piece board fault is turned (inr columns) = absurd (turned columns)
 
--- lines that stand as a board spell it out
+-- lines that need no note of a board spell it out
 pub spelled_out : (asked : Noted) (game : Game) (piece : List ℕ) (board : Board) → IsWellFormed game board
-    → StandsAsBoard asked game piece board → SpellsOut game piece board
-spelled_out Doubts game piece board well stands = stands
-spelled_out Changes game piece board well stands = inl (spelled game board piece well stands)
-spelled_out Strict game piece board well stands = inl (spelled game board piece well stands)
+    → BoardNeedsNoNote asked game piece board → SpellsOut game piece board
+spelled_out Doubts game piece board well silent = silent
+spelled_out Changes game piece board well silent = inl (spelled game board piece well silent)
+spelled_out Strict game piece board well silent = inl (spelled game board piece well silent)
 
 module _ {R : Type 0} (variant : Variant) (game : Game) (piece : List ℕ) (board : Board) (old said new : Made R)
     (of : SpellsOut game piece board ⊎ HasCards piece board) (says : Says game piece board old said) where

@@ -55,14 +55,14 @@ abbrev pub SpellsOut : Game → (piece : List ℕ) → Board → Type 0
 SpellsOut game piece board = Spells game piece board ⊎ ((named_lines piece ≡ by_columns board) × IsPacked board)
 
 -- what the lines are where nothing is noted of a board that they are read as: they spell it out or, where each change is noted, they are it as it is printed
-abbrev pub StandsAsBoard : Noted → Game → (piece : List ℕ) → Board → Type 0
-StandsAsBoard Doubts game piece board = SpellsOut game piece board
-StandsAsBoard noted game piece board = piece ≡ text_of board
+abbrev pub BoardNeedsNoNote : Noted → Game → (piece : List ℕ) → Board → Type 0
+BoardNeedsNoNote Doubts game piece board = SpellsOut game piece board
+BoardNeedsNoNote noted game piece board = piece ≡ text_of board
 
 -- and of a list of moves: they name its moves or, where each change is noted, they are its line
-abbrev pub StandsAsList : Noted → Game → (piece : List ℕ) → MoveList → Type 0
-StandsAsList Doubts game piece list = named_moves game piece ≡ named_moves game (list_line list)
-StandsAsList noted game piece list = piece ≡ list_line list
+abbrev pub ListNeedsNoNote : Noted → Game → (piece : List ℕ) → MoveList → Type 0
+ListNeedsNoNote Doubts game piece list = named_moves game piece ≡ named_moves game (list_line list)
+ListNeedsNoNote noted game piece list = piece ≡ list_line list
 
 -- the lines name the cards of the board in order, those of the cells first or last: column by column, or row by row
 abbrev pub HasCards : (piece : List ℕ) → Board → Type 0
@@ -130,17 +130,17 @@ pub data Reading (variant : Variant) (game : Game) (state : State) (piece : List
   passed : All (λ line. IsQuiet game line.bytes) (lines_from 0 piece) → Reading variant game state piece (after state piece state.last Passed) [] []
   -- a line of prose that names cards
   left_out : (said : List ℕ) → named_in piece ≢ [] → All (λ line. IsProse game line.bytes) (lines_from 0 piece) → IsNote state.place piece said → Reading variant game state piece (after state piece state.last LeftOut) [] said
-  -- a board, which the lines spell out or have the cards of: nothing is said of one that stands there
+  -- a board, which the lines spell out or have the cards of: nothing is said of one that needs no note
   a_board : (name : List ℕ) (board : Board) (said : List ℕ) → IsNamed state name → IsWellFormed game board → CanBe game piece board
-      → SpellsOut game piece board ⊎ HasCards piece board → SaysUnless (StandsAsBoard state.noted game piece board) state.place piece said
+      → SpellsOut game piece board ⊎ HasCards piece board → SaysUnless (BoardNeedsNoNote state.noted game piece board) state.place piece said
       → Reading variant game state piece (after state piece (Some board) ABoard) (header_text variant name ++ text_of board) said
-  -- the last board once more, as solvers draw it before its solution: nothing is said of one that stands there
+  -- the last board once more, as solvers draw it before its solution: nothing is said of one that needs no note
   once_more : (board : Board) (said : List ℕ) → state.last ≡ Some board
-      → SpellsOut game piece board ⊎ HasCards piece board → SaysUnless (StandsAsBoard state.noted game piece board) state.place piece said
+      → SpellsOut game piece board ⊎ HasCards piece board → SaysUnless (BoardNeedsNoNote state.noted game piece board) state.place piece said
       → Reading variant game state piece (after state piece state.last Passed) [] said
-  -- a list of moves that is legal on the last board: nothing is said of one that stands there
+  -- a list of moves that is legal on the last board: nothing is said of one that needs no note
   a_list : (board : Board) (list : MoveList) (said : List ℕ) → state.last ≡ Some board → Legal game board list
-      → SaysUnless (StandsAsList state.noted game piece list) state.place piece said
+      → SaysUnless (ListNeedsNoNote state.noted game piece list) state.place piece said
       → Reading variant game state piece (after state piece state.last AList) (list_line list) said
   -- a board that is not taken: no list may follow it
   refused_board : (said : List ℕ) → IsNote state.place piece said → Reading variant game state piece (after state piece None RefusedBoard) [] said

@@ -9,8 +9,8 @@ use Rattle.fc_collect.specs.declared.streams.faults.RunFault.{RunFault, TheVaria
 use Rattle.fc_collect.specs.declared.streams.faults.RunFault.TheVariants.{ReaderNeverEnds, TooLarge}
 use Rattle.fc_collect.specs.declared.streams.faults.RunFault.TheVariants.{Write}
 use Rattle.fc_collect.specs.declared.streams.faults.Summary.{Summary}
-use Rattle.fc_import.specs.Import.{HasNoHeader, Imported, IsHeading, IsShown, Makes, Reading}
-use Rattle.fc_import.specs.Import.{StandsAsBoard}
+use Rattle.fc_import.specs.Import.{BoardNeedsNoNote, HasNoHeader, Imported, IsHeading, IsShown}
+use Rattle.fc_import.specs.Import.{Makes, Reading}
 use Rattle.fc_import.specs.Notes.{after_heading, IsNote, Place, SaysUnless, State}
 use Rattle.fc_import.specs.Words.{is_between}
 use Rattle.fc_import.specs.declared.{changes.Noted.{Noted}, made.Made.{Made}, walk.Walk.{Walk}}
@@ -43,7 +43,7 @@ Takes variant game piece old new =
 pub record Says {R : Type 0} (game : Game) (piece : List ℕ) (board : Board) (old new : Made R) : Type 0 where
   pub said : List ℕ
   pub notes : new.notes.items ≡ old.notes.items ++ said
-  pub is : SaysUnless (StandsAsBoard old.noted game piece board) (place_of old.walk) piece said
+  pub is : SaysUnless (BoardNeedsNoNote old.noted game piece board) (place_of old.walk) piece said
   pub state : state_of new ≡ state_of old
   pub written : new.written.items ≡ old.written.items
 

@@ -8,9 +8,9 @@ ghost use Rattle.fc_board.specs.declared.rule.Variant.{Variant};
 ghost use Rattle.fc_text.specs.{Bytes.{line_feed}, Lines.{lines_from, Piece}, Spelling.{board_of}};
 ghost use Rattle.fc_record.specs.{Grammar.{begins_with, heading_of}, RecordTexts.{header_mark}};
 ghost use Rattle.fc_collect.specs.declared.streams.faults.Summary.{Summary};
-ghost use Rattle.fc_import.specs.Import.{count_text, HasFewCards, Imported, IsBuilt, IsNoBoard};
-ghost use Rattle.fc_import.specs.Import.{Makes, most_dealt, numbered, refusals, StandsAsBoard};
-ghost use Rattle.fc_import.specs.Import.{StandsAsList, StaysLast};
+ghost use Rattle.fc_import.specs.Import.{BoardNeedsNoNote, count_text, HasFewCards, Imported};
+ghost use Rattle.fc_import.specs.Import.{IsBuilt, IsNoBoard, ListNeedsNoNote, Makes, most_dealt};
+ghost use Rattle.fc_import.specs.Import.{numbered, refusals, StaysLast};
 ghost use Rattle.fc_import.specs.Notes.{name_by, Place, place_text, SaysUnless, State};
 ghost use Rattle.fc_import.specs.Words.{decoded, is_list, named_card, named_cards, named_in};
 ghost use Rattle.fc_import.specs.Words.{named_lines, named_moves, plain, text_read};
@@ -152,15 +152,15 @@ pub fn a_ten_is_a_change()
     ensures ten { (place : Place) (said : List ℕ)
         → let piece = codes "Foundations: H-9 C-K D-K S-K" ++ line_feed ∷ codes "Freecells: 10H JH QH KH"
         ++ line_feed ∷ [] in
-        SaysUnless (StandsAsBoard Doubts freecell piece (board_of freecell piece)) place piece said
+        SaysUnless (BoardNeedsNoNote Doubts freecell piece (board_of freecell piece)) place piece said
         → said ≡ [] }
     ensures ten_noted { (place : Place) (said : List ℕ)
         → let piece = codes "Foundations: H-9 C-K D-K S-K" ++ line_feed ∷ codes "Freecells: 10H JH QH KH"
         ++ line_feed ∷ [] in
-        SaysUnless (StandsAsBoard Changes freecell piece (board_of freecell piece)) place piece said
+        SaysUnless (BoardNeedsNoNote Changes freecell piece (board_of freecell piece)) place piece said
         → said ≢ [] }
     ensures list_noted { (place : Place) (list : MoveList) (said : List ℕ)
-        → SaysUnless (StandsAsList Changes freecell (codes "1a 23" ++ line_feed ∷ []) list) place
+        → SaysUnless (ListNeedsNoNote Changes freecell (codes "1a 23" ++ line_feed ∷ []) list) place
         (codes "1a 23" ++ line_feed ∷ []) said → said ≢ [] }
 {}
 

@@ -6,8 +6,8 @@ ghost use Rattle.fc_board.specs.{Boards.{Board as Layout, IsWellFormed}, Games.{
 ghost use Rattle.fc_board.specs.{Moves.{ListFits}, Play.{Legal}};
 ghost use Rattle.fc_text.specs.{Printed.{text_of}, Spelling.{Spells}};
 ghost use Rattle.fc_record.specs.{Grammar.{heading_of}, Printing.{header_text, list_line}};
-ghost use Rattle.fc_import.specs.Import.{by_columns, HasCards, IsNamed, IsPacked, numbered};
-ghost use Rattle.fc_import.specs.Import.{SpellsOut, StandsAsBoard, StandsAsList};
+ghost use Rattle.fc_import.specs.Import.{BoardNeedsNoNote, by_columns, HasCards, IsNamed, IsPacked};
+ghost use Rattle.fc_import.specs.Import.{ListNeedsNoNote, numbered, SpellsOut};
 ghost use Rattle.fc_import.specs.inside.{IsMade, place_of, Says, state_of, Takes, TakesName};
 ghost use Rattle.fc_import.specs.Notes.{after, name_by, SaysUnless};
 ghost use Rattle.fc_import.specs.Words.{named_lines, named_moves};
@@ -211,7 +211,7 @@ impl<R: Rule> Made<R> {
         Ok(true)
     }
 
-    /// Passes lines that are the last board once more: with this note, unless it stands there.
+    /// Passes lines that are the last board once more: with this note, unless none is needed.
     /// Returns whether they spell it out, or name its cards in order.
     pub(crate) fn see_again(
         &mut self,
@@ -231,7 +231,7 @@ impl<R: Rule> Made<R> {
         Ok(true)
     }
 
-    /// Writes the list of these moves: with this note, unless it stands there. Returns whether it is
+    /// Writes the list of these moves: with this note, unless none is needed. Returns whether it is
     /// legal on the last board.
     pub(crate) fn put_list(
         &mut self,
@@ -304,14 +304,14 @@ impl<R: Rule> Made<R> {
         numbered(alloc, header, counted(self.named, 1))
     }
 
-    // Whether there is a last board, and the lines stand as it.
-    fn stands_as_last(&self, alloc: Global, piece: &[u8]) -> Result<bool, AllocError>
-        ensures { IfOk result (λ stands. IsTrue stands ↔ ((board : Layout)
+    // Whether there is a last board and nothing is to be noted of lines that are it.
+    fn last_needs_no_note(&self, alloc: Global, piece: &[u8]) -> Result<bool, AllocError>
+        ensures { IfOk result (λ silent. IsTrue silent ↔ ((board : Layout)
             × (self.now.last ≡ Some board)
-            × StandsAsBoard self.now.noted R.game piece.now board)) }
+            × BoardNeedsNoNote self.now.noted R.game piece.now board)) }
     {
         match &self.last {
-            Some(board) => stands(alloc, self.noted, piece, board),
+            Some(board) => board_needs_no_note(alloc, self.noted, piece, board),
             None => Ok(false),
         }
     }
@@ -349,12 +349,12 @@ impl<R: Rule> Made<R> {
         }
     }
 
-    // Says of lines that are the last board, with these words, that they are, unless they stand as it.
+    // Says of lines that are the last board, with these words, that they are, if that is to be noted.
     fn say_again(&mut self, alloc: Global, piece: &[u8], words: &[u8]) -> Result<(), AllocError>
         ensures { OnOk result ((board : Layout) → self.old.last ≡ Some board
             → Says R.game piece.now board self.old self.new) }
     {
-        if self.stands_as_last(alloc, piece)? {
+        if self.last_needs_no_note(alloc, piece)? {
             return Ok(());
         }
         self.walk.push_note(piece, 0, words, &mut self.notes)?;
@@ -387,7 +387,7 @@ impl<R: Rule> Made<R> {
         Ok(true)
     }
 
-    // Says of a board that the lines spell out how its spelling is changed, unless they stand as it.
+    // Says of a board that the lines spell out how its spelling is changed, if that is to be noted.
     fn say_change(
         &mut self,
         alloc: Global,
@@ -397,7 +397,7 @@ impl<R: Rule> Made<R> {
         requires { SpellsOut R.game piece.now board.now }
         ensures { OnOk result (Says R.game piece.now board.now self.old self.new) }
     {
-        if stands_spelled(self.noted, piece, board) {
+        if spelled_needs_no_note(self.noted, piece, board) {
             return Ok(());
         }
         let Change { at, words } = change_of(alloc, piece, write_board(board).as_slice())?;
@@ -405,7 +405,7 @@ impl<R: Rule> Made<R> {
             .push_note(piece, at, words.as_slice(), &mut self.notes)
     }
 
-    // Puts a note with these words, unless the list stands in the lines.
+    // Puts a note with these words, unless the lines need none of the list.
     fn say_list(
         &mut self,
         alloc: Global,
@@ -416,12 +416,12 @@ impl<R: Rule> Made<R> {
         requires { ListFits eight_off list.now }
         ensures said { OnOk result ((says : List ℕ)
             × (self.new.notes.items ≡ self.old.notes.items ++ says)
-            × SaysUnless (StandsAsList self.old.noted R.game piece.now list.now)
+            × SaysUnless (ListNeedsNoNote self.old.noted R.game piece.now list.now)
             (place_of self.old.walk) piece.now says) }
         ensures state { OnOk result (state_of self.new ≡ state_of self.old) }
         ensures written { OnOk result (self.new.written.items ≡ self.old.written.items) }
     {
-        if is_list_of::<R>(alloc, self.noted, piece, list)? {
+        if list_needs_no_note::<R>(alloc, self.noted, piece, list)? {
             return Ok(());
         }
         self.walk.push_note(piece, 0, words, &mut self.notes)
@@ -513,9 +513,9 @@ fn spells_out<R: Rule>(alloc: Global, lines: &[u8], board: &Board<R>) -> Result<
 }
 
 // Whether nothing is to be noted of lines that spell out the board.
-fn stands_spelled<R: Rule>(noted: Noted, lines: &[u8], board: &Board<R>) -> bool
+fn spelled_needs_no_note<R: Rule>(noted: Noted, lines: &[u8], board: &Board<R>) -> bool
     requires { SpellsOut R.game lines.now board.now }
-    ensures { IsTrue result ↔ StandsAsBoard noted R.game lines.now board.now }
+    ensures { IsTrue result ↔ BoardNeedsNoNote noted R.game lines.now board.now }
 {
     match noted {
         Noted::Doubts => true,
@@ -524,13 +524,14 @@ fn stands_spelled<R: Rule>(noted: Noted, lines: &[u8], board: &Board<R>) -> bool
 }
 
 // Whether nothing is to be noted of lines that are read as the board.
-fn stands<R: Rule>(
+fn board_needs_no_note<R: Rule>(
     alloc: Global,
     noted: Noted,
     lines: &[u8],
     board: &Board<R>,
 ) -> Result<bool, AllocError>
-    ensures { IfOk result (λ stands. IsTrue stands ↔ StandsAsBoard noted R.game lines.now board.now) }
+    ensures { IfOk result (λ silent. IsTrue silent
+        ↔ BoardNeedsNoNote noted R.game lines.now board.now) }
 {
     match noted {
         Noted::Doubts => spells_out(alloc, lines, board),
@@ -578,14 +579,15 @@ fn plays<R: Rule>(board: &Board<R>, list: &MoveList) -> bool
 }
 
 // Whether nothing is to be noted of lines that are read as the list.
-fn is_list_of<R: Rule>(
+fn list_needs_no_note<R: Rule>(
     alloc: Global,
     noted: Noted,
     lines: &[u8],
     list: &MoveList,
 ) -> Result<bool, AllocError>
     requires { ListFits eight_off list.now }
-    ensures { IfOk result (λ stands. IsTrue stands ↔ StandsAsList noted R.game lines.now list.now) }
+    ensures { IfOk result (λ silent. IsTrue silent
+        ↔ ListNeedsNoNote noted R.game lines.now list.now) }
 {
     let mut printed = Vec::new(alloc);
     push_list(list, &mut printed)?;

@@ -22,12 +22,12 @@ no_mark (OneCard moves) same = let e : 49 ≡ list_mark =
 no_mark (Runs moves) same = let e : 49 ≡ list_mark = ap (λ text. slice_index text 0) same in absurd (omega (arith, e))
 
 by_ten : {holds : Type 0} (place : Place) (said : List ℕ) → holds → SaysUnless holds place ten said → said ≡ []
-by_ten place said holds (inl (stands, silent)) = silent
+by_ten place said holds (inl (spelled, silent)) = silent
 by_ten place said holds (inr (fails, note)) = absurd (fails holds)
 
 noted_unless : {holds : Type 0} (place : Place) (piece said : List ℕ) → ¬ holds → SaysUnless holds place piece said
     → said ≢ []
-noted_unless place piece said fails (inl (stands, silent)) = absurd (fails stands)
+noted_unless place piece said fails (inl (spelled, silent)) = absurd (fails spelled)
 noted_unless place piece said fails (inr (not, note)) = note_said place piece said note
 
 pub returns-clause-ten : goal.returns-clause-ten

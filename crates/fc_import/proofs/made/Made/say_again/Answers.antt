@@ -8,9 +8,9 @@ returns g c = λ board last.
       said = said;
       notes = grows;
       is = inr (
-        (λ stands. absurd
+        (λ silent. absurd
             (let e : false ≡ true =
-            sym c.if-branch.false ∙ c.in_ok-stands_as_last.ensures.1 (board, last, stands) in cc)),
+            sym c.if-branch.false ∙ c.in_ok-last_needs_no_note.ensures.1 (board, last, silent) in cc)),
         note,
       );
       state = refl;

@@ -11,9 +11,9 @@ returns-clause-said g c = λ is.
       said = said;
       notes = grows;
       is = inr (
-        (λ stands. absurd
+        (λ silent. absurd
             (let e : false ≡ true =
-            sym c.if-branch.false ∙ c.in_ok-spells_out.ensures.spells.1 (spelled stands) in cc)),
+            sym c.if-branch.false ∙ c.in_ok-spells_out.ensures.spells.1 (spelled silent) in cc)),
         note,
       );
       state = refl;
