@@ -9,12 +9,12 @@ use Rattle.fc_collect.specs.Groups.{belong_together, Member, passage_between, pa
 use Rattle.fc_collect.specs.Runs.{passage_found, passage_to, same_lines}
 use Rattle.fc_board.specs.declared.rule.Variant.{Variant}
 use Rattle.fc_canon.proofs.LeastTextLemmas.{chosen-between}
-use Rattle.fc_canon.specs.{Chosen, chosen_passage, Equivalent}
-use Rattle.fc_collect.specs.declared.groups.any_board.AnyBoard.{AnyBoard}
-use Rattle.fc_collect.specs.inside.{member_of}
+use Rattle.fc_canon.specs.{Chosen, chosen_passage, Equivalent, HasCanonText}
+use Rattle.fc_collect.specs.declared.groups.any_board.AnyCanon.{AnyCanon}
+use Rattle.fc_collect.specs.inside.{canon_variant, member_of, passage_held, text_held}
 use Rattle.fc_collect.proofs.KeyedLemmas.{chosen, one_variant}
 use Rattle.fc_collect.proofs.GroupNameLemmas.{together-Equivalent}
-use Rattle.fc_collect.specs.inside.{IsBoardOf, KeepsFirst}
+use Rattle.fc_collect.specs.inside.{IsCanonOf, KeepsFirst}
 
 -- members of two variants
 pub passage-apart : (first member : Member) → first.heading.variant ≢ member.heading.variant → passage_to first member ≡ None
@@ -53,16 +53,29 @@ module _ (first member : Member) (variant : Variant) (game : Game) (renamings : 
           let is = joined.1 (own ∙ sym other, subst (λ game. Equivalent game first.contents.board member.contents.board) game_is (equivalent.0 refl)) in absurd (true≢false (sym is ∙ e))
       by false e None equivalent between = refl
 
--- what is found between boards that are those of two members
+-- what is found from the canonical text that is kept of a member, and the passage to it
 pub passage-same : (first member : Member) (variant : Variant) (game : Game) (renamings : List (List ℕ)) → game ≡ game_of variant → renamings ≡ renamings_of variant
-    → first.heading.variant ≡ variant → member.heading.variant ≡ variant → (board next : Board) → first.contents.board ≡ board → member.contents.board ≡ next → IsWellFormed game board → IsWellFormed game next
-    → (found : Option Passage) → IsSome found ↔ Equivalent game board next
-    → IfSome found (λ passage. passage ≡ passage_product (chosen_passage renamings board) (inverse_passage (chosen_passage renamings next))) → found ≡ passage_to first member
-passage-same first member variant game renamings played listed own other board next one two well well' found equivalent between =
-    passage-found first member variant game renamings played listed own other (subst (IsWellFormed game) (sym one) well) (subst (IsWellFormed game) (sym two) well') found
-    (subst (λ two. IsSome found ↔ Equivalent game first.contents.board two) (sym two) (subst (λ one. IsSome found ↔ Equivalent game one next) (sym one) equivalent))
-    (subst (λ two. IfSome found (λ passage. passage ≡ passage_product (chosen_passage renamings first.contents.board) (inverse_passage (chosen_passage renamings two)))) (sym two)
-    (subst (λ one. IfSome found (λ passage. passage ≡ passage_product (chosen_passage renamings one) (inverse_passage (chosen_passage renamings next)))) (sym one) between))
+    → first.heading.variant ≡ variant → member.heading.variant ≡ variant → (text text' : List ℕ) (passage passage' : Passage) → text ≡ text' → passage ≡ passage'
+    → HasCanonText (game_of first.heading.variant) (renamings_of first.heading.variant) first.contents.board text' passage'
+    → (next : Board) → member.contents.board ≡ next → IsWellFormed game next → (found : Option Passage)
+    → ((board : Board) → HasCanonText game renamings board text passage → IsSome found ↔ Equivalent game board next)
+    → ((board : Board) → HasCanonText game renamings board text passage
+    → IfSome found (λ passage. passage ≡ passage_product (chosen_passage renamings board) (inverse_passage (chosen_passage renamings next)))) → found ≡ passage_to first member
+passage-same first member variant game renamings played listed own other text text' passage passage' text_is passage_is canon next there well found equivalent between =
+    let board = first.contents.board in
+    let has : HasCanonText game renamings board text passage = rw (text_is, passage_is, played, listed, ← own) canon in
+    passage-found first member variant game renamings played listed own other has.well_formed (subst (IsWellFormed game) (sym there) well) found
+    (subst (λ next. IsSome found ↔ Equivalent game board next) (sym there) (equivalent board has))
+    (subst (λ next. IfSome found (λ passage. passage ≡ passage_product (chosen_passage renamings board) (inverse_passage (chosen_passage renamings next)))) (sym there) (between board has))
+
+-- what is kept of a member
+pub canon-kept : (held : AnyCanon) (member : Member) (variant : Variant) (game : Game) (renamings : List (List ℕ)) → game ≡ game_of variant → renamings ≡ renamings_of variant
+    → canon_variant held ≡ variant → member.heading.variant ≡ variant → (board : Board) → member.contents.board ≡ board
+    → HasCanonText game renamings board (text_held held) (passage_held held) → IsCanonOf held member
+canon-kept held member variant game renamings played listed kept own board there canon = record {
+  variant = kept ∙ sym own;
+  canon = rw (own, ← played, ← listed, there) canon;
+}
 
 -- ---- laws
 
@@ -98,11 +111,17 @@ module _ (first member : Member) (well : IsWellFormed (game_of first.heading.var
 -- ---- what is printed and kept
 
 -- a later member gets its name and the passage from the first
-pub same-printed : (kept : Option AnyBoard) (board : AnyBoard) (members : List Member) (number : ℕ) (heading : Heading) (contents : Contents) (old one new : List ℕ) (found : Option Passage)
-    → kept ≡ Some board
-    → ((first member : Member) → IsBoardOf board first → member.heading.variant ≡ heading.variant → member.contents.board ≡ contents.board → found ≡ passage_to first member)
+pub same-printed : (kept : Option AnyCanon) (canon : AnyCanon) (members : List Member) (number : ℕ) (heading : Heading) (contents : Contents) (old one new : List ℕ) (found : Option Passage)
+    → kept ≡ Some canon
+    → ((first member : Member) → IsCanonOf canon first → member.heading.variant ≡ heading.variant → member.contents.board ≡ contents.board → found ≡ passage_to first member)
     → one ≡ old ++ name_of number heading.name → new ≡ one ++ passage_found found → KeepsFirst kept members → new ≡ old ++ same_lines members number heading contents
-same-printed kept board [] number heading contents old one new found is ensured named printed keeps = absurd (subst (λ kept. KeepsFirst kept []) is keeps)
-same-printed kept board (first ∷ others) number heading contents old one new found is ensured named printed keeps =
+same-printed kept canon [] number heading contents old one new found is ensured named printed keeps = absurd (subst (λ kept. KeepsFirst kept []) is keeps)
+same-printed kept canon (first ∷ others) number heading contents old one new found is ensured named printed keeps =
     let found_is = ensured first (member_of number heading contents) (subst (λ kept. KeepsFirst kept (first ∷ others)) is keeps) refl refl in
     printed ∙ ap₂ (λ front found. front ++ passage_found found) named found_is ∙ append_assoc old (name_of number heading.name) _
+
+-- the first member's is kept
+pub first-kept : (kept : Option AnyCanon) (members : List Member) (held : AnyCanon) (member : Member) → kept ≡ None → IsCanonOf held member → KeepsFirst kept members
+    → KeepsFirst (Some held) (members ++ member ∷ [])
+first-kept kept [] held member none canon keeps = canon
+first-kept kept (first ∷ others) held member none canon keeps = absurd (subst (λ kept. KeepsFirst kept (first ∷ others)) none keeps)

@@ -6,9 +6,9 @@ use Rattle.std.specs.Prelude.{◌+◌, ◌<◌, ◌∷◌, ◌≡◌, ◌≤◌,
 use Rattle.std.specs.{Prelude.{List, map, None, Ok, Option, Result, Some, take, ℕ}, Str.{bytes_eq}}
 use Rattle.fc_board.specs.Boards.{Board, IsWellFormed}
 use Rattle.fc_board.specs.{Games.{game_of, renamings_of, variant_word}, Moves.{ListFits}}
-use Rattle.fc_board.specs.Passages.{carried}
+use Rattle.fc_board.specs.Passages.{carried, Passage}
 use Rattle.{fc_board.specs.declared.rule.Variant.{Variant}, fc_text.specs.Bytes.{blank}}
-use Rattle.fc_canon.specs.{chosen_passage, key_of}
+use Rattle.fc_canon.specs.{chosen_passage, HasCanonText, key_of}
 use Rattle.fc_record.specs.{Grammar.{Contents, Heading}, Printing.{printed_with}}
 use Rattle.fc_record.specs.RecordTexts.{header_mark, RecordText}
 use Rattle.fc_record.specs.declared.record.RecordFault.{RecordFault}
@@ -23,12 +23,13 @@ use Rattle.fc_collect.specs.declared.{
   commands.{count.{Figures.{Figures}, Tally.{Tally}}, names.GroupNames.{GroupNames}},
   engine.progress.Progress.{Progress},
   groups.any_board.AnyBoard.{AnyBoard, TheVariants.{BakersGame, EightOff, FreeCell}},
-  groups.{Gathered.{Gathered}, GroupKey.{GroupKey}, solution.Shared.{Shared}},
-  groups.solution.{SharedMember.{SharedMember}, Solution.{Solution}},
+  groups.{any_board.AnyCanon.{AnyCanon}, Gathered.{Gathered}, GroupKey.{GroupKey}},
+  groups.solution.{Shared.{Shared}, SharedMember.{SharedMember}, Solution.{Solution}},
   streams.faults.RunFault.{RunFault, TheVariants.{Memory, Read, ReaderNeverEnds, TooLarge, Write}},
   streams.{faults.Summary.{Summary}, limits.Limits.{Limits}},
 }
 use Rattle.fc_board.specs.declared.rule.Variant.TheVariants as variant
+use Rattle.fc_collect.specs.declared.groups.any_board.AnyCanon.TheVariants as canon
 
 abbrev pub board_held : AnyBoard → Board
 board_held (FreeCell board) = board
@@ -40,6 +41,21 @@ abbrev pub variant_held : AnyBoard → Variant
 variant_held (FreeCell board) = variant.FreeCell
 variant_held (BakersGame board) = variant.BakersGame
 variant_held (EightOff board) = variant.EightOff
+
+abbrev pub text_held : AnyCanon → List ℕ
+text_held (canon.FreeCell made) = made.text.items
+text_held (canon.BakersGame made) = made.text.items
+text_held (canon.EightOff made) = made.text.items
+
+abbrev pub passage_held : AnyCanon → Passage
+passage_held (canon.FreeCell made) = made.passage
+passage_held (canon.BakersGame made) = made.passage
+passage_held (canon.EightOff made) = made.passage
+
+abbrev pub canon_variant : AnyCanon → Variant
+canon_variant (canon.FreeCell made) = variant.FreeCell
+canon_variant (canon.BakersGame made) = variant.BakersGame
+canon_variant (canon.EightOff made) = variant.EightOff
 
 -- -------- What a window of bytes holds after a read put more after them.
 
@@ -270,17 +286,17 @@ pub record KeepsShared (kept : Shared) (members : List Member) : Type 0 where
 
 -- -------- What `same` keeps, against the members so far.
 
--- the board of this member
-pub record IsBoardOf (held : AnyBoard) (member : Member) : Type 0 where
-  pub variant : variant_held held ≡ member.heading.variant
-  pub board : board_held held ≡ member.contents.board
+-- the canonical text of this member's board, and the passage to it
+pub record IsCanonOf (held : AnyCanon) (member : Member) : Type 0 where
+  pub variant : canon_variant held ≡ member.heading.variant
+  pub canon : HasCanonText (game_of member.heading.variant) (renamings_of member.heading.variant) member.contents.board (text_held held) (passage_held held)
 
--- that of the first member, once there is one
-abbrev pub KeepsFirst : Option AnyBoard → List Member → Type 0
+-- those of the first member, once there is one
+abbrev pub KeepsFirst : Option AnyCanon → List Member → Type 0
 KeepsFirst None [] = Unit {0}
 KeepsFirst None (first ∷ others) = ⊥
-KeepsFirst (Some board) [] = ⊥
-KeepsFirst (Some board) (first ∷ others) = IsBoardOf board first
+KeepsFirst (Some canon) [] = ⊥
+KeepsFirst (Some canon) (first ∷ others) = IsCanonOf canon first
 
 -- -------- What `group` keeps of a group, against the members of the group.
 

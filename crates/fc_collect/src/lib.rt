@@ -14,7 +14,8 @@ pub(crate) use engine::{Command, run_records, write_full};
 pub use engine::{write_bytes, write_text};
 pub use fc_board::Variant;
 pub(crate) use groups::{
-    AnyBoard, AnyGame, EachGroup, Gathered, Gathering, GroupKey, ShareLines, key_and_passage,
+    AnyBoard, AnyCanon, AnyGame, EachGroup, Gathered, Gathering, GroupKey, ShareLines,
+    key_and_passage,
 };
 pub use streams::{
     Counted, Limits, MOST_BYTES, MOST_COUNTABLE, MOST_READS, MOST_RECORD_BYTES, MOST_RECORDS,

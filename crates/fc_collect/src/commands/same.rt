@@ -1,24 +1,24 @@
 //! The lines of `same`: the passage from the first board to that of each later record.
 ghost use Rattle.std.specs.Prelude.{◌++◌, ◌≡◌, [], OnOk};
-ghost use Rattle.fc_collect.specs.{Groups.{Member}, inside.{IsBoardOf, KeepsFirst}};
+ghost use Rattle.fc_collect.specs.{Groups.{Member}, inside.{IsCanonOf, KeepsFirst}};
 ghost use Rattle.fc_collect.specs.Runs.{passage_found, passage_to, same_lines};
 
-use crate::{AnyBoard, AnyGame, Command, Counted, RunFault, Seed, Summary};
+use crate::{AnyCanon, AnyGame, Command, Counted, RunFault, Seed, Summary};
 use fc_board::{Board, Rule};
-use fc_canon::{Passage, same};
+use fc_canon::{Passage, passage_from};
 use fc_record::{Contents, Heading, RefusalLine, push_name, push_passage_words};
 use std::alloc::{AllocError, Global};
 use std::io::Write;
 
 /// Prints the passage from the board of the first record to that of each later one, and keeps the
-/// first board.
+/// canonical text of the first board and the passage to it.
 #[derive(Drop)]
 pub(crate) struct SameLines;
 
 impl Command for SameLines {
     type Refusal = RefusalLine;
 
-    type Kept = Option<AnyBoard>;
+    type Kept = Option<AnyCanon>;
 
     ghost lines = { same_lines };
 
@@ -26,13 +26,13 @@ impl Command for SameLines {
 
     ghost keeps = { KeepsFirst };
 
-    fn start(_alloc: Global, _seed: Seed) -> Option<AnyBoard> {
+    fn start(_alloc: Global, _seed: Seed) -> Option<AnyCanon> {
         None
     }
 
     fn accept<R: AnyGame>(
         _alloc: Global,
-        kept: &mut Option<AnyBoard>,
+        kept: &mut Option<AnyCanon>,
         number: usize,
         heading: Heading<'_>,
         contents: Contents<'_, R>,
@@ -41,10 +41,10 @@ impl Command for SameLines {
         match kept {
             Some(first) => {
                 push_name(number, heading.name, out)?;
-                push_found(&passage_from::<R>(first, &contents.board), out)
+                push_found(&passage_to::<R>(first, &contents.board), out)
             }
             None => {
-                *kept = Some(R::any_board(&contents.board));
+                *kept = Some(R::any_canon(&contents.board));
                 Ok(())
             }
         }
@@ -52,7 +52,7 @@ impl Command for SameLines {
 
     fn end<Wr: Write>(
         _alloc: Global,
-        _kept: &Option<AnyBoard>,
+        _kept: &Option<AnyCanon>,
         _summary: Summary,
         _pending: &mut Vec<u8>,
         _output: &mut Counted<Wr>,
@@ -63,11 +63,11 @@ impl Command for SameLines {
 
 // The passage from the first board to this one, or `None` where they are of two games or not
 // equivalent.
-fn passage_from<R: AnyGame>(first: &AnyBoard, board: &Board<R>) -> Option<Passage<R>>
-    ensures { (said member : Member) → IsBoardOf first.now said → member.heading.variant ≡ R.VARIANT
+fn passage_to<R: AnyGame>(first: &AnyCanon, board: &Board<R>) -> Option<Passage<R>>
+    ensures { (said member : Member) → IsCanonOf first.now said → member.heading.variant ≡ R.VARIANT
         → member.contents.board ≡ board.now → result ≡ passage_to said member }
 {
-    same(R::own_board(first)?, board)
+    passage_from(R::own_canon(first)?, board)
 }
 
 // Prints a passage in the words of `canon`, or that there is none.

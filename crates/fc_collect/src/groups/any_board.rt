@@ -1,9 +1,11 @@
 //! Boards of games that are known only as the program runs.
 ghost use Rattle.std.specs.Prelude.{◌++◌, ◌≡◌, ◌≢◌, IfSome, None, OnOk};
-ghost use Rattle.fc_text.specs.Printed.{text_of};
-ghost use Rattle.fc_collect.specs.inside.{board_held, variant_held};
+ghost use Rattle.{fc_text.specs.Printed.{text_of}, fc_canon.specs.{HasCanonText}};
+ghost use Rattle.fc_collect.specs.inside.{board_held, canon_variant, passage_held, text_held};
+ghost use Rattle.fc_collect.specs.inside.{variant_held};
 
 use fc_board::{BakersGame, Board, EightOff, FreeCell, Rule, Variant};
+use fc_canon::{CanonText, canon_text};
 use fc_text::BoardView;
 use std::alloc::AllocError;
 
@@ -40,6 +42,14 @@ impl AnyBoard {
     }
 }
 
+/// A canonical text of one of the three games, with the passage to it.
+#[derive(Drop)]
+pub enum AnyCanon {
+    FreeCell(CanonText<FreeCell>),
+    BakersGame(CanonText<BakersGame>),
+    EightOff(CanonText<EightOff>),
+}
+
 /// One of the three games, whose boards are kept beside those of the others.
 pub trait AnyGame: Rule + Sized {
     /// The same board, as one of the three games.
@@ -47,11 +57,18 @@ pub trait AnyGame: Rule + Sized {
         ensures variant { variant_held result ≡ Self.VARIANT }
         ensures board { board_held result ≡ board.now };
 
-    /// The board, if it is one of this game.
-    fn own_board(board: &AnyBoard) -> Option<&Board<Self>>
-        ensures variant { IfSome result (λ own. variant_held board.now ≡ Self.VARIANT) }
-        ensures board { IfSome result (λ own. own.now ≡ board_held board.now) }
-        ensures other { result ≡ None → variant_held board.now ≢ Self.VARIANT };
+    /// The canonical text of the board and the passage to it, as those of one of the three games.
+    fn any_canon(board: &Board<Self>) -> AnyCanon
+        ensures variant { canon_variant result ≡ Self.VARIANT }
+        ensures canon { HasCanonText Self.game Self.renamings board.now
+            (text_held result) (passage_held result) };
+
+    /// The canonical text and the passage, if they are those of this game.
+    fn own_canon(canon: &AnyCanon) -> Option<&CanonText<Self>>
+        ensures variant { IfSome result (λ own. canon_variant canon.now ≡ Self.VARIANT) }
+        ensures text { IfSome result (λ own. own.now.text.items ≡ text_held canon.now) }
+        ensures passage { IfSome result (λ own. own.now.passage ≡ passage_held canon.now) }
+        ensures other { result ≡ None → canon_variant canon.now ≢ Self.VARIANT };
 }
 
 impl AnyGame for FreeCell {
@@ -59,9 +76,13 @@ impl AnyGame for FreeCell {
         AnyBoard::FreeCell(board.copy())
     }
 
-    fn own_board(board: &AnyBoard) -> Option<&Board<FreeCell>> {
-        match board {
-            AnyBoard::FreeCell(board) => Some(board),
+    fn any_canon(board: &Board<FreeCell>) -> AnyCanon {
+        AnyCanon::FreeCell(canon_text(board))
+    }
+
+    fn own_canon(canon: &AnyCanon) -> Option<&CanonText<FreeCell>> {
+        match canon {
+            AnyCanon::FreeCell(canon) => Some(canon),
             _ => None,
         }
     }
@@ -72,9 +93,13 @@ impl AnyGame for BakersGame {
         AnyBoard::BakersGame(board.copy())
     }
 
-    fn own_board(board: &AnyBoard) -> Option<&Board<BakersGame>> {
-        match board {
-            AnyBoard::BakersGame(board) => Some(board),
+    fn any_canon(board: &Board<BakersGame>) -> AnyCanon {
+        AnyCanon::BakersGame(canon_text(board))
+    }
+
+    fn own_canon(canon: &AnyCanon) -> Option<&CanonText<BakersGame>> {
+        match canon {
+            AnyCanon::BakersGame(canon) => Some(canon),
             _ => None,
         }
     }
@@ -85,9 +110,13 @@ impl AnyGame for EightOff {
         AnyBoard::EightOff(board.copy())
     }
 
-    fn own_board(board: &AnyBoard) -> Option<&Board<EightOff>> {
-        match board {
-            AnyBoard::EightOff(board) => Some(board),
+    fn any_canon(board: &Board<EightOff>) -> AnyCanon {
+        AnyCanon::EightOff(canon_text(board))
+    }
+
+    fn own_canon(canon: &AnyCanon) -> Option<&CanonText<EightOff>> {
+        match canon {
+            AnyCanon::EightOff(canon) => Some(canon),
             _ => None,
         }
     }
