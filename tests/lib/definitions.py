@@ -141,7 +141,7 @@ class Repository:
 
     def promised_laws(self):
         """The laws that carry a promise: those in the place of a function, or all of a row that has `the laws` there."""
-        names = {name for _, cells in tables_of_trust() for name in names_in(cells[3 if cells[1] == "the laws" else 1])}
+        names = {name for _, cells in tables_of_trust() for name in names_in(cells[2 if cells[1] == "the laws" else 1])}
         return [(name, self.laws[name]) for name in sorted(names & set(self.laws))]
 
     def lines(self, homes):

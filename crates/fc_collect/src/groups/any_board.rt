@@ -1,6 +1,6 @@
 //! Boards of games that are known only as the program runs.
 ghost use Rattle.std.specs.Prelude.{◌++◌, ◌≡◌, ◌≢◌, IfSome, None, OnOk};
-ghost use Rattle.{fc_text.specs.Printed.{text_of}, fc_canon.specs.{HasCanonText}};
+ghost use Rattle.{fc_canon.specs.{HasCanonText}, fc_text.specs.Printed.{text_of}};
 ghost use Rattle.fc_collect.specs.inside.{board_held, canon_variant, passage_held, text_held};
 ghost use Rattle.fc_collect.specs.inside.{variant_held};
 
