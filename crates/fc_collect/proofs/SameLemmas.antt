@@ -100,13 +100,10 @@ module _ (first member : Member) (well : IsWellFormed (game_of first.heading.var
       ↔ ¬ ((first.heading.variant ≡ member.heading.variant) × Equivalent (game_of first.heading.variant) first.contents.board member.contents.board)
   passage-none = by (belong_together first member) refl
     where
-      joined' : (belong_together first member ≡ true) ↔ ((first.heading.variant ≡ member.heading.variant) × Equivalent (game_of first.heading.variant) first.contents.board member.contents.board)
-      joined' = together-Equivalent first member well well'
-
       by : (b : Bool) → belong_together first member ≡ b
           → (cond b (Some (passage_between first member)) None ≡ None) ↔ ¬ ((first.heading.variant ≡ member.heading.variant) × Equivalent (game_of first.heading.variant) first.contents.board member.contents.board)
-      by true e = ((λ none. absurd (cc none)), (λ apart. absurd (apart (joined'.0 e))))
-      by false e = ((λ none pair. true≢false (sym (joined'.1 pair) ∙ e)), (λ apart. refl))
+      by true e = ((λ none. absurd (cc none)), (λ apart. absurd (apart ((together-Equivalent first member well well').0 e))))
+      by false e = ((λ none pair. true≢false (sym ((together-Equivalent first member well well').1 pair) ∙ e)), (λ apart. refl))
 
 -- ---- what is printed and kept
 

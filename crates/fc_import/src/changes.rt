@@ -1,5 +1,5 @@
-//! What is noted of an import, and what a note says of a change of spelling. Which change it names is
-//! a choice, of which nothing is promised.
+//! What is noted of an import, and what a note says of a change of spelling. Which change it names
+//! is a choice, of which nothing is promised.
 
 use crate::line::{LineKind, kind_of};
 use crate::words::{Word, WordKind, Words};

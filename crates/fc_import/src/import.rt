@@ -331,8 +331,8 @@ impl<R: Rule> Importer<R> {
         }
     }
 
-    // Takes a board that `show` reads in the lines, unless a solution begins with it that belongs to
-    // the last board.
+    // Takes a board that `show` reads in the lines, unless a solution begins with it that belongs
+    // to the last board.
     fn take_shown(&mut self, piece: &[u8], board: Board<R>) -> Result<(), AllocError>
         requires { Spells R.game piece.now board }
         ensures { OnOk result (Takes R.VARIANT R.game piece.now self.old.made self.new.made) }
@@ -350,8 +350,8 @@ impl<R: Rule> Importer<R> {
         self.refuse(piece, UNPLAYABLE)
     }
 
-    // Takes a board that the lines are read as, unless a solution begins with it that belongs to the
-    // last board.
+    // Takes a board that the lines are read as, unless a solution begins with it that belongs to
+    // the last board.
     fn take_read(&mut self, piece: &[u8], board: Board<R>, words: &[u8]) -> Result<(), AllocError>
         ensures { OnOk result (Takes R.VARIANT R.game piece.now self.old.made self.new.made) }
     {

@@ -53,9 +53,9 @@ pub fn words_name_moves()
 {}
 
 /// Each sign of a suit, filled or outlined, is the letter of its suit, before the rank too; a
-/// playing card is its rank, its suit and a blank, and a letter as wide as a sign of Chinese is that
-/// letter; a no-break space and a wide one are blanks; a byte order mark, the mark after a coloured
-/// sign and one of direction are nothing. Other signs stay, and so does a knight.
+/// playing card is its rank, its suit and a blank, and a letter as wide as a sign of Chinese is
+/// that letter; a no-break space and a wide one are blanks; a byte order mark, the mark after a
+/// coloured sign and one of direction are nothing. Other signs stay, and so does a knight.
 pub fn signs_are_letters()
     ensures spade { text_read (0x37 ∷ 0xE2 ∷ 0x99 ∷ 0xA0 ∷ []) ≡ codes "7S" }
     ensures outlined { text_read (0xE2 ∷ 0x99 ∷ 0xA2 ∷ 0x37 ∷ []) ≡ 0x44 ∷ 0x37 ∷ [] }
@@ -145,9 +145,9 @@ pub fn strict_imports_refuse_what_is_noted()
         → Makes variant noted bytes made [] summary → summary.refused ≡ 0 }
 {}
 
-/// Of a board whose last ten is spelled `10H` nothing is said, but where each change is noted. Nor is
-/// anything said there of one with `TH`, if it is as `show` prints it. A list without a mark is noted
-/// there.
+/// Of a board whose last ten is spelled `10H` nothing is said, but where each change is noted. Nor
+/// is anything said there of one with `TH`, if it is as `show` prints it. A list without a mark is
+/// noted there.
 pub fn a_ten_is_a_change()
     ensures ten { (place : Place) (said : List ℕ)
         → let piece = codes "Foundations: H-9 C-K D-K S-K" ++ line_feed ∷ codes "Freecells: 10H JH QH KH"

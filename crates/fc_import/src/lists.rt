@@ -1,5 +1,5 @@
-//! Moves as fcanon, Freecell Solver and people write them, played on a board. Nothing is promised of
-//! it: a list is tested before it is written.
+//! Moves as fcanon, Freecell Solver and people write them, played on a board. Nothing is promised
+//! of it: a list is tested before it is written.
 
 use crate::made::Form;
 use fc_board::{Board, PlayFault, Rule};

@@ -91,8 +91,8 @@ impl<R: Rule> Made<R> {
         Ok(true)
     }
 
-    /// Leaves out lines that name cards, and of which none is a list or names cards by more than half
-    /// of its words, with a note. Returns whether they are so.
+    /// Leaves out lines that name cards, and of which none is a list or names cards by more than
+    /// half of its words, with a note. Returns whether they are so.
     pub(crate) fn leave_out(
         &mut self,
         alloc: Global,
@@ -349,7 +349,8 @@ impl<R: Rule> Made<R> {
         }
     }
 
-    // Says of lines that are the last board, with these words, that they are, if that is to be noted.
+    // Says of lines that are the last board, with these words, that they are, if that is to be
+    // noted.
     fn say_again(&mut self, alloc: Global, piece: &[u8], words: &[u8]) -> Result<(), AllocError>
         ensures { OnOk result ((board : Layout) → self.old.last ≡ Some board
             → Says R.game piece.now board self.old self.new) }

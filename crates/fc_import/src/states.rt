@@ -1,5 +1,5 @@
-//! Solutions that are boards alone, as Freecell Solver prints them without `-m`. Nothing is promised
-//! of them: the moves between the boards are tested before they are written.
+//! Solutions that are boards alone, as Freecell Solver prints them without `-m`. Nothing is
+//! promised of them: the moves between the boards are tested before they are written.
 
 use crate::block::Block;
 use crate::layout::{LinesAre, Reading, read};
@@ -88,8 +88,8 @@ fn push_step<R: Rule>(
     }
 }
 
-// Puts the word of a move from the pile that has less on the next board to the one that has more, or
-// else home.
+// Puts the word of a move from the pile that has less on the next board to the one that has more,
+// or else home.
 fn push_word<R: Rule>(
     first: &Board<R>,
     next: &Board<R>,

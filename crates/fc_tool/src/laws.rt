@@ -158,8 +158,8 @@ pub fn formats_are_asked_for()
         → ¬ Reads (called ∷ codes "count" ∷ codes "--header" ∷ []) (Ok answer) }
 {}
 
-/// `--columns` and `--rows` say what lines of cards are to `import`, columns where both are said. No
-/// other command takes them.
+/// `--columns` and `--rows` say what lines of cards are to `import`, columns where both are said.
+/// No other command takes them.
 pub fn lines_are_said_to_be_columns_or_rows()
     ensures columns { (called : Text) (answer : Option Request)
         → Reads (called ∷ codes "import" ∷ codes "--columns" ∷ []) (Ok answer)
@@ -297,8 +297,8 @@ pub fn commands_have_their_runs()
     ensures deal { (format : Format) → run_of_task format Deal ≡ None }
 {}
 
-/// What a request asks for is the run of its command over the records of its game within its limits,
-/// the import for its game, or the deal of its number.
+/// What a request asks for is the run of its command over the records of its game within its
+/// limits, the import for its game, or the deal of its number.
 pub fn jobs_are_what_requests_ask_for()
     ensures run { (request : Request) (kind : RunKind)
         → run_of_task request.options.format request.task ≡ Some kind
@@ -351,10 +351,10 @@ pub fn a_deal_that_ends_well_is_written<Wr: Write>(before: &Counted<Wr>, after: 
         → Wr.contents (inner_of after.now) ≢ Some held }
 {}
 
-/// Where the words are those of a command over records, and the program ends with 0 or 1, its output
-/// has got what the command prints for all that its input had, and nothing else. So an output that
-/// stays as it was fits only where nothing is printed, and that of another input only where both
-/// are printed alike.
+/// Where the words are those of a command over records, and the program ends with 0 or 1, its
+/// output has got what the command prints for all that its input had, and nothing else. So an
+/// output that stays as it was fits only where nothing is printed, and that of another input only
+/// where both are printed alike.
 pub fn a_program_that_ends_well_has_written_what_is_due<Rd: Read, Wr: Write, Er: Write>(
     input: &Counted<Rd>,
     left: &Counted<Rd>,

@@ -13,7 +13,8 @@ use std::alloc::Global;
 /// Makes a collection of this game of the text, as the program does, and puts it to the front of
 /// the output, and what is said of the text to the front of the notes. Where one of them has too
 /// little room, `written` and `noted` say how much is needed. `lines` has what lines of cards are
-/// that may be columns or rows: 1 for columns, 2 for rows, and any other number where it is not said.
+/// that may be columns or rows: 1 for columns, 2 for rows, and any other number where it is not
+/// said.
 #[unsafe(no_mangle)]
 pub extern "C" fn fcanon_import(
     alloc: Global,

@@ -44,8 +44,8 @@ fn put_front(runs: &[RunBytes], room: &mut [RunBytes])
     room[..runs.len()].copy_from_slice(runs);
 }
 
-/// Pushes the bytes of the moves of several cards that the game allows on the board to a list without
-/// one.
+/// Pushes the bytes of the moves of several cards that the game allows on the board to a list
+/// without one.
 fn push_legal_runs<R: Rule>(runs: &mut ArrayVec<RunBytes, 672>, board: &Board<R>)
     requires none { runs.old.items ≡ [] }
     ensures runs { runs.new.items ≡ map run_bytes (legal_runs R.game board.now) }
