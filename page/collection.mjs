@@ -18,6 +18,7 @@ export const isLarge = () => collection.bytes.length > LARGE;
 // Reads the bytes, of which only what changed is read again. Gives true once they are read: at once, or a promise of it
 // where that takes long, which gives false where another reading has begun. `see` is called when some of a large text
 // is read.
+/** @returns {true | Promise<boolean>} */
 export function read(bytes, game, see) {
   const isAnew = collection.isBeingRead || collection.fault || collection.game !== game;
   const splice = isAnew ? null : spliceOf(collection.bytes, bytes);
@@ -52,6 +53,7 @@ async function readLater(work, take, see) {
 }
 
 // Does this, and keeps what the program says where it gives up.
+/** @returns {true} */
 function orFault(act) {
   collection.fault = null;
   try {

@@ -1,5 +1,7 @@
 // Elements of the page.
 
+// The element of a name, of whatever kind it is.
+/** @type {(id: string) => any} */
 export const at = (id) => document.getElementById(id);
 export const prefersStill = matchMedia('(prefers-reduced-motion: reduce)');
 

@@ -39,6 +39,7 @@ function goWithout() {
   for (const [number, { work }] of unanswered) answer(number, workAt(work));
 }
 
+/** @param {number} number @param {{ value?: any, fault?: string }} answered */
 function answer(number, { value, fault }) {
   const { done, failed } = unanswered.get(number);
   unanswered.delete(number);

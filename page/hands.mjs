@@ -66,8 +66,8 @@ function hold(name, key, count, row = null) {
 
 // How many cards of the held pile a move can take.
 function mostOfHeld() {
-  const isOfHeld = ([from]) => String.fromCharCode(from) === held.key;
-  return Math.max(1, ...fcanon.moves(shown.record.game, shown.sides.own).filter(isOfHeld).map(([, , count]) => count));
+  const isOfHeld = (move) => String.fromCharCode(move[0]) === held.key;
+  return Math.max(1, ...fcanon.moves(shown.record.game, shown.sides.own).filter(isOfHeld).map((move) => move[2]));
 }
 
 // Holds one card more, or one less; where as many are held as the ranks say, one less is the last card alone.

@@ -13,7 +13,7 @@ let waiting = null;
 // Arrays of bytes are texts of as many characters.
 const packed = (_, value) => (value instanceof Uint8Array ? { bytes: textOfBytes(value) } : value);
 const unpacked = (_, value) => (typeof value?.bytes === 'string' ? bytesOfText(value.bytes) : value);
-const bytesOfText = (text) => Uint8Array.from(text, (letter) => letter.charCodeAt(0));
+const bytesOfText = (text) => Uint8Array.from({ length: text.length }, (_, place) => text.charCodeAt(place));
 
 function textOfBytes(bytes) {
   let text = '';

@@ -100,7 +100,7 @@ export const fcanon = {
 
   // Plays a list: the last board, how many moves were made, and the answer to the next one, 0 where all were made.
   // `see` is shown each board.
-  play(game, start, list, see = () => {}) {
+  play(game, start, list, see = (_) => {}) {
     const board = start.slice();
     for (let made = 0; made < movesIn(list); made++) {
       const answer = answerOf(PLAY[list.sign], game, board, moveAt(list, made));

@@ -47,10 +47,10 @@ export function linkOf({ record, lists, chosen, step, shuffle, times, isSorted }
   } else {
     given.set('text', headerLine(record) + fcanon.write(record.game, record.board) + list);
   }
-  if (record.game > 0) given.set('game', record.game);
-  if (step > 0) given.set('step', step);
+  if (record.game > 0) given.set('game', String(record.game));
+  if (step > 0) given.set('step', String(step));
   if (times > 0) given.set('shuffle', shuffleText(record.game, shuffle));
-  if (isSorted) given.set('sorted', 1);
+  if (isSorted) given.set('sorted', '1');
   return `#${given}`;
 }
 

@@ -243,7 +243,7 @@ function beginAsKept() {
 // Begins with what the browser keeps, or with the example; a link that is opened, and not reloaded, is followed from
 // there.
 async function show() {
-  const [navigation] = performance.getEntriesByType('navigation');
+  const [navigation] = /** @type {PerformanceNavigationTiming[]} */ (performance.getEntriesByType('navigation'));
   const isKept = beginAsKept();
   if (!isKept) begin({ bytes: example() });
   await store.read;

@@ -202,7 +202,7 @@ export function drawChosen() {
   for (const button of at('groups').querySelectorAll('button')) {
     const isShown = Number(button.value) === shown?.base.number;
     if (isShown && button.ariaPressed !== 'true') bringInSight(button);
-    button.ariaPressed = isShown;
+    button.ariaPressed = String(isShown);
   }
 }
 

@@ -97,6 +97,7 @@ function sidesOf({ record: { game, passage }, steps: { boards, images }, step, s
 }
 
 // How many rows the boards have room for; they do not shrink while one record is shown.
+/** @param {any} state */
 function mostRows({ base, sides }) {
   const rows = Math.max(...sides.own.subarray(PLACE.lengths, PLACE.cards)) - 1;
   const before = shown?.base.name === base.name ? shown.most : MOST_ROWS.least;

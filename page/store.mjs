@@ -14,6 +14,8 @@ export const AT_FIRST = {
 };
 const EMPTY = { bytes: new Uint8Array(), game: 0, number: 1, name: null, begun: [], imported: null, ...AT_FIRST };
 
+// What is drawn, and who is called, is put here by main.mjs.
+/** @type {{ [name: string]: any }} */
 export const store = {
   state: EMPTY, history: new History(), read: null, draw: () => {}, acted: () => {}, touched: () => {},
 };

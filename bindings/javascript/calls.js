@@ -13,6 +13,7 @@ export const SUITS = 'CDHS';
 export const RANKS = 'A23456789TJQK';
 export const CELLS = 'abcdefgk';
 
+/** @type {any} */
 let calls = null;
 let firstFree = 0; // the place after the module's data
 
