@@ -9,6 +9,7 @@ import { amend, store } from './store.mjs';
 
 const MOST_NOTES = 100;
 const QUESTION = 'may be columns or rows'; // in a note that asks
+const OPTIONS = ', with --columns or --rows'; // how the program is answered
 
 // The text as it was given, and all that is said of it.
 function takeImport(given, what, { text, said }) {
@@ -49,9 +50,12 @@ export async function importAsNeeded() {
   if (done.said.length > 0) takeImport(bytes, 'the import', done);
 }
 
+// A note of the program in the words of the page, which has buttons in the place of options.
+const noteOf = (note) => note.replace(/^fcanon: /, '').replace(OPTIONS, ', by a button');
+
 export function drawImported() {
   const { imported } = store.state;
-  const notes = imported?.said.split('\n').slice(0, -1).map((note) => note.replace(/^fcanon: /, '')) ?? [];
+  const notes = imported?.said.split('\n').slice(0, -1).map(noteOf) ?? [];
   at('imported').hidden = !imported;
   at('ask').hidden = !notes.some((note) => note.endsWith(QUESTION) || note.includes(`${QUESTION}:`));
   const drawn = [...at('notes').children].map((item) => item.textContent);
