@@ -7,3 +7,4 @@ mod PutCards
 mod ChildrenLemmas
 mod LegalMoves
 mod RunMoves
+pub mod SumLemmas

@@ -1,4 +1,5 @@
 -- Boards, passages and moves as bytes, and what calls of C do.
+pub mod class_hash
 pub mod inside
 use Rattle.std.specs.{Int.{to_le_bytes, w64}, List.{Contains, filter, flat_map}}
 use Rattle.std.specs.{Option.{is_none, unwrap_or}, Prelude.{◌++◌, ◌+◌, ◌-◌, ◌<◌, ◌↔◌, ◌∷◌, ◌≡◌}}

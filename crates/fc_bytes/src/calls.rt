@@ -9,5 +9,6 @@ pub mod keys;
 pub mod moves;
 pub mod run_moves;
 pub mod runs;
+pub mod sums;
 pub mod symmetry;
 pub mod texts;

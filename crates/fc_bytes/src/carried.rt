@@ -45,8 +45,9 @@ fn bytes_of(cells: &[Option<Card>]) -> [u8; 8]
     bytes
 }
 
-fn byte_of(cell: Option<Card>) -> u8
-    ensures { result ≡ cell_byte cell }
+pub(crate) fn byte_of(cell: Option<Card>) -> u8
+    ensures byte { result ≡ cell_byte cell }
+    ensures within { result ≤ 52 }
 {
     match cell {
         Some(card) => card.number() + 1,

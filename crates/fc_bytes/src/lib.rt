@@ -5,12 +5,14 @@
 mod board;
 pub mod calls;
 mod carried;
+mod class_hash;
 mod hash;
 mod moves;
 mod passage;
 mod runs;
 
 pub use board::BoardBytes;
+pub use class_hash::ClassSums;
 pub use moves::MoveBytes;
 pub use passage::{PassageBytes, suit_bytes};
 pub use runs::RunBytes;

@@ -21,6 +21,7 @@ mod children;
 mod keys;
 mod moves;
 mod runs;
+mod sums;
 mod symmetry;
 mod texts;
 mod words;
