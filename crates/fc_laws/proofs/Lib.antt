@@ -2,6 +2,7 @@ pub mod AcceptanceLemmas
 pub mod AloneLemmas
 pub mod CanonicalAgainLemmas
 pub mod CaseLemmas
+pub mod ClassHashLemmas
 pub mod CommentLemmas
 pub mod ExampleLemmas
 pub mod ExpandAgainLemmas

@@ -6,6 +6,7 @@ pub mod boards;
 pub mod bytes;
 pub mod canonical;
 pub mod cards;
+pub mod class_hashes;
 pub mod collections;
 pub mod deals;
 pub mod headline;

@@ -1,0 +1,57 @@
+//! Laws of the hash of a board's class, and of the sums from which it is made.
+ghost use Rattle.std.specs.Prelude.{◌+◌, ◌∷◌, ◌≡◌, [], List, Some, ℕ};
+ghost use Rattle.fc_board.specs.{Boards.{Board, IsWellFormed}, Steps.{card_at, Step}};
+ghost use Rattle.fc_board.specs.declared.moves.Move.{Move};
+ghost use Rattle.fc_board.specs.Games.{all_renamings, colour_renamings};
+ghost use Rattle.fc_bytes.specs.class_hash.{AreMoved, AreSums, CanMove, class_hash, class_sum};
+ghost use Rattle.fc_bytes.specs.class_hash.{class_sums, hash_of_sums, lies_on, moved_sum, put_onto, sums_in};
+ghost use Rattle.fc_bytes.specs.declared.class_hash.ClassSums.{ClassSums};
+ghost use Rattle.fc_laws.specs.BoardExamples.{two_spades_left};
+ghost use Rattle.fc_laws.specs.CanonicalExamples.{clubs_king_left};
+ghost use Rattle.fc_canon.specs.{Equivalent};
+
+use fc_board::Rule;
+
+/// Equivalent boards have one class hash.
+pub fn equivalent_boards_have_one_class_hash<R: Rule>()
+    ensures { (board other : Board) → IsWellFormed R.game board → Equivalent R.game board other
+        → class_hash R.renamings board ≡ class_hash R.renamings other }
+{}
+
+/// A move takes out of each sum what its card counts on what it lay on, and puts in what the card
+/// counts on what it lies on then. Both are numbers with which sums can be moved.
+pub fn moves_change_one_term<R: Rule>()
+    ensures sums { (board after : Board) (move : Move) (card : ℕ) (renaming : List ℕ)
+        → IsWellFormed R.game board → Step R.game board move after
+        → card_at board move.from ≡ Some card
+        → class_sum after renaming
+        ≡ moved_sum (card + 1) (lies_on board move.from) (put_onto board move.to) renaming
+        (class_sum board renaming) }
+    ensures numbers { (board after : Board) (move : Move) (card : ℕ) → IsWellFormed R.game board
+        → Step R.game board move after → card_at board move.from ≡ Some card
+        → CanMove (card + 1) (lies_on board move.from) (put_onto board move.to) }
+{}
+
+/// Sums that are moved as the board is stay the sums of the board, and from the sums of a board its
+/// class hash is made: so a search needs no more than them.
+pub fn sums_stay_those_of_the_board<R: Rule>()
+    ensures moved { (board after : Board) (move : Move) (card : ℕ) (old new : ClassSums)
+        → IsWellFormed R.game board → Step R.game board move after
+        → card_at board move.from ≡ Some card → AreSums (class_sums R.renamings board) old
+        → AreMoved R.renamings (card + 1) (lies_on board move.from) (put_onto board move.to) old new
+        → AreSums (class_sums R.renamings after) new }
+    ensures hash { (board : Board) (sums : ClassSums) → AreSums (class_sums R.renamings board) sums
+        → hash_of_sums (sums_in R.renamings sums) ≡ class_hash R.renamings board }
+{}
+
+/// The class hashes of two boards, as another program computes them: with KC on the foot of a
+/// column in FreeCell, and with QS and KS in cells in Eight Off.
+#[rattlefmt::skip]
+pub fn class_hashes_of_boards()
+    ensures clubs_king_left { class_hash colour_renamings clubs_king_left
+        ≡ 192 ∷ 22 ∷ 122 ∷ 36 ∷ 9 ∷ 139 ∷ 227 ∷ 149
+        ∷ 53 ∷ 172 ∷ 227 ∷ 88 ∷ 4 ∷ 223 ∷ 222 ∷ 12 ∷ [] }
+    ensures two_spades_left { class_hash all_renamings two_spades_left
+        ≡ 249 ∷ 155 ∷ 240 ∷ 211 ∷ 156 ∷ 165 ∷ 28 ∷ 29
+        ∷ 68 ∷ 107 ∷ 196 ∷ 185 ∷ 75 ∷ 10 ∷ 155 ∷ 37 ∷ [] }
+{}
