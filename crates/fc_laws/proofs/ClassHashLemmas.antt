@@ -25,7 +25,8 @@ use Rattle.fc_card.specs.laws.RenamingLaws.{renamed_card-IsCard, renamed_card-pr
 use Rattle.fc_board.proofs.BoardLemmas.{in_columns}
 use Rattle.fc_board.proofs.CarriedLemmas.{carried-IsWellFormed, Carries-inverse}
 use Rattle.fc_board.proofs.ConfinedLemmas.{empty_from_last}
-use Rattle.fc_board.proofs.DeckLemmas.{inside_columns, split_last}
+use Rattle.fc_board.proofs.DeckLemmas.{inside_cells, inside_columns, split_last}
+use Rattle.fc_bytes.proofs.SumLemmas.{least_bound}
 use Rattle.fc_board.proofs.RenamingLemmas.{product-listed}
 use Rattle.fc_board.specs.Boards.{Board, IsWellFormed}
 use Rattle.fc_board.specs.Games.{Game, RuleLaws}
@@ -51,39 +52,48 @@ place_of_card : (renaming : List ℕ) (byte : ℕ) → byte ≤ 52 → renamed_p
 place_of_card renaming byte few = ap (λ test. cond test (renamed_code renaming byte) byte) (le-leb byte 52 few)
 
 module _ (first next : List ℕ) (one : IsRenaming first) (two : IsRenaming next) where
-  twice : (card : ℕ) → renamed_code (renaming_product first next) (card + 1) ≡ renamed_code next (renamed_card first card + 1)
+  twice : (card : ℕ) → renamed_code (renaming_product first next) (card + 1)
+      ≡ renamed_code next (renamed_card first card + 1)
   twice card =
       number-renamed (renaming_product first next) card
-      ∙ ap (λ n. n + 1) (renamed_card-product first next card one two) ∙ sym (number-renamed next (renamed_card first card))
+      ∙ ap (λ n. n + 1) (renamed_card-product first next card one two)
+      ∙ sym (number-renamed next (renamed_card first card))
 
-  place_twice : (card : ℕ) → IsCard card → renamed_place (renaming_product first next) (card + 1) ≡ renamed_place next (renamed_card first card + 1)
+  place_twice : (card : ℕ) → IsCard card → renamed_place (renaming_product first next) (card + 1)
+      ≡ renamed_place next (renamed_card first card + 1)
   place_twice card in_deck =
       let image = renamed_card-IsCard first card one in_deck in
       place_of_card (renaming_product first next) (card + 1) (omega (arith, in_deck)) ∙ twice card
       ∙ sym (place_of_card next (renamed_card first card + 1) (omega (arith, image)))
 
-  column_twice : (column : List ℕ) (on image : ℕ) → All IsCard column → renamed_place (renaming_product first next) on ≡ renamed_place next image →
+  column_twice : (column : List ℕ) (on image : ℕ) → All IsCard column → renamed_place (renaming_product first next) on
+      ≡ renamed_place next image →
       column_total next image (renamed_column first column) ≡ column_total (renaming_product first next) on column
   column_twice [] on image are same = refl
   column_twice (card ∷ column) on image are same =
       ap₂ (λ (a b : ℕ). a + b)
       (ap₂ (λ (code place : ℕ). card_weight code * place_weight place) (sym (twice card)) (sym same))
-      (column_twice column (card + 1) (renamed_card first card + 1) (All-tail IsCard card column are) (place_twice card (All-head IsCard card column are)))
+      (column_twice column (card + 1) (renamed_card first card + 1) (All-tail IsCard card column are)
+      (place_twice card (All-head IsCard card column are)))
 
-  cell_twice : (cell : Option ℕ) → cell_total next (renamed_cell first cell) ≡ cell_total (renaming_product first next) cell
+  cell_twice : (cell : Option ℕ) → cell_total next (renamed_cell first cell)
+      ≡ cell_total (renaming_product first next) cell
   cell_twice None = refl
   cell_twice (Some card) = ap (λ code. card_weight code * place_weight 53) (sym (twice card))
 
   columns_twice : (columns : List (List ℕ)) → All (All IsCard) columns →
-      sum_by (column_total next 0) (map (renamed_column first) columns) ≡ sum_by (column_total (renaming_product first next) 0) columns
+      sum_by (column_total next 0) (map (renamed_column first) columns)
+          ≡ sum_by (column_total (renaming_product first next) 0) columns
   columns_twice [] are = refl
   columns_twice (column ∷ columns) are =
       sum_by-cons (column_total next 0) (renamed_column first column) (map (renamed_column first) columns)
-      ∙ ap₂ (λ (a b : ℕ). a + b) (column_twice column 0 0 (All-head (All IsCard) column columns are) refl) (columns_twice columns (All-tail (All IsCard) column columns are))
+      ∙ ap₂ (λ (a b : ℕ). a + b) (column_twice column 0 0 (All-head (All IsCard) column columns are) refl)
+      (columns_twice columns (All-tail (All IsCard) column columns are))
       ∙ sym (sum_by-cons (column_total (renaming_product first next) 0) column columns)
 
   cells_twice : (cells : List (Option ℕ)) →
-      sum_by (cell_total next) (map (renamed_cell first) cells) ≡ sum_by (cell_total (renaming_product first next)) cells
+      sum_by (cell_total next) (map (renamed_cell first) cells)
+          ≡ sum_by (cell_total (renaming_product first next)) cells
   cells_twice [] = refl
   cells_twice (cell ∷ cells) =
       sum_by-cons (cell_total next) (renamed_cell first cell) (map (renamed_cell first) cells)
@@ -91,65 +101,81 @@ module _ (first next : List ℕ) (one : IsRenaming first) (two : IsRenaming next
       ∙ sym (sum_by-cons (cell_total (renaming_product first next)) cell cells)
 
 -- a sum of the board that a passage leads to is one of the board
-carried_total : (game : Game) (passage : Passage) (board : Board) (renaming : List ℕ) → IsPassage game passage → IsWellFormed game board → IsRenaming renaming →
+carried_total : (game : Game) (passage : Passage) (board : Board) (renaming : List ℕ) → IsPassage game passage
+    → IsWellFormed game board → IsRenaming renaming →
     board_total (carried passage board) renaming ≡ board_total board (renaming_product passage.renaming renaming)
 carried_total game passage board renaming is well two =
     let columns = map (renamed_column passage.renaming) board.columns in
     let cells = map (renamed_cell passage.renaming) board.cells in
-    let eight = length-map board.columns (renamed_column passage.renaming) ∙ well.piles.eight_columns ∙ sym is.orders.eight_columns in
+    let eight = length-map board.columns (renamed_column passage.renaming) ∙ well.piles.eight_columns
+        ∙ sym is.orders.eight_columns in
     let all = length-map board.cells (renamed_cell passage.renaming) ∙ well.piles.all_cells ∙ sym is.orders.all_cells in
     ap₂ (λ (a b : ℕ). a + b)
-    (sum_by-IsPermutation (column_total renaming 0) columns (pick columns passage.columns) (IsPermutation-pick columns passage.columns is.orders.of_columns eight)
+    (sum_by-IsPermutation (column_total renaming 0) columns (pick columns passage.columns)
+    (IsPermutation-pick columns passage.columns is.orders.of_columns eight)
     ∙ columns_twice passage.renaming renaming is.renames two board.columns (in_columns game board well))
-    (sum_by-IsPermutation (cell_total renaming) cells (pick cells passage.cells) (IsPermutation-pick cells passage.cells is.orders.of_cells all)
+    (sum_by-IsPermutation (cell_total renaming) cells (pick cells passage.cells)
+    (IsPermutation-pick cells passage.cells is.orders.of_cells all)
     ∙ cells_twice passage.renaming renaming is.renames two board.cells)
 
 -- ---- the least sum
-least_few : (sums : List ℕ) → least_sum sums ≤ 2 ^ 128 - 1
-least_few [] = omega arith
-least_few (sum ∷ sums) = omega (arith, least_few sums)
-
 least_below : (sums : List ℕ) (place : ℕ) → place < length sums → least_sum sums ≤ get_or sums place 0
 least_below [] place inside = omega (arith, inside)
 least_below (sum ∷ sums) zero inside = omega arith
-least_below (sum ∷ sums) (suc place) inside = let below = least_below sums place (omega (arith, inside)) in omega (arith, below)
+least_below (sum ∷ sums) (suc place) inside = let below = least_below sums place (omega (arith, inside)) in omega
+    (arith, below)
 
-bound_below : (bound : ℕ) (sums : List ℕ) → bound ≤ 2 ^ 128 - 1 → ((place : ℕ) → place < length sums → bound ≤ get_or sums place 0) → bound ≤ least_sum sums
+bound_below : (bound : ℕ) (sums : List ℕ) → bound ≤ 2 ^ 128 - 1
+    → ((place : ℕ) → place < length sums → bound ≤ get_or sums place 0) → bound ≤ least_sum sums
 bound_below bound [] few below = few
 bound_below bound (sum ∷ sums) few below =
     let here : bound ≤ sum = below 0 (omega arith) in
     let rest = bound_below bound sums few (λ place inside. below (suc place) (omega (arith, inside))) in
     omega (arith, here, rest)
 
-module _ {game : Game} {renamings : List (List ℕ)} {cells count : ℕ} {kings_only : Bool} (laws : RuleLaws game renamings cells count kings_only) where
+module _ {game : Game} {renamings : List (List ℕ)} {cells count : ℕ} {kings_only : Bool}
+    (laws : RuleLaws game renamings cells count kings_only) where
   -- each sum of the other board is one of the board
-  least_there : (passage : Passage) (board : Board) → IsPassage game passage → IsWellFormed game board → (place : ℕ) → place < length renamings →
+  least_there : (passage : Passage) (board : Board) → IsPassage game passage → IsWellFormed game board → (place : ℕ)
+      → place < length renamings →
       least_sum (class_sums renamings board) ≤ get_or (class_sums renamings (carried passage board)) place 0
   least_there passage board is well place inside =
       let renaming = get_or renamings place [] in
       let listed : Contains renamings renaming = (place, inside, get_or_default renamings place renaming [] inside) in
-      let (j, within, found) = product-listed laws passage.renaming renaming (laws.keeping_are_listed passage.renaming is.renames is.keeps) listed in
+      let (j, within, found) = product-listed laws passage.renaming renaming
+          (laws.keeping_are_listed passage.renaming is.renames is.keeps) listed in
       let both = renaming_product passage.renaming renaming in
       let one : get_or (class_sums renamings (carried passage board)) place 0 ≡ class_sum board both =
       get_or-map (class_sum (carried passage board)) renamings place [] 0 inside
-      ∙ ap (λ total. total % 2 ^ 128) (carried_total game passage board renaming is well (laws.listed_are_renamings renaming listed)) in
-      let other : get_or (class_sums renamings board) j 0 ≡ class_sum board both = get_or-map (class_sum board) renamings j both 0 within ∙ ap (class_sum board) found in
-      let below = least_below (class_sums renamings board) j (omega (arith, within, length-map renamings (class_sum board))) in
+      ∙ ap (λ total. total % 2 ^ 128) (carried_total game passage board renaming is well
+      (laws.listed_are_renamings renaming listed)) in
+      let other : get_or (class_sums renamings board) j 0
+          ≡ class_sum board both = get_or-map (class_sum board) renamings j both 0 within
+          ∙ ap (class_sum board) found in
+      let below = least_below (class_sums renamings board) j
+          (omega (arith, within, length-map renamings (class_sum board))) in
       omega (arith, one, other, below)
 
   least_half : (passage : Passage) (board other : Board) → IsWellFormed game board → Carries game passage board other →
       least_sum (class_sums renamings board) ≤ least_sum (class_sums renamings other)
   least_half passage board other well carries =
-      subst (λ other. least_sum (class_sums renamings board) ≤ least_sum (class_sums renamings other)) (sym carries.there)
-      (bound_below (least_sum (class_sums renamings board)) (class_sums renamings (carried passage board)) (least_few (class_sums renamings board))
-      (λ place inside. least_there passage board carries.is_passage well place (omega (arith, inside, length-map renamings (class_sum (carried passage board))))))
+      subst (λ other. least_sum (class_sums renamings board) ≤ least_sum (class_sums renamings other))
+          (sym carries.there)
+      (bound_below (least_sum (class_sums renamings board)) (class_sums renamings (carried passage board))
+      (least_bound (class_sums renamings board))
+      (λ place inside. least_there passage board carries.is_passage well place
+      (omega (arith, inside, length-map renamings (class_sum (carried passage board))))))
 
-  pub one_class_hash : (board other : Board) → IsWellFormed game board → Equivalent game board other → class_hash renamings board ≡ class_hash renamings other
+  pub one_class_hash : (board other : Board) → IsWellFormed game board → Equivalent game board other
+      → class_hash renamings board ≡ class_hash renamings other
   one_class_hash board other well (passage, carries) =
-      let there = subst (IsWellFormed game) (sym carries.there) (carried-IsWellFormed game passage board carries.is_passage well) in
+      let there = subst (IsWellFormed game) (sym carries.there)
+          (carried-IsWellFormed game passage board carries.is_passage well) in
       let forth = least_half passage board other well carries in
-      let back = least_half (inverse_passage passage) other board there (Carries-inverse game passage board other well.piles carries) in
-      let same : least_sum (class_sums renamings board) ≡ least_sum (class_sums renamings other) = omega (arith, forth, back) in
+      let back = least_half (inverse_passage passage) other board there
+          (Carries-inverse game passage board other well.piles carries) in
+      let same : least_sum (class_sums renamings board)
+          ≡ least_sum (class_sums renamings other) = omega (arith, forth, back) in
       ap (to_le_bytes w128) same
 
 -- ---- a card more at the end of a column
@@ -169,9 +195,11 @@ add-zero : (n : ℕ) → n + 0 ≡ 0 + n
 add-zero n = omega arith
 
 total_pushed : (renaming : List ℕ) (on card : ℕ) (front : List ℕ) →
-    column_total renaming on (front ++ card ∷ []) ≡ column_total renaming on front + term renaming (card + 1) (top on front)
+    column_total renaming on (front ++ card ∷ []) ≡ column_total renaming on front + term renaming (card + 1)
+        (top on front)
 total_pushed renaming on card [] = add-zero (term renaming (card + 1) on)
-total_pushed renaming on card (first ∷ front) = let rest = total_pushed renaming (first + 1) card front in omega (arith, rest)
+total_pushed renaming on card (first ∷ front) = let rest = total_pushed renaming (first + 1) card front in omega
+    (arith, rest)
 
 -- the place has room for a card
 abbrev HasRoom : Board → Place → Type 0
@@ -181,8 +209,10 @@ HasRoom board Home = Unit {0}
 
 module _ (renaming : List ℕ) where
   pushed : (card : ℕ) (front : List ℕ) →
-      column_total renaming 0 (front ++ card ∷ []) ≡ column_total renaming 0 front + term renaming (card + 1) (cell_byte (last_card front))
-  pushed card front = total_pushed renaming 0 card front ∙ ap (λ on. column_total renaming 0 front + term renaming (card + 1) on) (top_is front (last_card front) refl)
+      column_total renaming 0 (front ++ card ∷ []) ≡ column_total renaming 0 front + term renaming (card + 1)
+          (cell_byte (last_card front))
+  pushed card front = total_pushed renaming 0 card front
+      ∙ ap (λ on. column_total renaming 0 front + term renaming (card + 1) on) (top_is front (last_card front) refl)
 
   no_card : cell_total renaming None ≡ 0
   no_card = omega arith
@@ -190,14 +220,9 @@ module _ (renaming : List ℕ) where
   goes_home : (card : ℕ) → term renaming card 54 ≡ 0
   goes_home card = omega arith
 
-  inside_cells : (cells : List (Option ℕ)) (cell card : ℕ) → get_or cells cell None ≡ Some card → cell < length cells
-  inside_cells cells cell card found = elim (cases_lt cell (length cells)) [
-    | inl inside ↦ inside
-    | inr past ↦ (let none = sym (get_or_past cells cell None past) ∙ found in cc)
-  ]
-
   taken_total : (board : Board) (from : Source) (card : ℕ) → card_at board from ≡ Some card →
-      board_total board renaming ≡ board_total (taken_from board from) renaming + term renaming (card + 1) (lies_on board from)
+      board_total board renaming ≡ board_total (taken_from board from) renaming + term renaming (card + 1)
+          (lies_on board from)
   taken_total board (FromColumn column) card found =
       let was = column_at board column in
       let inside = inside_columns board.columns column card found in
@@ -211,7 +236,8 @@ module _ (renaming : List ℕ) where
       omega (arith, set_there, held, no_card)
 
   put_total : (board : Board) (card : ℕ) (to : Place) → HasRoom board to →
-      board_total (put_on board card to) renaming ≡ board_total board renaming + term renaming (card + 1) (put_onto board to)
+      board_total (put_on board card to) renaming ≡ board_total board renaming + term renaming (card + 1)
+          (put_onto board to)
   put_total board card (ToColumn column) inside =
       let was = column_at board column in
       let set_there = sum_by-set (column_total renaming 0) board.columns column (was ++ card ∷ []) [] inside in
@@ -229,13 +255,16 @@ sum_moved before after out onto same = omega (arith, same)
 
 module _ (game : Game) (board : Board) (well : IsWellFormed game board) where
   -- where the target is another pile, it is as it was when the card is taken
-  room_left : (move : Move) (card : ℕ) → Fits game move → Offers board move card → MayGo game board card move.to → HasRoom (taken_from board move.from) move.to
+  room_left : (move : Move) (card : ℕ) → Fits game move → Offers board move card → MayGo game board card move.to
+      → HasRoom (taken_from board move.from) move.to
   room_left move card fits offered goes = by move.from move.to fits offered goes
     where
-      by : (from : Source) (to : Place) → Fits game (move_between from to) → Offers board (move_between from to) card → MayGo game board card to
+      by : (from : Source) (to : Place) → Fits game (move_between from to) → Offers board (move_between from to) card
+          → MayGo game board card to
           → HasRoom (taken_from board from) to
       by (FromColumn column) (ToColumn other) fits offered goes =
-          omega (arith, fits.1, well.piles.eight_columns, length-set board.columns column (without_last (column_at board column)))
+          omega (arith, fits.1, well.piles.eight_columns, length-set board.columns column
+              (without_last (column_at board column)))
       by (FromCell cell) (ToColumn other) fits offered goes = omega (arith, fits.1, well.piles.eight_columns)
       by (FromColumn column) (ToCell cell) fits offered goes = (omega (arith, fits.1, well.piles.all_cells), goes)
       by (FromCell cell) (ToCell other) fits offered goes = (
@@ -244,19 +273,23 @@ module _ (game : Game) (board : Board) (well : IsWellFormed game board) where
       )
       by from Home fits offered goes = tt
 
-  same_target : (move : Move) (card : ℕ) → Offers board move card → put_onto (taken_from board move.from) move.to ≡ put_onto board move.to
+  same_target : (move : Move) (card : ℕ) → Offers board move card → put_onto (taken_from board move.from) move.to
+      ≡ put_onto board move.to
   same_target move card offered = by move.from move.to offered.0
     where
-      by : (from : Source) (to : Place) → is_same_pile from to ≡ false → put_onto (taken_from board from) to ≡ put_onto board to
+      by : (from : Source) (to : Place) → is_same_pile from to ≡ false → put_onto (taken_from board from) to
+          ≡ put_onto board to
       by (FromColumn column) (ToColumn other) apart =
           ap (λ column. cell_byte (last_card column))
-          (get_or-set_other board.columns column other (without_last (column_at board column)) [] (λ same. eqb-false column other apart (sym same)))
+          (get_or-set_other board.columns column other (without_last (column_at board column)) []
+          (λ same. eqb-false column other apart (sym same)))
       by (FromCell cell) (ToColumn other) apart = refl
       by from (ToCell cell) apart = refl
       by from Home apart = refl
 
   pub sum_after : (after : Board) (move : Move) (step : Step game board move after) (renaming : List ℕ) →
-      class_sum after renaming ≡ moved_sum (step.card + 1) (lies_on board move.from) (put_onto board move.to) renaming (class_sum board renaming)
+      class_sum after renaming ≡ moved_sum (step.card + 1) (lies_on board move.from) (put_onto board move.to) renaming
+          (class_sum board renaming)
   sum_after after move step renaming =
       let card = step.card in
       let left = taken_from board move.from in
@@ -276,7 +309,8 @@ words_back : (all : List ℕ) → map sum_in (map words_of all) ≡ all
 words_back [] = refl
 words_back (sum ∷ all) = ap₂ (λ (sum : ℕ) (all : List ℕ). sum ∷ all) (word_back sum) (words_back all)
 
-pub sums_read : (renamings : List (List ℕ)) (all : List ℕ) (sums : ClassSums) → length all ≡ length renamings → AreSums all sums → sums_in renamings sums ≡ all
+pub sums_read : (renamings : List (List ℕ)) (all : List ℕ) (sums : ClassSums) → length all ≡ length renamings
+    → AreSums all sums → sums_in renamings sums ≡ all
 sums_read renamings all sums long are =
     let zeros : List ℕ = drop (length all) (replicate 24 0) in
     ap (λ words. map sum_in (take (length renamings) words)) are
@@ -287,7 +321,8 @@ sums_read renamings all sums long are =
 
 module _ (all : List ℕ) (few : length all ≤ 24) where
   padded_long : length (padded 24 all) ≡ 24
-  padded_long = omega (arith, few, length-append all (drop (length all) (replicate 24 0)), length-drop (length all) (replicate {A = ℕ} 24 0))
+  padded_long = omega (arith, few, length-append all (drop (length all) (replicate 24 0)), length-drop (length all)
+      (replicate {A = ℕ} 24 0))
 
   padded_here : (place : ℕ) → place < length all → get_or (padded 24 all) place 0 ≡ get_or all place 0
   padded_here place inside = get_or-append all (drop (length all) (replicate 24 0)) 0 place inside
@@ -299,40 +334,53 @@ module _ (all : List ℕ) (few : length all ≤ 24) where
       ∙ get_or-drop (length all) (replicate 24 0) (place - length all) 0
       ∙ ap (λ k. get_or (replicate 24 0) k 0) there ∙ get_or-replicate 24 place 0 0 inside
 
-  sum_at : (sums : ClassSums) (place : ℕ) → AreSums all sums → place < 24 → get_or sums.sums place [] ≡ words_of (get_or (padded 24 all) place 0)
-  sum_at sums place are inside = ap (λ words. get_or words place []) are ∙ get_or-map words_of (padded 24 all) place 0 [] (omega (arith, inside, padded_long))
+  sum_at : (sums : ClassSums) (place : ℕ) → AreSums all sums → place < 24 → get_or sums.sums place []
+      ≡ words_of (get_or (padded 24 all) place 0)
+  sum_at sums place are inside = ap (λ words. get_or words place []) are
+      ∙ get_or-map words_of (padded 24 all) place 0 [] (omega (arith, inside, padded_long))
 
 -- sums that are moved as the board is are the sums of the board
-pub sums_kept : (game : Game) (renamings : List (List ℕ)) (board after : Board) (move : Move) (step : Step game board move after) (old new : ClassSums) →
+pub sums_kept : (game : Game) (renamings : List (List ℕ)) (board after : Board) (move : Move)
+    (step : Step game board move after) (old new : ClassSums) →
     IsWellFormed game board → length renamings ≤ 24 → AreSums (class_sums renamings board) old →
-    AreMoved renamings (step.card + 1) (lies_on board move.from) (put_onto board move.to) old new → AreSums (class_sums renamings after) new
+    AreMoved renamings (step.card + 1) (lies_on board move.from) (put_onto board move.to) old new
+        → AreSums (class_sums renamings after) new
 sums_kept game renamings board after move step old new well few are (long, left, moved) =
     let all = class_sums renamings board in
     let all' = class_sums renamings after in
     let n : length all ≡ length renamings = length-map renamings (class_sum board) in
     let n' : length all' ≡ length renamings = length-map renamings (class_sum after) in
-    let old_long : length old.sums ≡ 24 = ap length are ∙ length-map (padded 24 all) words_of ∙ padded_long all (omega (arith, n, few)) in
-    let new_long : length (map words_of (padded 24 all')) ≡ 24 = length-map (padded 24 all') words_of ∙ padded_long all' (omega (arith, n', few)) in
+    let old_long : length old.sums ≡ 24 = ap length are ∙ length-map (padded 24 all) words_of
+        ∙ padded_long all (omega (arith, n, few)) in
+    let new_long : length (map words_of (padded 24 all')) ≡ 24 = length-map (padded 24 all') words_of
+        ∙ padded_long all' (omega (arith, n', few)) in
     ext_get_or [] new.sums (map words_of (padded 24 all')) (omega (arith, long, old_long, new_long)) (λ place inside.
     let within : place < 24 = omega (arith, inside, long, old_long) in
-    let there = get_or-map words_of (padded 24 all') place 0 [] (omega (arith, within, padded_long all' (omega (arith, n', few)))) in
+    let there = get_or-map words_of (padded 24 all') place 0 []
+        (omega (arith, within, padded_long all' (omega (arith, n', few)))) in
     elim (cases_lt place (length renamings)) [
       | inl here ↦
           let renaming = get_or renamings place [] in
           let was : sum_in (get_or old.sums place []) ≡ class_sum board renaming =
-          ap sum_in (sum_at all (omega (arith, n, few)) old place are within) ∙ word_back (get_or (padded 24 all) place 0)
-          ∙ padded_here all (omega (arith, n, few)) place (omega (arith, here, n)) ∙ get_or-map (class_sum board) renamings place [] 0 here in
+          ap sum_in (sum_at all (omega (arith, n, few)) old place are within)
+              ∙ word_back (get_or (padded 24 all) place 0)
+          ∙ padded_here all (omega (arith, n, few)) place (omega (arith, here, n))
+          ∙ get_or-map (class_sum board) renamings place [] 0 here in
           let now : get_or (padded 24 all') place 0 ≡ class_sum after renaming =
-          padded_here all' (omega (arith, n', few)) place (omega (arith, here, n')) ∙ get_or-map (class_sum after) renamings place [] 0 here in
+          padded_here all' (omega (arith, n', few)) place (omega (arith, here, n'))
+              ∙ get_or-map (class_sum after) renamings place [] 0 here in
           moved place here
-          ∙ ap (λ sum. words_of (moved_sum (step.card + 1) (lies_on board move.from) (put_onto board move.to) renaming sum)) was
+          ∙ ap (λ sum. words_of (moved_sum (step.card + 1) (lies_on board move.from)
+          (put_onto board move.to) renaming sum)) was
           ∙ ap words_of (sym (sum_after game board well after move step renaming) ∙ sym now) ∙ sym there
       | inr past ↦
           let rest : length renamings + (place - length renamings) ≡ place = omega (arith, past) in
           let kept : get_or new.sums place [] ≡ get_or old.sums place [] =
-          ap (λ k. get_or new.sums k []) (sym rest) ∙ sym (get_or-drop (length renamings) new.sums (place - length renamings) [])
+          ap (λ k. get_or new.sums k []) (sym rest) ∙ sym
+              (get_or-drop (length renamings) new.sums (place - length renamings) [])
           ∙ ap (λ sums. get_or sums (place - length renamings) []) left
-          ∙ get_or-drop (length renamings) old.sums (place - length renamings) [] ∙ ap (λ k. get_or old.sums k []) rest in
+          ∙ get_or-drop (length renamings) old.sums (place - length renamings) []
+          ∙ ap (λ k. get_or old.sums k []) rest in
           kept ∙ sum_at all (omega (arith, n, few)) old place are within
           ∙ ap words_of (padded_past all (omega (arith, n, few)) place (omega (arith, past, n)) within
           ∙ sym (padded_past all' (omega (arith, n', few)) place (omega (arith, past, n')) within))
@@ -343,25 +391,30 @@ sums_kept game renamings board after move step old new well few are (long, left,
 card_below : (column : List ℕ) (last : Option ℕ) → All IsCard column → last_card column ≡ last → cell_byte last ≤ 52
 card_below column None are found = omega arith
 card_below column (Some card) are found =
-    let in_deck = All-head IsCard card [] (All-right IsCard (without_last column) (card ∷ []) (subst (All IsCard) (split_last column card found) are)) in
+    let in_deck = All-head IsCard card [] (All-right IsCard (without_last column) (card ∷ [])
+        (subst (All IsCard) (split_last column card found) are)) in
     omega (arith, in_deck)
 
 module _ (game : Game) (board : Board) (well : IsWellFormed game board) where
   column_cards : (column : ℕ) → column < 8 → All IsCard (column_at board column)
-  column_cards column inside = All-get_or (All IsCard) board.columns column [] (omega (arith, inside, well.piles.eight_columns)) (in_columns game board well)
+  column_cards column inside = All-get_or (All IsCard) board.columns column []
+      (omega (arith, inside, well.piles.eight_columns)) (in_columns game board well)
 
   taken_card : (from : Source) (card : ℕ) → SourceFits game from → card_at board from ≡ Some card → card + 1 ≤ 52
-  taken_card (FromColumn column) card fits found = card_below (column_at board column) (Some card) (column_cards column fits) found
+  taken_card (FromColumn column) card fits found = card_below (column_at board column) (Some card)
+      (column_cards column fits) found
   taken_card (FromCell cell) card fits found =
       let in_deck : IsCell (Some card) =
-      subst IsCell found (All-get_or IsCell board.cells cell None (omega (arith, fits, well.piles.all_cells)) (in_cells game board well)) in
+      subst IsCell found (All-get_or IsCell board.cells cell None (omega (arith, fits, well.piles.all_cells))
+          (in_cells game board well)) in
       omega (arith, in_deck)
 
   lies_below : (from : Source) → SourceFits game from → lies_on board from ≤ 53
   lies_below (FromColumn column) fits =
       let was = column_at board column in
       let left = without_last was in
-      let below = card_below left (last_card left) (All-take IsCard (length was - 1) was (column_cards column fits)) refl in
+      let below = card_below left (last_card left) (All-take IsCard (length was - 1) was
+          (column_cards column fits)) refl in
       omega (arith, below)
   lies_below (FromCell cell) fits = omega arith
 
@@ -373,7 +426,8 @@ module _ (game : Game) (board : Board) (well : IsWellFormed game board) where
   put_below (ToCell cell) fits = omega arith
   put_below Home fits = omega arith
 
-  pub can_move : (after : Board) (move : Move) (step : Step game board move after) → CanMove (step.card + 1) (lies_on board move.from) (put_onto board move.to)
+  pub can_move : (after : Board) (move : Move) (step : Step game board move after)
+      → CanMove (step.card + 1) (lies_on board move.from) (put_onto board move.to)
   can_move after move step = (
     omega arith,
     taken_card move.from step.card step.fits.0 step.offered.1,

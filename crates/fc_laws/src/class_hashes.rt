@@ -1,14 +1,14 @@
 //! Laws of the hash of a board's class, and of the sums from which it is made.
 ghost use Rattle.std.specs.Prelude.{◌+◌, ◌∷◌, ◌≡◌, [], List, Some, ℕ};
-ghost use Rattle.fc_board.specs.{Boards.{Board, IsWellFormed}, Steps.{card_at, Step}};
-ghost use Rattle.fc_board.specs.declared.moves.Move.{Move};
-ghost use Rattle.fc_board.specs.Games.{all_renamings, colour_renamings};
+ghost use Rattle.fc_board.specs.Boards.{Board, IsWellFormed};
+ghost use Rattle.fc_board.specs.{Games.{all_renamings, colour_renamings}, Steps.{card_at, Step}};
+ghost use Rattle.{fc_board.specs.declared.moves.Move.{Move}, fc_canon.specs.{Equivalent}};
 ghost use Rattle.fc_bytes.specs.class_hash.{AreMoved, AreSums, CanMove, class_hash, class_sum};
-ghost use Rattle.fc_bytes.specs.class_hash.{class_sums, hash_of_sums, lies_on, moved_sum, put_onto, sums_in};
+ghost use Rattle.fc_bytes.specs.class_hash.{class_sums, hash_of_sums, lies_on, moved_sum, put_onto};
+ghost use Rattle.fc_bytes.specs.class_hash.{sums_in};
 ghost use Rattle.fc_bytes.specs.declared.class_hash.ClassSums.{ClassSums};
 ghost use Rattle.fc_laws.specs.BoardExamples.{two_spades_left};
 ghost use Rattle.fc_laws.specs.CanonicalExamples.{clubs_king_left};
-ghost use Rattle.fc_canon.specs.{Equivalent};
 
 use fc_board::Rule;
 

@@ -1,7 +1,7 @@
 //! The sums of boards, kept up to date, and the hashes of their classes.
 ghost use Rattle.std.specs.Prelude.{◌<◌, ◌≡◌, ◌≤◌};
-ghost use Rattle.fc_bytes.specs.{HoldsBoard, HoldsNone};
 ghost use Rattle.fc_bytes.specs.class_hash.{AreMoved, CanMove, hash_of_sums, HasSums, sums_in};
+ghost use Rattle.fc_bytes.specs.{HoldsBoard, HoldsNone};
 ghost use Rattle.fcanon_c.specs.{game_at, renamings_at};
 
 use fc_bytes::calls::sums::{class_hash_of, move_of, sums_of};

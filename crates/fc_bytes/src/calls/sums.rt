@@ -1,7 +1,7 @@
 //! The sums of boards, kept up to date, and the hashes of their classes.
 ghost use Rattle.std.specs.Prelude.{◌<◌, ◌≡◌};
-ghost use Rattle.fc_bytes.specs.{HoldsBoard, HoldsNone};
 ghost use Rattle.fc_bytes.specs.class_hash.{AreMoved, CanMove, hash_of_sums, HasSums, sums_in};
+ghost use Rattle.fc_bytes.specs.{HoldsBoard, HoldsNone};
 
 use crate::calls::answers::{DONE, NO_BOARD, NO_MOVE};
 use crate::{BoardBytes, ClassSums};

@@ -7,7 +7,8 @@ use Rattle.fc_laws.proofs.class_hashes.moves_change_one_term.Goals as goal
 pub returns-clause-sums : goal.returns-clause-sums
 returns-clause-sums g c = λ board after move card renaming well step found.
     sum_after g.R.Rule.game board well after move step renaming
-    ∙ ap (λ card. moved_sum (card + 1) (lies_on board move.from) (put_onto board move.to) renaming (class_sum board renaming))
+    ∙ ap (λ card. moved_sum (card + 1) (lies_on board move.from) (put_onto board move.to) renaming
+    (class_sum board renaming))
     (same_Some step.card card (sym step.offered.1 ∙ found))
 
 pub returns-clause-numbers : goal.returns-clause-numbers
