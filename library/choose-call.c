@@ -28,6 +28,15 @@ CALL(uint32_t, fcanon_keys,
 CALL(uint32_t, fcanon_hash,
      (uint32_t game, const fcanon_board *board, uint8_t hash[16]),
      (game, board, hash))
+CALL(uint32_t, fcanon_sums,
+     (uint32_t game, const fcanon_board *board, fcanon_class_sums *sums),
+     (game, board, sums))
+CALL(uint32_t, fcanon_move_sums,
+     (uint32_t game, uint8_t card, uint8_t from, uint8_t onto, fcanon_class_sums *sums),
+     (game, card, from, onto, sums))
+CALL(uint32_t, fcanon_class_hash,
+     (uint32_t game, const fcanon_class_sums *sums, uint8_t hash[16]),
+     (game, sums, hash))
 CALL(uint32_t, fcanon_child,
      (uint32_t game, const fcanon_board *board, const fcanon_move *move, fcanon_board *canonical,
       fcanon_passage *passage),

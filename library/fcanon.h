@@ -9,9 +9,9 @@
  *
  * Pointers. A pointer may be null only before a size of 0: that of a text, of boards of fcanon_keys, and
  * of room for moves, runs and keys. What a call writes must not overlap anything else that is handed to
- * that call: only fcanon_play and fcanon_play_run work in place on their board, and fcanon_carry and
- * fcanon_carry_run on their move.
- * size_t and uint32_t must be aligned as C aligns them; boards, passages, moves and texts may be
+ * that call: only fcanon_play and fcanon_play_run work in place on their board, fcanon_carry and
+ * fcanon_carry_run on their move, and fcanon_move_sums on its sums.
+ * size_t, uint32_t and sums must be aligned as C aligns them; boards, passages, moves and texts may be
  * anywhere. None of this is tested, as with memcpy. What the bytes are is tested: no bytes of a board,
  * a passage, a move or a text are forbidden.
  *
@@ -20,8 +20,8 @@
  *
  * What is stable. A later version may add calls and answers, and then FCANON_VERSION is greater.
  * As long as the SONAME is the same, no call, type or number of this header changes its meaning.
- * Nor do the bytes of boards, keys, hashes, passages and moves: they may be kept in files. The words
- * of answers may change.
+ * Nor do the bytes of boards, keys, hashes of both kinds, passages and moves: they may be kept in files.
+ * The words of answers may change.
  */
 #ifndef FCANON_H
 #define FCANON_H
@@ -109,6 +109,18 @@ typedef struct fcanon_run {
     uint8_t from, to, count;
 } fcanon_run;
 
+/* The sums of a board, 384 bytes: one for each renaming of suits that keeps the building rule, 8 in
+ * FreeCell and 24 in the other games, in the ascending order of these, and 0 after them. Each is in two
+ * words, the lower one first. */
+typedef struct fcanon_class_sums {
+    uint64_t sums[24][2];
+} fcanon_class_sums;
+
+/* What a card lies on, in place of the byte of a card: 1 to 52 is that card. */
+#define FCANON_ON_FOOT 0  /* the foot of a column */
+#define FCANON_ON_CELL 53 /* a cell */
+#define FCANON_ON_HOME 54 /* a foundation */
+
 #define FCANON_MOST_MOVES 49 /* a move of several cards is never more moves of one card than these */
 #define FCANON_MOST_CHILDREN 272 /* a board never allows more moves of one card than these */
 #define FCANON_MOST_RUN_MOVES 672 /* a board never allows more moves of several cards than these */
@@ -191,6 +203,26 @@ FCANON_CALL_NONNULL(4) uint32_t fcanon_keys(uint32_t game, fcanon_board *boards,
 /* A hash of the key in 16 bytes: SipHash-1-3 of the key's 72 bytes, and SipHash-1-3 of these and a
  * byte 1 after them. Both keys of SipHash are 0, and the lowest byte of each hash is the first. */
 FCANON_CALL uint32_t fcanon_hash(uint32_t game, const fcanon_board *board, uint8_t hash[16]);
+
+/* The sums of a board, from which fcanon_class_hash makes a hash. A search makes them once, and then moves
+ * them with its board by fcanon_move_sums. */
+FCANON_CALL uint32_t fcanon_sums(uint32_t game, const fcanon_board *board, fcanon_class_sums *sums);
+
+/* Makes the sums those of the board on which this card, 1 to 52, lies on the one no more, but on the other:
+ * of the board after a move of one card, if they were those of the board before. from is 0 to 53 and onto
+ * 0 to 54: a card, or FCANON_ON_FOOT, FCANON_ON_CELL or, for onto alone, FCANON_ON_HOME. The card that it
+ * lies on stands before it in its column. Other numbers are answered by FCANON_NO_MOVE; whether the card
+ * lay there is not looked at. With from and onto exchanged the move is taken back, but from home. Of cards
+ * that go from column to column together the first alone needs it: the others lie on what they lay on. */
+FCANON_CALL uint32_t fcanon_move_sums(uint32_t game, uint8_t card, uint8_t from, uint8_t onto,
+    fcanon_class_sums *sums);
+
+/* The hash of the class of the board that has these sums, 16 bytes: the least of them, its lowest byte
+ * first. Boards that have one key have one class hash. It is another hash than that of fcanon_hash, and
+ * not as good: its sums are of products of a card's weight and that of what it lies on, 64 bits of
+ * SipHash each. So take it for no more than 64 good bits, by which two of n classes meet with a chance of
+ * n * n / 2^65; and where a wrong match would do harm, compare the keys. */
+FCANON_CALL uint32_t fcanon_class_hash(uint32_t game, const fcanon_class_sums *sums, uint8_t hash[16]);
 
 /* The canonical board of the board after a move, and the passage to it from the board after the
  * move: fcanon_play, and then fcanon_canon. The board stays. */

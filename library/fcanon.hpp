@@ -175,6 +175,32 @@ private:
     fcanon_passage held;
 };
 
+/* The sums of a board, from which the hash of its class is made. A search moves them with its board. */
+class ClassSums {
+public:
+    /* The sums that these are; of a board by Board::class_sums. */
+    ClassSums(std::uint32_t game, const fcanon_class_sums &sums) : number(game), held(sums) { hash(); }
+
+    std::uint32_t game() const noexcept { return number; }
+    const fcanon_class_sums &sums() const noexcept { return held; }
+    /* The card lies on the one no more, but on the other: as fcanon_move_sums. */
+    void move(std::uint8_t card, std::uint8_t from, std::uint8_t onto) {
+        detail::must(fcanon_move_sums(number, card, from, onto, &held));
+    }
+    /* The hash of the board's class: as fcanon_class_hash. */
+    std::array<std::uint8_t, 16> hash() const {
+        std::array<std::uint8_t, 16> made;
+        detail::must(fcanon_class_hash(number, &held, made.data()));
+        return made;
+    }
+
+private:
+    friend class Board;
+    explicit ClassSums(std::uint32_t game) noexcept : number(game), held() {}
+    std::uint32_t number;
+    fcanon_class_sums held;
+};
+
 struct Canonical;
 struct Children;
 
@@ -222,6 +248,11 @@ public:
     std::array<std::uint8_t, 16> hash() const {
         std::array<std::uint8_t, 16> made;
         detail::must(fcanon_hash(number, &held, made.data()));
+        return made;
+    }
+    ClassSums class_sums() const {
+        ClassSums made(number);
+        detail::must(fcanon_sums(number, &held, &made.held));
         return made;
     }
     /* The passage to another board; FCANON_APART is thrown where there is none. */

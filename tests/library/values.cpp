@@ -67,6 +67,13 @@ static void try_board(const Board &board) {
     MUST(board.passage_to(there.board).then(there.passage.inverse()).carry(Move("3a")) == Move('3', 'A'));
     MUST(Passage(board.game(), there.passage.bytes()) == there.passage && there.passage.carry(Run("3a")).text() == there.passage.carry(Move("3a")).text());
     MUST(board.hash() == there.board.hash());
+    ClassSums sums = board.class_sums();
+    MUST(sums.game() == board.game() && sums.hash() == there.board.class_sums().hash());
+    fcanon_class_sums anew;
+    MUST(!fcanon_sums(board.game(), &board.bytes(), &anew) && !std::memcmp(&anew, &sums.sums(), sizeof anew));
+    sums.move(1, FCANON_ON_CELL, 2);
+    MUST(!fcanon_move_sums(board.game(), 1, FCANON_ON_CELL, 2, &anew) && !std::memcmp(&anew, &sums.sums(), sizeof anew));
+    MUST(ANSWER(sums.move(53, 0, 0)) == FCANON_NO_MOVE);
     MUST(std::hash<Board>()(there.board) == std::hash<Board>()(board.key()));
     MUST(!(board < board) && (board == there.board || (board < there.board) != (there.board < board)));
     try_moves(board);
