@@ -11,9 +11,9 @@
 static char text[65536];
 
 /* The move that a word of standard notation in lower case names: two piles, and v and a hexadecimal digit or not. */
-static fcanon_run run_of(const char *word) {
+static fcanon_run_move run_of(const char *word) {
     const char *number = strlen(word) == 4 && word[2] == 'v' ? word + 3 : "0";
-    fcanon_run run = {(uint8_t)word[0], (uint8_t)word[1], (uint8_t)strtol(number, NULL, 16)};
+    fcanon_run_move run = {(uint8_t)word[0], (uint8_t)word[1], (uint8_t)strtol(number, NULL, 16)};
     return run;
 }
 
@@ -28,7 +28,7 @@ int main(int argc, char **argv) {
     if (answer) return printf("answer %u at byte %zu\n", (unsigned)answer, place), 1;
     putchar('>');
     for (k = 2; k < argc; k++) {
-        fcanon_run run = run_of(argv[k]);
+        fcanon_run_move run = run_of(argv[k]);
         answer = fcanon_expand(game, &board, &run, moves, FCANON_MOST_MOVES, &count);
         if (answer) return printf("\n%s is refused: answer %u\n", argv[k], (unsigned)answer), 1;
         for (i = 0; i < count; i++) printf(" %c%c", moves[i].from, moves[i].to);

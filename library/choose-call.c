@@ -66,20 +66,20 @@ CALL(uint32_t, fcanon_capacity,
      (uint32_t game, const fcanon_board *board, uint8_t to, uint32_t *cards),
      (game, board, to, cards))
 CALL(uint32_t, fcanon_carry_run,
-     (uint32_t game, const fcanon_passage *passage, fcanon_run *run),
+     (uint32_t game, const fcanon_passage *passage, fcanon_run_move *run),
      (game, passage, run))
 CALL(uint32_t, fcanon_play_run,
-     (uint32_t game, fcanon_board *board, const fcanon_run *run),
+     (uint32_t game, fcanon_board *board, const fcanon_run_move *run),
      (game, board, run))
 CALL(uint32_t, fcanon_expand,
-     (uint32_t game, const fcanon_board *board, const fcanon_run *run, fcanon_move *moves,
+     (uint32_t game, const fcanon_board *board, const fcanon_run_move *run, fcanon_move *moves,
       size_t room, size_t *count),
      (game, board, run, moves, room, count))
 CALL(uint32_t, fcanon_moves,
      (uint32_t game, const fcanon_board *board, fcanon_move *moves, size_t room, size_t *count),
      (game, board, moves, room, count))
 CALL(uint32_t, fcanon_run_moves,
-     (uint32_t game, const fcanon_board *board, fcanon_run *runs, size_t room, size_t *count),
+     (uint32_t game, const fcanon_board *board, fcanon_run_move *runs, size_t room, size_t *count),
      (game, board, runs, room, count))
 CALL(uint32_t, fcanon_children,
      (uint32_t game, const fcanon_board *board, fcanon_move *moves, size_t moves_room,

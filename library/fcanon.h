@@ -105,9 +105,9 @@ typedef struct fcanon_move {
 /* A move of several cards, 3 bytes: the last cards of a column to another, as many as count says, 1 to
  * 13. Where count is 0 they are as many as the ranks say, and to an empty column as many as can go. A
  * move of one card that touches a cell or home is one too, with count 0. */
-typedef struct fcanon_run {
+typedef struct fcanon_run_move {
     uint8_t from, to, count;
-} fcanon_run;
+} fcanon_run_move;
 
 /* The sums of a board, 384 bytes: one for each renaming of suits that keeps the building rule, 8 in
  * FreeCell and 24 in the other games, in the ascending order of these, and 0 after them. Each is in two
@@ -267,14 +267,14 @@ FCANON_CALL uint32_t fcanon_capacity(uint32_t game, const fcanon_board *board, u
 
 /* The same as fcanon_carry and fcanon_play, of a move of several cards. */
 FCANON_CALL uint32_t fcanon_carry_run(uint32_t game, const fcanon_passage *passage,
-    fcanon_run *run);
-FCANON_CALL uint32_t fcanon_play_run(uint32_t game, fcanon_board *board, const fcanon_run *run);
+    fcanon_run_move *run);
+FCANON_CALL uint32_t fcanon_play_run(uint32_t game, fcanon_board *board, const fcanon_run_move *run);
 
 /* The moves of one card, one after another, that do what a move of several does, and how many they are:
  * where there is room for FCANON_MOST_MOVES, there is for them. The board stays; what the game refuses
  * is answered as by fcanon_play_run, and too little room last. What moves has after them stays too. */
 FCANON_CALL_NONNULL(2, 3, 6) uint32_t fcanon_expand(uint32_t game, const fcanon_board *board,
-    const fcanon_run *run, fcanon_move *moves, size_t room, size_t *count);
+    const fcanon_run_move *run, fcanon_move *moves, size_t room, size_t *count);
 
 /* All moves of one card that the game allows, and how many they are. They come in the order of what the
  * card is taken from, and of what it is put on: columns 1 to 8, cells, and home. Where there is room for
@@ -290,7 +290,7 @@ FCANON_CALL_NONNULL(2, 5) uint32_t fcanon_moves(uint32_t game, const fcanon_boar
  * numbers. Where there is room for FCANON_MOST_RUN_MOVES, there is for them; too little room is answered
  * last. What runs has after them stays. */
 FCANON_CALL_NONNULL(2, 5) uint32_t fcanon_run_moves(uint32_t game, const fcanon_board *board,
-    fcanon_run *runs, size_t room, size_t *count);
+    fcanon_run_move *runs, size_t room, size_t *count);
 
 /* The moves that fcanon_moves finds, how many they are, and for each the canonical board after it, as
  * fcanon_child finds it. Where there is room for FCANON_MOST_CHILDREN moves and as many keys, there is for

@@ -114,11 +114,11 @@ struct Move : fcanon_move {
 };
 
 /* A move of several cards: two columns, and how many cards, or not: "14v3" or "14"; or as a Move. */
-struct Run : fcanon_run {
-    Run() noexcept : fcanon_run() {}
-    Run(fcanon_run run) noexcept : fcanon_run(run) {}
-    explicit Run(fcanon_move move) noexcept : fcanon_run() { from = move.from, to = move.to; }
-    explicit Run(const std::string &text) : fcanon_run() {
+struct Run : fcanon_run_move {
+    Run() noexcept : fcanon_run_move() {}
+    Run(fcanon_run_move run) noexcept : fcanon_run_move(run) {}
+    explicit Run(fcanon_move move) noexcept : fcanon_run_move() { from = move.from, to = move.to; }
+    explicit Run(const std::string &text) : fcanon_run_move() {
         bool has_count = text.size() == 4 && detail::lower(text[2]) == 'v';
         if (has_count) count = digit(detail::lower(text[3]));
         if (has_count ? !count : text.size() != 2) throw Error(FCANON_NO_MOVE);
@@ -275,7 +275,7 @@ public:
         return {found, found + moves_into(found)};
     }
     std::vector<Run> run_moves() const {
-        fcanon_run found[FCANON_MOST_RUN_MOVES];
+        fcanon_run_move found[FCANON_MOST_RUN_MOVES];
         std::size_t count;
         detail::must(fcanon_run_moves(number, &held, found, FCANON_MOST_RUN_MOVES, &count));
         return {found, found + count};

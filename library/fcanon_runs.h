@@ -21,8 +21,7 @@
 #ifndef FCANON_RUNS_H
 #define FCANON_RUNS_H
 
-#include <stddef.h>
-#include <stdint.h>
+#include "fcanon.h"
 
 #ifdef __cplusplus
 extern "C" {
@@ -64,7 +63,7 @@ typedef struct {
 
 /* Does over the input what the request says, and puts what the program prints to the front of the
  * output. */
-uint32_t fcanon_run(const fcanon_request *request, const char *input, size_t input_size,
+FCANON_CALL uint32_t fcanon_run(const fcanon_request *request, const char *input, size_t input_size,
     char *output, size_t output_size, fcanon_written *written);
 
 /* What lines of cards are that may be columns or rows: where it is not said, a note asks. Any other
@@ -76,7 +75,7 @@ uint32_t fcanon_run(const fcanon_request *request, const char *input, size_t inp
 /* Makes a collection of this game of a text, as `fcanon import` does, and puts it to the front of
  * the output. What the program says of the text on standard error is put to the front of the
  * notes, `noted` bytes. At most 16 MiB are taken. */
-uint32_t fcanon_import(uint32_t game, uint32_t lines, const char *input, size_t input_size,
+FCANON_CALL uint32_t fcanon_import(uint32_t game, uint32_t lines, const char *input, size_t input_size,
     char *output, size_t output_size, char *notes, size_t notes_size,
     fcanon_written *written, size_t *noted);
 

@@ -62,7 +62,7 @@ static uint8_t count_of(uint8_t digit) {
 
 /* Reads a move of one card, as "3a", or with this most length also one of several, as "14v3". Where
  * it is none, an error is raised and 0 returned. */
-static int run_of(PyObject *text, Py_ssize_t most, fcanon_run *run) {
+static int run_of(PyObject *text, Py_ssize_t most, fcanon_run_move *run) {
     if (!PyUnicode_Check(text)) {
         PyErr_SetString(PyExc_TypeError, "a move must be a str");
         return 0;
@@ -83,7 +83,7 @@ static PyObject *text_of_move(fcanon_move move) {
     return PyUnicode_FromFormat("%c%c", move.from, move.to);
 }
 
-static PyObject *text_of_run(fcanon_run run) {
+static PyObject *text_of_run(fcanon_run_move run) {
     if (!run.count) return text_of_move((fcanon_move){run.from, run.to});
     return PyUnicode_FromFormat("%c%cv%x", run.from, run.to, run.count);
 }
@@ -220,7 +220,7 @@ static PyObject *passage_image(Passage *self, PyObject *of) {
 }
 
 static PyObject *passage_carry(Passage *self, PyObject *move) {
-    fcanon_run run;
+    fcanon_run_move run;
     if (!run_of(move, 2, &run)) return NULL;
     fcanon_move one = {run.from, run.to};
     uint32_t answer = fcanon_carry(self->game, &self->passage, &one);
@@ -228,7 +228,7 @@ static PyObject *passage_carry(Passage *self, PyObject *move) {
 }
 
 static PyObject *passage_carry_run(Passage *self, PyObject *move) {
-    fcanon_run run;
+    fcanon_run_move run;
     if (!run_of(move, 4, &run)) return NULL;
     uint32_t answer = fcanon_carry_run(self->game, &self->passage, &run);
     return answer ? refuse(answer, -1) : text_of_run(run);
@@ -329,7 +329,7 @@ static PyObject *board_canonicalize(Board *self, PyObject *unused) {
 }
 
 static PyObject *board_child(Board *self, PyObject *move) {
-    fcanon_run run;
+    fcanon_run_move run;
     if (!run_of(move, 2, &run)) return NULL;
     Board *made = new_board(self->game);
     Passage *way = new_passage(self->game);
@@ -353,7 +353,7 @@ static PyObject *board_moves(Board *self, PyObject *unused) {
 }
 
 static PyObject *board_run_moves(Board *self, PyObject *unused) {
-    fcanon_run runs[FCANON_MOST_RUN_MOVES];
+    fcanon_run_move runs[FCANON_MOST_RUN_MOVES];
     size_t count = 0;
     uint32_t answer =
         fcanon_run_moves(self->game, &self->board, runs, FCANON_MOST_RUN_MOVES, &count);
@@ -411,7 +411,7 @@ static PyObject *board_passage_to(Board *self, PyObject *other) {
 }
 
 static PyObject *board_play(Board *self, PyObject *move) {
-    fcanon_run run;
+    fcanon_run_move run;
     if (!run_of(move, 2, &run)) return NULL;
     Board *made = new_board(self->game);
     if (!made) return NULL;
@@ -421,7 +421,7 @@ static PyObject *board_play(Board *self, PyObject *move) {
 }
 
 static PyObject *board_play_run(Board *self, PyObject *move) {
-    fcanon_run run;
+    fcanon_run_move run;
     if (!run_of(move, 4, &run)) return NULL;
     Board *made = new_board(self->game);
     if (!made) return NULL;
@@ -430,7 +430,7 @@ static PyObject *board_play_run(Board *self, PyObject *move) {
 }
 
 static PyObject *board_expand(Board *self, PyObject *move) {
-    fcanon_run run;
+    fcanon_run_move run;
     fcanon_move moves[FCANON_MOST_MOVES];
     size_t count = 0;
     if (!run_of(move, 4, &run)) return NULL;

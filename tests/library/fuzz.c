@@ -52,7 +52,7 @@ static fcanon_move any_move(void) {
 /* A run goes over alike on both boards, its image comes back, and its moves of one card lead to the same board. */
 static void try_run(uint32_t game, const fcanon_board *board, const fcanon_board *canonical, const fcanon_passage *passage,
                     const fcanon_passage *back, long turn) {
-    static fcanon_run *run, *image;
+    static fcanon_run_move *run, *image;
     static fcanon_board *here, *there;
     static fcanon_move *moves, was;
     static uint32_t *cards;
@@ -60,7 +60,7 @@ static void try_run(uint32_t game, const fcanon_board *board, const fcanon_board
     fcanon_move piles = any_move();
     size_t room = chance(3) ? FCANON_MOST_MOVES : chance(8), count = 777, i;
     fcanon_move *end = moves + FCANON_MOST_MOVES - room; /* directly before the forbidden page */
-    *run = *image = (fcanon_run){piles.from, piles.to, (uint8_t)(chance(2) ? 0 : chance(15))};
+    *run = *image = (fcanon_run_move){piles.from, piles.to, (uint8_t)(chance(2) ? 0 : chance(15))};
     *here = *there = *board, *cards = 777;
     uint32_t carried = counted(fcanon_carry_run(game, passage, image));
     must(carried == 0 || (carried == FCANON_NO_MOVE && !memcmp(run, image, 3)), "carry_run", turn);
@@ -85,7 +85,7 @@ static struct {
     fcanon_board *key, *many, *children;
     fcanon_passage *passage;
     fcanon_move *move, *moves;
-    fcanon_run *runs;
+    fcanon_run_move *runs;
     uint8_t *hash, *other, (*suits)[4];
     uint32_t *count;
     size_t *place;
@@ -143,7 +143,7 @@ static void try_keys(uint32_t game, const fcanon_board *board, const fcanon_boar
 static void try_moves(uint32_t game, const fcanon_board *board, uint32_t answer, long turn) {
     size_t many = chance(2) ? FCANON_MOST_CHILDREN : chance(40), runs_many = chance(2) ? FCANON_MOST_RUN_MOVES : chance(9);
     fcanon_move *moves = room.moves + FCANON_MOST_CHILDREN - many;
-    fcanon_run *runs = room.runs + FCANON_MOST_RUN_MOVES - runs_many;
+    fcanon_run_move *runs = room.runs + FCANON_MOST_RUN_MOVES - runs_many;
     fcanon_board after;
     memset(moves, 7, 2 * many), memset(runs, 7, 3 * runs_many), *room.place = 777;
     uint32_t got = counted(fcanon_moves(game, board, moves, many, room.place));

@@ -33,9 +33,9 @@ static fcanon_move any_move(void) {
     return (fcanon_move){from, (uint8_t)piles[chance(17)]};
 }
 
-static fcanon_run any_run(void) {
+static fcanon_run_move any_run(void) {
     fcanon_move piles_of_run = any_move();
-    return (fcanon_run){piles_of_run.from, piles_of_run.to, (uint8_t)chance(6)};
+    return (fcanon_run_move){piles_of_run.from, piles_of_run.to, (uint8_t)chance(6)};
 }
 
 static fcanon_board any_board(uint32_t game) {
@@ -87,7 +87,7 @@ static void try_children(uint32_t game, const fcanon_board *board) {
 
 static void try_lists(uint32_t game, const fcanon_board *board) {
     static fcanon_move moves[FCANON_MOST_CHILDREN];
-    static fcanon_run runs[FCANON_MOST_RUN_MOVES];
+    static fcanon_run_move runs[FCANON_MOST_RUN_MOVES];
     size_t room = chance(4) ? FCANON_MOST_CHILDREN : chance(30), count = 7, runs_count = 7;
     did(fcanon_moves(game, board, moves, room, &count), moves, sizeof moves);
     did(fcanon_run_moves(game, board, runs, room, &runs_count), runs, sizeof runs);
@@ -101,7 +101,7 @@ static void try_passages(uint32_t game, const fcanon_board *board) {
     uint8_t suits[24][4] = {{0}};
     uint32_t count = 0;
     fcanon_move move = any_move();
-    fcanon_run run = any_run();
+    fcanon_run_move run = any_run();
     did(fcanon_canon(game, board, &canonical, &passage), &canonical, sizeof canonical);
     add(&passage, sizeof passage);
     did(fcanon_symmetries(game, board, suits, &count), suits, sizeof suits);
@@ -117,7 +117,7 @@ static void try_passages(uint32_t game, const fcanon_board *board) {
 static void try_moves(uint32_t game, const fcanon_board *board) {
     fcanon_board after = *board;
     fcanon_move move = any_move(), moves[FCANON_MOST_MOVES] = {{0, 0}};
-    fcanon_run run = any_run();
+    fcanon_run_move run = any_run();
     uint32_t cards = 0;
     size_t count = 7, room = chance(7) ? FCANON_MOST_MOVES : chance(4);
     did(fcanon_capacity(game, board, (uint8_t)piles[chance(9)], &cards), &cards, sizeof cards);

@@ -30,8 +30,8 @@ static void call_each(uint32_t deal, const fcanon_board *board, const fcanon_mov
     fcanon_passage passage, back, back_again;
     fcanon_move image = *move, moves[FCANON_MOST_CHILDREN];
     static fcanon_board keys[FCANON_MOST_CHILDREN];
-    static fcanon_run runs[FCANON_MOST_RUN_MOVES];
-    fcanon_run run = {move->from, move->to, 0}, carried = run;
+    static fcanon_run_move runs[FCANON_MOST_RUN_MOVES];
+    fcanon_run_move run = {move->from, move->to, 0}, carried = run;
     char text[256];
     uint8_t hash[16], suits[24][4];
     uint32_t cards;

@@ -42,7 +42,7 @@ pub struct fcanon_move {
 /// A move of several cards.
 #[repr(C)]
 #[derive(Clone, Copy, PartialEq, Eq, PartialOrd, Ord, Hash, Debug)]
-pub struct fcanon_run {
+pub struct fcanon_run_move {
     /// Where the cards are.
     pub from: u8,
     /// Where they go.
@@ -125,13 +125,17 @@ extern "C" {
     pub fn fcanon_carry(game: u32, passage: *const fcanon_passage, mv: *mut fcanon_move) -> u32;
     pub fn fcanon_play(game: u32, board: *mut fcanon_board, mv: *const fcanon_move) -> u32;
     pub fn fcanon_capacity(game: u32, board: *const fcanon_board, to: u8, cards: *mut u32) -> u32;
-    pub fn fcanon_carry_run(game: u32, passage: *const fcanon_passage, run: *mut fcanon_run)
+    pub fn fcanon_carry_run(
+        game: u32,
+        passage: *const fcanon_passage,
+        run: *mut fcanon_run_move,
+    ) -> u32;
+    pub fn fcanon_play_run(game: u32, board: *mut fcanon_board, run: *const fcanon_run_move)
         -> u32;
-    pub fn fcanon_play_run(game: u32, board: *mut fcanon_board, run: *const fcanon_run) -> u32;
     pub fn fcanon_expand(
         game: u32,
         board: *const fcanon_board,
-        run: *const fcanon_run,
+        run: *const fcanon_run_move,
         moves: *mut fcanon_move,
         room: usize,
         count: *mut usize,
@@ -146,7 +150,7 @@ extern "C" {
     pub fn fcanon_run_moves(
         game: u32,
         board: *const fcanon_board,
-        runs: *mut fcanon_run,
+        runs: *mut fcanon_run_move,
         room: usize,
         count: *mut usize,
     ) -> u32;

@@ -5,7 +5,7 @@ use core::{fmt, str::FromStr};
 use fcanon_sys::{
     fcanon_board, fcanon_board as BoardBytes, fcanon_canon, fcanon_capacity, fcanon_child,
     fcanon_children, fcanon_deal, fcanon_expand, fcanon_hash, fcanon_key, fcanon_keys, fcanon_move,
-    fcanon_moves, fcanon_play, fcanon_play_run, fcanon_read, fcanon_run, fcanon_run_moves,
+    fcanon_moves, fcanon_play, fcanon_play_run, fcanon_read, fcanon_run_move, fcanon_run_moves,
     fcanon_same, fcanon_symmetries, fcanon_write, FCANON_MOST_CHILDREN, FCANON_MOST_MOVES,
     FCANON_MOST_RUN_MOVES,
 };
@@ -136,7 +136,7 @@ impl Board {
     /// number of cards.
     pub fn run_moves(&self) -> impl Iterator<Item = Run> {
         const ROOM: usize = FCANON_MOST_RUN_MOVES;
-        let nothing = ([fcanon_run { from: 0, to: 0, count: 0 }; ROOM], 0);
+        let nothing = ([fcanon_run_move { from: 0, to: 0, count: 0 }; ROOM], 0);
         let found = made(nothing, |(runs, count)| {
             // SAFETY: there is room for so many moves; all is apart.
             unsafe {

@@ -1,6 +1,6 @@
 use crate::error::{Error, Reason};
 use core::{fmt, ops::Deref, str::FromStr};
-use fcanon_sys::{fcanon_move, fcanon_run, FCANON_MOST_MOVES};
+use fcanon_sys::{fcanon_move, fcanon_run_move, FCANON_MOST_MOVES};
 
 /// A move of one card in standard notation, as `3a`: from a column `1` to `8` or a cell `a` to `g`
 /// or `k`, to one of these or home, `h`.
@@ -11,7 +11,7 @@ pub struct Move(pub(crate) fcanon_move);
 /// A move of several cards, as `14v3`; without a number as many as the ranks say, and to an empty
 /// column as many as can go.
 #[derive(Clone, Copy, PartialEq, Eq, PartialOrd, Ord, Hash, Debug)]
-pub struct Run(pub(crate) fcanon_run);
+pub struct Run(pub(crate) fcanon_run_move);
 
 impl FromStr for Move {
     type Err = Error;
@@ -36,7 +36,7 @@ impl FromStr for Run {
         let Move(fcanon_move { from, to }) = piles.parse()?;
         match u8::from_str_radix(number, 16) {
             Ok(count) if number.len() == 1 && (count > 0) == (piles != text) && count <= 13 => {
-                Ok(Run(fcanon_run { from, to, count }))
+                Ok(Run(fcanon_run_move { from, to, count }))
             }
             _ => Err(Reason::NoMove.into()),
         }
@@ -45,7 +45,7 @@ impl FromStr for Run {
 
 impl From<Move> for Run {
     fn from(Move(fcanon_move { from, to }): Move) -> Run {
-        Run(fcanon_run { from, to, count: 0 })
+        Run(fcanon_run_move { from, to, count: 0 })
     }
 }
 

@@ -45,9 +45,8 @@ impl Passage {
             return Err(Reason::NoPassage.into());
         }
         // SAFETY: all is apart.
-        let both = made(Passage::NONE, |it| unsafe {
-            fcanon_then(game as u32, &bytes, &next.bytes, it)
-        })?;
+        let both =
+            made(Passage::NONE, |it| unsafe { fcanon_then(game as u32, &bytes, &next.bytes, it) })?;
         Ok(Passage { game, bytes: both })
     }
 
