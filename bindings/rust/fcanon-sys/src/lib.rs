@@ -51,6 +51,29 @@ pub struct fcanon_run_move {
     pub count: u8,
 }
 
+/// Gives a type the bytes that C has it in.
+macro_rules! as_bytes {
+    ($name:ident, $size:literal) => {
+        impl From<[u8; $size]> for $name {
+            fn from(bytes: [u8; $size]) -> $name {
+                // SAFETY: it has so many bytes without padding, and each may be any.
+                unsafe { core::mem::transmute(bytes) }
+            }
+        }
+
+        impl From<$name> for [u8; $size] {
+            fn from(it: $name) -> [u8; $size] {
+                // SAFETY: the same.
+                unsafe { core::mem::transmute(it) }
+            }
+        }
+    };
+}
+as_bytes!(fcanon_board, 72);
+as_bytes!(fcanon_passage, 20);
+as_bytes!(fcanon_move, 2);
+as_bytes!(fcanon_run_move, 3);
+
 // tools/tables wrote this from fcanon.h, to the next empty line.
 /// The version of these calls.
 pub const FCANON_VERSION: u32 = 4;

@@ -25,6 +25,7 @@ const CELLS: [usize; 3] = [4, 4, 8];
 
 impl Game {
     /// How many cells the game has.
+    #[must_use]
     pub fn cells(self) -> usize {
         CELLS[self as usize]
     }
@@ -41,10 +42,18 @@ pub struct Board {
 
 pub(crate) const NONE: fcanon_board =
     fcanon_board { heights: [0; 4], cells: [0; 8], lengths: [0; 8], cards: [0; 52] };
-const IS_A_BOARD: &str = "the call takes every board of the game";
+
+/// What a call made of a board or a passage, of which it takes every one.
+pub(crate) fn always<T>(made: Result<T, Error>) -> T {
+    made.expect("the call takes each of the game")
+}
 
 impl Board {
     /// The board that a text spells, or its first fault and where that is.
+    ///
+    /// # Errors
+    ///
+    /// The text's first fault, with its place.
     pub fn read(game: Game, text: &[u8]) -> Result<Board, Error> {
         let mut place = usize::MAX;
         let read = made(NONE, |it| {
@@ -55,61 +64,80 @@ impl Board {
     }
 
     /// One of Microsoft's numbered deals, of FreeCell or Baker's Game.
+    ///
+    /// # Errors
+    ///
+    /// [`Reason::NoDeal`](crate::Reason::NoDeal), where the game has no such deal.
     pub fn deal(game: Game, number: u32) -> Result<Board, Error> {
         // SAFETY: there is room for a board.
         let bytes = made(NONE, |it| unsafe { fcanon_deal(game as u32, number, it) })?;
         Ok(Board { game, bytes })
     }
 
-    /// The board of these bytes, which `fcanon.h` describes.
-    pub fn from_bytes(game: Game, bytes: fcanon_board) -> Result<Board, Error> {
+    /// The board of these bytes, 72 or in their parts, which `fcanon.h` describes.
+    ///
+    /// # Errors
+    ///
+    /// [`Reason::NoBoard`](crate::Reason::NoBoard), where the bytes hold no board of the game.
+    pub fn from_bytes(game: Game, bytes: impl Into<BoardBytes>) -> Result<Board, Error> {
+        let bytes = bytes.into();
         // SAFETY: all is apart.
         made([0; 256], |it| unsafe { fcanon_write(game as u32, &bytes, it) })?;
         Ok(Board { game, bytes })
     }
 
     /// The bytes of the board.
+    #[must_use]
     pub fn bytes(&self) -> &fcanon_board {
         &self.bytes
     }
 
     /// The game of the board.
+    #[must_use]
     pub fn game(&self) -> Game {
         self.game
     }
 
     /// Whether all cards are home.
+    #[must_use]
     pub fn is_won(&self) -> bool {
         self.bytes.heights == [13; 4]
     }
 
     /// The canonical board of all that are equivalent to this one.
+    #[must_use]
     pub fn canonical(&self) -> Board {
         let Board { game, bytes } = *self;
         // SAFETY: all is apart.
         let key = made(NONE, |it| unsafe { fcanon_key(game as u32, &bytes, it) });
-        Board { game, bytes: key.expect(IS_A_BOARD) }
+        Board { game, bytes: always(key) }
     }
 
     /// A hash of the canonical board, the same in each run and on each machine.
+    #[must_use]
     pub fn canonical_hash(&self) -> [u8; 16] {
         // SAFETY: all is apart.
         let hash = made([0; 16], |it| unsafe { fcanon_hash(self.game as u32, &self.bytes, it) });
-        hash.expect(IS_A_BOARD)
+        always(hash)
     }
 
     /// The canonical board, and the passage to it.
+    #[must_use]
     pub fn canonicalize(&self) -> (Board, Passage) {
         let Board { game, bytes } = *self;
         let found = made((NONE, Passage::NONE), |(board, passage)| {
             // SAFETY: all is apart.
             unsafe { fcanon_canon(game as u32, &bytes, board, passage) }
         });
-        let (board, passage) = found.expect(IS_A_BOARD);
+        let (board, passage) = always(found);
         (Board { game, bytes: board }, Passage { game, bytes: passage })
     }
 
     /// The canonical board of the board after a move of one card, and the passage to it from there.
+    ///
+    /// # Errors
+    ///
+    /// Why the game refuses the move.
     pub fn child(&self, mv: Move) -> Result<(Board, Passage), Error> {
         let Board { game, bytes } = *self;
         let (board, passage) = made((NONE, Passage::NONE), |(board, passage)| {
@@ -128,7 +156,7 @@ impl Board {
             // SAFETY: there is room for so many moves, which are laid out as in C; all is apart.
             unsafe { fcanon_moves(self.game as u32, &self.bytes, moves, ROOM, count) }
         });
-        let (moves, count) = found.expect(IS_A_BOARD);
+        let (moves, count) = always(found);
         IntoIterator::into_iter(moves).take(count)
     }
 
@@ -143,11 +171,12 @@ impl Board {
                 fcanon_run_moves(self.game as u32, &self.bytes, runs.as_mut_ptr(), ROOM, count)
             }
         });
-        let (runs, count) = found.expect(IS_A_BOARD);
+        let (runs, count) = always(found);
         IntoIterator::into_iter(runs).take(count).map(Run)
     }
 
     /// The moves of one card that the game allows, and for each the canonical board after it.
+    #[allow(clippy::large_stack_arrays)] // C's callers have them there too
     pub fn children(&self) -> impl Iterator<Item = (Move, Board)> {
         const ROOM: usize = FCANON_MOST_CHILDREN;
         let Board { game, bytes } = *self;
@@ -160,7 +189,7 @@ impl Board {
                 fcanon_children(game as u32, &bytes, moves, ROOM, keys.as_mut_ptr(), ROOM, count)
             }
         });
-        let (moves, keys, count) = found.expect(IS_A_BOARD);
+        let (moves, keys, count) = always(found);
         (0..count).map(move |at| (moves[at], Board { game, bytes: keys[at] }))
     }
 
@@ -171,11 +200,12 @@ impl Board {
             // SAFETY: there is room for so many renamings; all is apart.
             unsafe { fcanon_symmetries(self.game as u32, &self.bytes, suits, count) }
         });
-        let (suits, count) = found.expect(IS_A_BOARD);
+        let (suits, count) = always(found);
         IntoIterator::into_iter(suits).take(count as usize)
     }
 
     /// The passage to another board, or `None` if that is not equivalent.
+    #[must_use]
     pub fn passage_to(&self, other: &Board) -> Option<Passage> {
         let game = self.game;
         let found = made(Passage::NONE, |it| {
@@ -186,6 +216,10 @@ impl Board {
     }
 
     /// Moves one card, or says why the game refuses that; then the board stays as it is.
+    ///
+    /// # Errors
+    ///
+    /// Why the game refuses the move.
     pub fn play(&mut self, mv: Move) -> Result<(), Error> {
         // SAFETY: the one is a board, the other a move.
         self.bytes = made(self.bytes, |it| unsafe { fcanon_play(self.game as u32, it, &mv.0) })?;
@@ -193,6 +227,10 @@ impl Board {
     }
 
     /// The same for a move of several cards.
+    ///
+    /// # Errors
+    ///
+    /// Why the game refuses the move.
     pub fn play_run(&mut self, run: Run) -> Result<(), Error> {
         // SAFETY: the one is a board, the other a move.
         self.bytes =
@@ -201,6 +239,10 @@ impl Board {
     }
 
     /// The moves of one card that do what a move of several does; the board stays as it is.
+    ///
+    /// # Errors
+    ///
+    /// Why the game refuses the move.
     pub fn expand(&self, run: Run) -> Result<Moves, Error> {
         made(Moves::NONE, |Moves { moves, count }| {
             let moves = moves.as_mut_ptr().cast::<fcanon_move>();
@@ -213,6 +255,10 @@ impl Board {
     }
 
     /// How many cards can go at once to a column, 1 to 8.
+    ///
+    /// # Errors
+    ///
+    /// [`Reason::NoColumn`](crate::Reason::NoColumn), where there is no such column.
     pub fn capacity(&self, column: u8) -> Result<u32, Error> {
         let digit = b'0'.wrapping_add(column);
         // SAFETY: all is apart.
@@ -222,6 +268,10 @@ impl Board {
 
 /// Makes the bytes of boards those of their canonical boards. Of the first that are no board the
 /// error has the index as its place; those before it are made, the others as they were.
+///
+/// # Errors
+///
+/// [`Reason::NoBoard`](crate::Reason::NoBoard), with which of the boards is none.
 pub fn canonicalize_all(game: Game, boards: &mut [BoardBytes]) -> Result<(), Error> {
     let (count, mut place) = (boards.len(), usize::MAX);
     let done = made(boards.as_mut_ptr(), |it| {
@@ -229,6 +279,15 @@ pub fn canonicalize_all(game: Game, boards: &mut [BoardBytes]) -> Result<(), Err
         unsafe { fcanon_keys(game as u32, *it, count, &mut place) }
     });
     done.map(drop).map_err(|error| error.at(place))
+}
+
+/// The bytes of a board of FreeCell; [`Board::from_bytes`] takes those of the other games too.
+impl TryFrom<[u8; 72]> for Board {
+    type Error = Error;
+
+    fn try_from(bytes: [u8; 72]) -> Result<Board, Error> {
+        Board::from_bytes(Game::FreeCell, bytes)
+    }
 }
 
 impl FromStr for Board {
@@ -245,7 +304,7 @@ impl fmt::Display for Board {
             // SAFETY: there is room for the text; all is apart.
             unsafe { fcanon_write(self.game as u32, &self.bytes, it) }
         };
-        let text = made([0; 256], call).expect(IS_A_BOARD);
+        let text = always(made([0; 256], call));
         text.iter().take_while(|&&it| it != 0).try_for_each(|&it| write!(f, "{}", char::from(it)))
     }
 }

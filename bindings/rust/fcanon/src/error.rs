@@ -5,6 +5,20 @@ use fcanon_sys::fcanon_find_answer_text;
 #[derive(Clone, Copy, PartialEq, Eq, PartialOrd, Ord, Hash, Debug)]
 pub struct Card(u8);
 
+impl Card {
+    /// 1, the ace, to 13, the king.
+    #[must_use]
+    pub fn rank(self) -> u8 {
+        self.0 / 4 + 1
+    }
+
+    /// 0 clubs, 1 diamonds, 2 hearts, 3 spades.
+    #[must_use]
+    pub fn suit(self) -> u8 {
+        self.0 % 4
+    }
+}
+
 impl fmt::Display for Card {
     fn fmt(&self, f: &mut fmt::Formatter) -> fmt::Result {
         let (rank, suit) = (usize::from(self.0 / 4), usize::from(self.0 % 4));
@@ -28,6 +42,7 @@ macro_rules! reasons {
         }
 
         impl Reason {
+            #[allow(clippy::cast_possible_truncation)] // there are 52 of them
             fn of(answer: u32) -> Reason {
                 match answer {
                     $($answer => Reason::$name,)*
@@ -39,6 +54,7 @@ macro_rules! reasons {
             }
 
             /// The number in `fcanon.h`.
+            #[must_use]
             pub fn answer(self) -> u32 {
                 match self {
                     $(Reason::$name => $answer,)*

@@ -23,5 +23,5 @@ mod passage;
 pub use board::{canonicalize_all, Board, Game};
 pub use error::{Card, Error, Reason};
 pub use fcanon_sys::{fcanon_board as BoardBytes, fcanon_passage as PassageBytes};
-pub use moves::{Move, Moves, Run};
+pub use moves::{Move, Moves, Pile, Run};
 pub use passage::Passage;

@@ -1,4 +1,4 @@
-use crate::board::{Board, Game, NONE};
+use crate::board::{always, Board, Game, NONE};
 use crate::error::{made, Error, Reason};
 use crate::moves::{Move, Run};
 use core::fmt;
@@ -18,27 +18,38 @@ impl Passage {
     pub(crate) const NONE: fcanon_passage =
         fcanon_passage { suits: [0; 4], columns: [0; 8], cells: [0; 8] };
 
-    /// The passage of these bytes, which `fcanon.h` describes.
-    pub fn from_bytes(game: Game, bytes: fcanon_passage) -> Result<Passage, Error> {
+    /// The passage of these bytes, 20 or in their parts, which `fcanon.h` describes.
+    ///
+    /// # Errors
+    ///
+    /// [`Reason::NoPassage`], where the bytes hold no passage of the game.
+    pub fn from_bytes(game: Game, bytes: impl Into<fcanon_passage>) -> Result<Passage, Error> {
+        let bytes = bytes.into();
         // SAFETY: all is apart.
         made(Passage::NONE, |it| unsafe { fcanon_inverse(game as u32, &bytes, it) })?;
         Ok(Passage { game, bytes })
     }
 
     /// The bytes of the passage.
+    #[must_use]
     pub fn bytes(&self) -> &fcanon_passage {
         &self.bytes
     }
 
     /// The passage that leads back.
+    #[must_use]
     pub fn inverse(&self) -> Passage {
         let Passage { game, bytes } = *self;
         // SAFETY: both are passages, and apart.
         let bytes = made(Passage::NONE, |it| unsafe { fcanon_inverse(game as u32, &bytes, it) });
-        Passage { game, bytes: bytes.expect("a passage has an inverse") }
+        Passage { game, bytes: always(bytes) }
     }
 
     /// This passage, and then the next, which must be one of the same game.
+    ///
+    /// # Errors
+    ///
+    /// [`Reason::NoPassage`], where the next is one of another game.
     pub fn then(&self, next: &Passage) -> Result<Passage, Error> {
         let Passage { game, bytes } = *self;
         if next.game != game {
@@ -51,6 +62,10 @@ impl Passage {
     }
 
     /// The board that the passage leads to from a board, which must be one of the same game.
+    ///
+    /// # Errors
+    ///
+    /// [`Reason::NoBoard`], where the board is one of another game.
     pub fn image(&self, board: &Board) -> Result<Board, Error> {
         let Passage { game, bytes } = *self;
         if board.game != game {
@@ -63,12 +78,20 @@ impl Passage {
     }
 
     /// The move of the same card on the board that the passage leads to.
+    ///
+    /// # Errors
+    ///
+    /// [`Reason::NoMove`], where the game has no such move.
     pub fn carry(&self, mv: Move) -> Result<Move, Error> {
         // SAFETY: the one is a passage, the other a move.
         made(mv, |it| unsafe { fcanon_carry(self.game as u32, &self.bytes, &mut it.0) })
     }
 
     /// The move of the same cards on the board that the passage leads to.
+    ///
+    /// # Errors
+    ///
+    /// [`Reason::NoMove`], where the game has no such move.
     pub fn carry_run(&self, run: Run) -> Result<Run, Error> {
         // SAFETY: the one is a passage, the other a move.
         made(run, |it| unsafe { fcanon_carry_run(self.game as u32, &self.bytes, &mut it.0) })

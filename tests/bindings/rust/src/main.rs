@@ -1,6 +1,6 @@
 //! The Rust crate which does what each line of standard input asks for; tests/bindings/run says
 //! how.
-use fcanon::{canonicalize_all, Board, BoardBytes, Error, Game, Move, Reason, Run};
+use fcanon::{canonicalize_all, Board, BoardBytes, Error, Game, Move, Passage, Reason, Run};
 use std::collections::HashSet;
 use std::io::Read;
 
@@ -64,8 +64,8 @@ fn verdict(start: &Board, moves: &[Run], play: fn(&mut Board, Run) -> Result<(),
     format!("{} {}", if board.is_won() { "wins" } else { "legal" }, moves.len())
 }
 
-fn packed(bytes: &BoardBytes) -> Vec<u8> {
-    [&bytes.heights[..], &bytes.cells, &bytes.lengths, &bytes.cards].concat()
+fn packed(bytes: &BoardBytes) -> [u8; 72] {
+    (*bytes).into()
 }
 
 fn hex_of(bytes: &[u8]) -> String {
@@ -80,8 +80,12 @@ fn play_one(board: &mut Board, run: Run) -> Result<(), Error> {
     Ok(())
 }
 
+/// The move of one card between the same piles, by its piles and by its text.
 fn one_card(run: Run) -> Move {
-    run.to_string().parse().unwrap()
+    let made = Move::new(run.source(), run.target()).unwrap();
+    assert_eq!((Ok(run), Ok(made)), (run.to_string().parse(), run.to_string().parse()));
+    assert_eq!(Run::new(made.source(), made.target(), run.count()), Ok(run));
+    made
 }
 
 fn expanded(start: &Board, moves: &[Run]) -> Vec<String> {
@@ -123,17 +127,61 @@ fn unpacked(hex: &str) -> Vec<u8> {
 }
 
 fn bytes_of(bytes: &[u8]) -> BoardBytes {
-    BoardBytes {
-        heights: bytes[..4].try_into().unwrap(),
-        cells: bytes[4..12].try_into().unwrap(),
-        lengths: bytes[12..20].try_into().unwrap(),
-        cards: bytes[20..].try_into().unwrap(),
+    <[u8; 72]>::try_from(bytes).unwrap().into()
+}
+
+const GAMES: [Game; 3] = [Game::FreeCell, Game::BakersGame, Game::EightOff];
+
+/// Numbers by chance, which each language draws alike: xorshift of 32 bits.
+struct Numbers(u32);
+
+impl Numbers {
+    fn below(&mut self, bound: usize) -> usize {
+        self.0 ^= self.0 << 13;
+        self.0 ^= self.0 >> 17;
+        self.0 ^= self.0 << 5;
+        self.0 as usize % bound
+    }
+
+    /// Bytes of which up to two are others.
+    fn damaged<const SIZE: usize>(&mut self, mut bytes: [u8; SIZE]) -> [u8; SIZE] {
+        for _ in 0..self.below(3) {
+            let at = self.below(SIZE);
+            bytes[at] = self.below(60) as u8;
+        }
+        bytes
     }
 }
 
+fn answer_to<T>(made: Result<T, Error>) -> u32 {
+    made.map_or_else(|error| error.reason.answer(), |_| 0)
+}
+
+/// A sum of what is answered to damaged boards and passages, and to moves by chance.
+fn tell_answers(seed: u32, rounds: u32) {
+    let (mut draw, mut total) = (Numbers(seed), 0u32);
+    let signs: Vec<char> = "12345678abcdefgkhX \u{e9}".chars().collect();
+    for _ in 0..rounds {
+        let game = GAMES[draw.below(GAMES.len())];
+        let board = Board::deal(Game::FreeCell, draw.below(1000) as u32 + 1).unwrap();
+        let bytes = draw.damaged((*board.bytes()).into());
+        let passage = draw.damaged((*board.canonicalize().1.bytes()).into());
+        let mv: String = (0..2).map(|_| signs[draw.below(signs.len())]).collect();
+        let (mut one, mut other) = (board, board);
+        let answers = [
+            answer_to(Board::from_bytes(game, bytes)),
+            answer_to(Passage::from_bytes(game, passage)),
+            answer_to(mv.parse().and_then(|it| one.play(it))),
+            answer_to(format!("{mv}v3").parse().and_then(|it| other.play_run(it))),
+        ];
+        let fold = |sum: u32, answer: &u32| sum.wrapping_mul(31).wrapping_add(*answer);
+        total = answers.iter().fold(total, fold);
+    }
+    println!("answers {total}");
+}
+
 fn made(what: &str, game: &str, given: &str) -> Result<Board, Error> {
-    let games = [Game::FreeCell, Game::BakersGame, Game::EightOff];
-    let game = games[game.parse::<usize>().unwrap()];
+    let game = GAMES[game.parse::<usize>().unwrap()];
     match what {
         "board" => Board::read(game, &unpacked(given)),
         "boards" => {
@@ -148,6 +196,10 @@ fn made(what: &str, game: &str, given: &str) -> Result<Board, Error> {
 fn answer_line(board: &mut Option<Board>, line: &str) -> Result<(), Error> {
     match line.split(' ').collect::<Vec<_>>()[..] {
         [mark @ (">" | ">>"), ref words @ ..] => tell_list(&board.unwrap(), mark, words),
+        ["answers", seed, rounds] => {
+            tell_answers(seed.parse().unwrap(), rounds.parse().unwrap());
+            Ok(())
+        }
         [what, game, given] => {
             let made = made(what, game, given)?;
             println!("made");
