@@ -1,14 +1,14 @@
-// runs.mjs: prints what a command prints of a text in memory, over the module fcanon_runs.wasm:
+// runs.mjs: prints what a command of fcanon prints of standard input, and ends as it does, without the
+// program:
 //
-//     node runs.mjs fcanon_runs.wasm group < positions.collection
+//     node runs.mjs group < positions.collection
 
 import { readFileSync, writeFileSync } from 'node:fs';
-import { Runs } from '../bindings/javascript/runs.js';
+import { importText, run } from 'fcanon/runs';
 
-const [path, task] = process.argv.slice(2);
-const runs = await Runs.from(readFileSync(path));
+const [command] = process.argv.slice(2);
 const input = readFileSync(0);
-const done = task === 'import' ? runs.import(input) : runs.run(task, input);
+const done = command === 'import' ? importText(input) : run(command, input);
 writeFileSync(1, done.text);
 writeFileSync(2, done.said);
-process.exitCode = Number(done.refused > 0);
+process.exitCode = done.status;

@@ -1,86 +1,27 @@
-"""runs.py: what fcanon's commands print of a text in memory, over libfcanon_runs.so.
+"""runs.py: prints what a command of fcanon prints of standard input, and ends as it does, without the
+program.
 
-    python3 runs.py libfcanon_runs.so group < positions.collection    # prints and ends as fcanon group does
+    python3 runs.py group < positions.collection
 """
 
-import ctypes
-import secrets
 import sys
-from typing import NamedTuple
 
-# tools/tables wrote this from fcanon.h and fcanon_runs.h, to the next empty line.
-TASKS = ["show", "canon", "check", "group", "share", "expand", "unique", "table", "same", "symmetries", "count"]
-FORMATS = ["lines", "header", "json"]
-GAMES = ["freecell", "bakers_game", "eight_off"]
-LINES = ["unsaid", "columns", "rows"]
-FAULTS = {1: "no such game", 10: "no such task", 11: "no such format", 12: "out of memory", 13: "input too large"}
-NO_ROOM = 9
-
-
-class Request(ctypes.Structure):
-    _fields_ = [(name, ctypes.c_uint32) for name in ("task", "format", "game", "any_size")] + [("seed", ctypes.c_uint64)]
-
-
-class Written(ctypes.Structure):
-    _fields_ = [(name, ctypes.c_size_t) for name in ("length", "records", "refused")]
-
-
-class Printed(NamedTuple):
-    text: bytes
-    said: bytes  # by `import` on standard error
-    records: int
-    refused: int
-
-
-class Runs:
-    """The calls of the library in this file."""
-
-    def __init__(self, path):
-        self.library = ctypes.CDLL(path)
-        text = [ctypes.c_char_p, ctypes.c_size_t]
-        written, noted = ctypes.POINTER(Written), ctypes.POINTER(ctypes.c_size_t)
-        self.library.fcanon_run.argtypes = [ctypes.POINTER(Request), *text, *text, written]
-        self.library.fcanon_import.argtypes = [ctypes.c_uint32, ctypes.c_uint32, *text, *text, *text, written, noted]
-
-    def run(self, task, text, form="lines", game="freecell", any_size=False):
-        """What `fcanon TASK` prints of these bytes; form is that of table and count."""
-        request = Request(TASKS.index(task), FORMATS.index(form), GAMES.index(game), any_size, secrets.randbits(64))
-        written, answer = Written(2 * len(text) + 4096), NO_ROOM
-        while answer == NO_ROOM:
-            output = ctypes.create_string_buffer(written.length)
-            answer = self.library.fcanon_run(request, text, len(text), output, len(output), written)
-        return printed(answer, written, output)
-
-    def import_text(self, text, game="freecell", lines="unsaid"):
-        """The collection that `fcanon import` makes of these bytes; lines that may be columns or rows are what is said."""
-        written, noted, answer = Written(2 * len(text) + 4096), ctypes.c_size_t(4096), NO_ROOM
-        while answer == NO_ROOM:
-            output, notes = ctypes.create_string_buffer(written.length), ctypes.create_string_buffer(noted.value)
-            answer = self.library.fcanon_import(
-                GAMES.index(game), LINES.index(lines), text, len(text), output, len(output), notes, len(notes), written, noted)
-        return printed(answer, written, output, notes, noted.value)
-
-
-def printed(answer, written, output, notes=b"", noted=0):
-    if answer:
-        raise ValueError(FAULTS.get(answer, f"answer {answer}"))
-    said = ctypes.string_at(notes, noted)
-    return Printed(ctypes.string_at(output, written.length), said, written.records, written.refused)
+import fcanon
 
 
 def main(words):
-    if len(words) != 2 or words[1] not in [*TASKS, "import"]:
-        print("usage: runs.py LIBRARY COMMAND < FILE", file=sys.stderr)
+    if len(words) != 1 or words[0] not in [*fcanon.COMMANDS, "import"]:
+        print("usage: runs.py COMMAND < FILE", file=sys.stderr)
         return 2
-    runs, task, text = Runs(words[0]), words[1], sys.stdin.buffer.read()
+    text = sys.stdin.buffer.read()
     try:
-        done = runs.import_text(text) if task == "import" else runs.run(task, text)
-    except ValueError as fault:
-        print(f"fcanon: {fault}", file=sys.stderr)
+        done = fcanon.import_text(text) if words[0] == "import" else fcanon.run(words[0], text)
+    except fcanon.Error as error:
+        print(f"fcanon: {error}", file=sys.stderr)
         return 3
     sys.stdout.buffer.write(done.text)
     sys.stderr.buffer.write(done.said)
-    return int(done.refused > 0)
+    return done.status
 
 
 if __name__ == "__main__":

@@ -13,37 +13,55 @@ const [DONE, NO_ROOM, NO_MEMORY] = [0, 9, 12];
 
 const [REQUEST_BYTES, SEED_PLACE, WRITTEN_BYTES, SIZE_BYTES] = [24, 16, 24, 8];
 
+// Before version 19 Node has no crypto here.
+function seedByChance() {
+  const seed = new Uint8Array(8);
+  return globalThis.crypto?.getRandomValues(seed) ?? seed.map(() => 256 * Math.random());
+}
+
+const inBytes = (text) => (typeof text === 'string' ? new TextEncoder().encode(text) : text);
+const faultOf = (answer) => Object.assign(new Error(FAULTS[answer] ?? `answer ${answer}`), { answer });
+
 export class Runs {
   constructor(exports) {
     this.exports = exports;
   }
 
-  static async from(bytes) {
-    return new Runs((await WebAssembly.instantiate(bytes)).instance.exports);
+  // Makes the runs of the bytes of the module, or of it compiled.
+  static async from(source) {
+    const made = await WebAssembly.instantiate(source);
+    return new Runs((made.instance ?? made).exports);
   }
 
-  // What a command prints of the bytes of a collection, of how many records, and how many of them are refused.
-  run(task, input, { format = 'lines', game = 'freecell', anySize = false } = {}) {
+  // The same at once, of the compiled module.
+  static of(module) {
+    return new Runs(new WebAssembly.Instance(module).exports);
+  }
+
+  // What a command prints of a collection, of how many records, and how many of them are refused.
+  run(task, text, { format = 'lines', game = 'freecell', anySize = false } = {}) {
+    const input = inBytes(text);
     const words = [TASKS.indexOf(task), FORMATS.indexOf(format), GAMES.indexOf(game), Number(anySize)];
     return this.#untilThereIsRoom(input, (room) =>
-      this.#lent([REQUEST_BYTES, WRITTEN_BYTES, input.length, room.output], (request, written, text, output) => {
+      this.#lent([REQUEST_BYTES, WRITTEN_BYTES, input.length, room.output], (request, written, given, output) => {
         const view = new DataView(this.exports.memory.buffer);
         words.forEach((word, at) => view.setUint32(request + 4 * at, word, true));
-        crypto.getRandomValues(this.#bytes(request + SEED_PLACE, 8));
-        this.#bytes(text, input.length).set(input);
-        const places = [request, text, input.length, output, room.output, written].map(BigInt);
+        this.#bytes(request + SEED_PLACE, 8).set(seedByChance());
+        this.#bytes(given, input.length).set(input);
+        const places = [request, given, input.length, output, room.output, written].map(BigInt);
         return this.#taken(this.exports.fcanon_run(...places), written, output);
       }));
   }
 
-  // The collection that `import` makes of the bytes, what it says of them, and both counts. Lines that
-  // may be columns or rows are what is said.
-  import(input, { game = 'freecell', lines = 'unsaid' } = {}) {
+  // The collection that `import` makes of a text, what it says of that, and both counts. Lines that may
+  // be columns or rows are what is said.
+  import(text, { game = 'freecell', lines = 'unsaid' } = {}) {
+    const input = inBytes(text);
     return this.#untilThereIsRoom(input, (room) => {
       const sizes = [WRITTEN_BYTES, SIZE_BYTES, input.length, room.output, room.notes];
-      return this.#lent(sizes, (written, noted, text, output, notes) => {
-        this.#bytes(text, input.length).set(input);
-        const places = [text, input.length, output, room.output, notes, room.notes, written, noted].map(BigInt);
+      return this.#lent(sizes, (written, noted, given, output, notes) => {
+        this.#bytes(given, input.length).set(input);
+        const places = [given, input.length, output, room.output, notes, room.notes, written, noted].map(BigInt);
         const answer = this.exports.fcanon_import(GAMES.indexOf(game), LINES.indexOf(lines), ...places);
         return this.#taken(answer, written, output, noted, notes);
       });
@@ -60,7 +78,7 @@ export class Runs {
   #lent(sizes, call) {
     const places = sizes.map((size) => Number(this.exports.malloc(BigInt(size))));
     try {
-      if (places.includes(0)) throw new Error(FAULTS[NO_MEMORY]);
+      if (places.includes(0)) throw faultOf(NO_MEMORY);
       return call(...places);
     } finally {
       places.forEach((place) => this.exports.free(BigInt(place)));
@@ -68,12 +86,13 @@ export class Runs {
   }
 
   #taken(answer, written, output, noted, notes) {
-    if (answer !== DONE && answer !== NO_ROOM) throw new Error(FAULTS[answer] ?? `answer ${answer}`);
+    if (answer !== DONE && answer !== NO_ROOM) throw faultOf(answer);
     const [length, records, refused] = [0, 8, 16].map((at) => this.#number(written + at));
     const notesLength = notes ? this.#number(noted) : 0;
     if (answer === NO_ROOM) return { needs: { output: length, notes: notesLength } };
     const said = this.#bytes(notes ?? 0, notesLength).slice();
-    return { text: this.#bytes(output, length).slice(), said, records, refused };
+    const status = Number(refused > 0);
+    return { text: this.#bytes(output, length).slice(), said, records, refused, status };
   }
 
   #bytes(place, length) {

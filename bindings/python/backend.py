@@ -1,33 +1,46 @@
 """backend: builds the wheel of this package, by `pip wheel .`, or `python3 backend.py FOLDER`;
-`python3 backend.py --module FILE` builds its extension module alone.
+`python3 backend.py --sdist FOLDER` its source distribution, and `python3 backend.py --module FILE`
+one extension module alone, _calls.abi3.so or _runs.abi3.so.
 
-The module is compiled by the C compiler CC, of calls.c and of the archive libfcanon.a: that of the
-folder FCANON_LIB, or that which `make library` left in the repository, or the installed one. It is
-for the machine that CC compiles for, and serves every Python from 3.8 on. Nothing is downloaded, and
-the same files make the same bytes.
+The modules are compiled by the C compiler CC, of calls.c with the archive libfcanon.a and of runs.c
+with libfcanon_runs.a: those of the folder FCANON_LIB, or those which `make library` left in the
+repository, or the installed ones. Where there is no libfcanon_runs.a, the package has no whole
+commands. A source distribution has fcanon-portable.c, by tools/portable, in the place of the archives.
+A module is for the machine that CC compiles for, and serves every Python from 3.8 on. Nothing is
+downloaded, and the same files make the same bytes.
 """
 
 import base64
+import gzip
 import hashlib
+import io
 import os
 import re
 import shlex
 import subprocess
 import sys
 import sysconfig
+import tarfile
 import tempfile
 import zipfile
 from pathlib import Path
 
 HERE = Path(__file__).resolve().parent
+TOP = HERE.parent.parent
 CC = shlex.split(os.environ.get("CC", "cc"))
-FLAGS = ["-std=gnu99", "-O2", "-fPIC", "-shared", "-fvisibility=hidden", "-Wl,--exclude-libs,ALL",
+FLAGS = ["-std=gnu11", "-O2", "-fPIC", "-shared", "-fvisibility=hidden", "-Wl,--exclude-libs,ALL",
          "-Wl,-s,-z,relro,-z,now", "-Wl,--build-id=none"]
+PORTABLE = ["fcanon-portable.c", "fcanon.h"]
+# Each module: its source, and the archive that it is linked with.
+MODULES = {"_calls.abi3.so": ("calls.c", "libfcanon.a"), "_runs.abi3.so": ("runs.c", "libfcanon_runs.a")}
 NOON = (1980, 1, 1, 0, 0, 0)  # the first time that a wheel can have
 
 
 def field(name):
     return re.search(rf'^{name} = "(.*)"$', (HERE / "pyproject.toml").read_text(), re.M)[1]
+
+
+# ---- the modules
 
 
 def installed():
@@ -41,11 +54,13 @@ def installed():
 
 
 def library():
-    """The folder of the archive."""
+    """The folder of the archives, or this one where the library is here as one file of C."""
     if "FCANON_LIB" in os.environ:
         places = [Path(os.environ["FCANON_LIB"])]
+    elif (HERE / PORTABLE[0]).exists():
+        return HERE
     else:
-        places = [HERE.parent.parent / "build", *installed()]
+        places = [TOP / "build", *installed()]
     found = [it.resolve() for it in places if (it / "libfcanon.a").exists()]
     if not found:
         raise SystemExit("libfcanon.a is not found: name its folder in FCANON_LIB, or run"
@@ -53,56 +68,78 @@ def library():
     return found[0]
 
 
-def module():
-    """The extension module, as CC compiles it."""
+def module(name):
+    """An extension module, as CC compiles it, or None where its library is not here."""
     folder = library()
+    source, archive = MODULES[name]
+    linked = folder / archive
+    if not linked.exists():
+        linked = folder / PORTABLE[0]
+        if name != "_calls.abi3.so":
+            return None
     headers = [sysconfig.get_path("include"), folder, folder.parent / "include"]
     with tempfile.TemporaryDirectory() as room:
         made = Path(room) / "made"
-        files = [HERE / "calls.c", folder / "libfcanon.a", "-o", made]
-        words = [*CC, *FLAGS, *(f"-I{it}" for it in headers), *files]
+        words = [*CC, *FLAGS, *(f"-I{it}" for it in headers), HERE / source, linked, "-o", made]
         subprocess.run([str(it) for it in words], check=True)
         return made.read_bytes()
 
 
+def modules():
+    made = {name: module(name) for name in MODULES}
+    return {name: it for name, it in made.items() if it}
+
+
+# ---- the wheel
+
+
 def tag(made):
-    """Linux from glibc 2.17 on, on the machine that the module is for."""
-    machine = {62: "x86_64", 183: "aarch64"}[made[18]]  # as the ELF format has it
-    return f"cp38-abi3-manylinux2014_{machine}"
+    """The machine that a module is for: of the known ones every Linux from glibc 2.17 on."""
+    machine = {62: "x86_64", 183: "aarch64"}.get(made[18])  # as the ELF format has it
+    if machine and library() != HERE:
+        return f"cp38-abi3-manylinux2014_{machine}"
+    return f"cp38-abi3-{re.sub('[-.]', '_', sysconfig.get_platform())}"
 
 
 def sum_of(data):
     return base64.urlsafe_b64encode(hashlib.sha256(data).digest()).rstrip(b"=").decode()
 
 
-def contents(made):
-    """The files of the wheel, by their names."""
-    modules = [it for it in sorted((HERE / "fcanon").iterdir()) if it.is_file()]
-    files = {f"fcanon/{it.name}": it.read_bytes() for it in modules}
-    files["fcanon/_calls.abi3.so"] = made
+def licences():
+    """The files of licences and notices, in the repository or in the source distribution."""
+    found = {it.name: it for folder in (HERE, TOP, TOP / "build")
+             for pattern in ("LICENSE-*", "THIRD-PARTY-libfcanon*") for it in folder.glob(pattern)}
+    return [found[name] for name in sorted(found)]
+
+
+def metadata():
+    listed = re.search(r"^classifiers = \[\n(.*?)^\]", (HERE / "pyproject.toml").read_text(), re.M | re.S)[1]
+    lines = ["Metadata-Version: 2.4", "Name: fcanon", f"Version: {field('version')}",
+             f"Summary: {field('description')}", f"License-Expression: {field('license')}",
+             *(f"License-File: {it.name}" for it in licences()),
+             *(f"Classifier: {it}" for it in re.findall(r'"(.*)"', listed)),
+             f"Requires-Python: {field('requires-python')}", "Description-Content-Type: text/markdown"]
+    return ("\n".join(lines) + f"\n\n{(HERE / 'README.md').read_text()}").encode()
+
+
+def package():
+    """The package's own files, but for its modules."""
+    return [it for it in sorted((HERE / "fcanon").iterdir()) if it.is_file() and it.suffix != ".so"]
+
+
+def write_wheel(folder, files, tagged):
+    """Writes a wheel of these files, by their names, and of what each wheel has."""
     info = f"fcanon-{field('version')}.dist-info"
-    files[f"{info}/METADATA"] = (
-        f"Metadata-Version: 2.1\nName: fcanon\nVersion: {field('version')}\n"
-        f"Summary: {field('description')}\nLicense: MIT OR Apache-2.0\n"
-        f"Requires-Python: {field('requires-python')}\n"
-        f"Description-Content-Type: text/markdown\n\n{(HERE / 'README.md').read_text()}"
-    ).encode()
+    files[f"{info}/METADATA"] = metadata()
     files[f"{info}/WHEEL"] = (
-        f"Wheel-Version: 1.0\nGenerator: fcanon\nRoot-Is-Purelib: false\nTag: {tag(made)}\n"
+        f"Wheel-Version: 1.0\nGenerator: fcanon\nRoot-Is-Purelib: false\nTag: {tagged}\n"
     ).encode()
-    top = HERE.parent.parent
-    for it in [*sorted(top.glob("LICENSE-*")), *top.glob("build/THIRD-PARTY-libfcanon")]:
-        files[f"{info}/licenses/{it.name}"] = it.read_bytes()
+    files.update({f"{info}/licenses/{it.name}": it.read_bytes() for it in licences()})
     lines = [f"{name},sha256={sum_of(it)},{len(it)}\n" for name, it in files.items()]
     files[f"{info}/RECORD"] = "".join([*lines, f"{info}/RECORD,,\n"]).encode()
-    return files
-
-
-def build_wheel(wheel_directory, config_settings=None, metadata_directory=None):
-    made = module()
-    name = f"fcanon-{field('version')}-{tag(made)}.whl"
-    with zipfile.ZipFile(Path(wheel_directory) / name, "w", zipfile.ZIP_DEFLATED) as wheel:
-        for path, data in contents(made).items():
+    name = f"fcanon-{field('version')}-{tagged}.whl"
+    with zipfile.ZipFile(Path(folder) / name, "w", zipfile.ZIP_DEFLATED) as wheel:
+        for path, data in files.items():
             entry = zipfile.ZipInfo(path, NOON)
             entry.external_attr, entry.create_system = 0o100644 << 16, 3
             entry.compress_type = zipfile.ZIP_DEFLATED
@@ -110,8 +147,63 @@ def build_wheel(wheel_directory, config_settings=None, metadata_directory=None):
     return name
 
 
-if __name__ == "__main__":
-    if sys.argv[1] == "--module":
-        Path(sys.argv[2]).write_bytes(module())
+def build_wheel(wheel_directory, config_settings=None, metadata_directory=None):
+    made = modules()
+    files = {f"fcanon/{it.name}": it.read_bytes() for it in package()}
+    files.update({f"fcanon/{name}": data for name, data in made.items()})
+    return write_wheel(wheel_directory, files, tag(made["_calls.abi3.so"]))
+
+
+def build_editable(wheel_directory, config_settings=None, metadata_directory=None):
+    """Puts the modules into the package here, and makes a wheel that names this folder."""
+    made = modules()
+    for name, data in made.items():
+        (HERE / "fcanon" / name).write_bytes(data)
+    return write_wheel(wheel_directory, {"fcanon.pth": f"{HERE}\n".encode()}, tag(made["_calls.abi3.so"]))
+
+
+# ---- the source distribution
+
+
+def portable():
+    """The library as one file of C, with its header: here, in the folder FCANON_PORTABLE, or made anew."""
+    here = Path(os.environ.get("FCANON_PORTABLE", HERE))
+    if (here / PORTABLE[0]).exists():
+        return {name: (here / name).read_bytes() for name in PORTABLE}
+    with tempfile.TemporaryDirectory() as room:
+        subprocess.run([str(TOP / "tools" / "portable"), room], check=True, stdout=sys.stderr)
+        return {name: (Path(room) / name).read_bytes() for name in PORTABLE}
+
+
+def build_sdist(sdist_directory, config_settings=None):
+    top = f"fcanon-{field('version')}"
+    own = ["README.md", "backend.py", "calls.c", "runs.c", "pyproject.toml"]
+    files = {"PKG-INFO": metadata(), **portable(), **{name: (HERE / name).read_bytes() for name in own}}
+    files.update({f"fcanon/{it.name}": it.read_bytes() for it in package()})
+    files.update({it.name: it.read_bytes() for it in licences()})
+    packed = io.BytesIO()
+    with tarfile.open(fileobj=packed, mode="w", format=tarfile.USTAR_FORMAT) as archive:
+        for name, data in sorted(files.items()):
+            entry = tarfile.TarInfo(f"{top}/{name}")
+            entry.size, entry.mtime = len(data), int(os.environ.get("SOURCE_DATE_EPOCH", 0))
+            archive.addfile(entry, io.BytesIO(data))
+    name = f"{top}.tar.gz"
+    (Path(sdist_directory) / name).write_bytes(gzip.compress(packed.getvalue(), mtime=0))
+    return name
+
+
+def main(words):
+    if words[0] == "--module":
+        file = Path(words[1])
+        made = module(file.name)
+        if not made:
+            raise SystemExit(f"{MODULES[file.name][1]} is not found beside libfcanon.a")
+        file.write_bytes(made)
+    elif words[0] == "--sdist":
+        print(build_sdist(words[1]))
     else:
-        print(build_wheel(sys.argv[1]))
+        print(build_wheel(words[0]))
+
+
+if __name__ == "__main__":
+    main(sys.argv[1:])

@@ -1,7 +1,7 @@
 /* calls.c: the module fcanon._calls: Board and Passage, and calls of fcanon.h over many boards.
  *
  * It is written for Python's stable ABI from 3.8 on, so that one file serves every later version.
- * __init__.py has the class Error, and hands it to this module.
+ * errors.py has the class Error, and hands it to this module.
  */
 #define Py_LIMITED_API 0x03080000
 #define PY_SSIZE_T_CLEAN
@@ -156,9 +156,12 @@ static PyObject *get_game(PyObject *self, void *unused) {
     return it;
 }
 
-static PyObject *compare(int are_equal, int how) {
-    if (how != Py_EQ && how != Py_NE) Py_RETURN_NOTIMPLEMENTED;
-    return PyBool_FromLong(are_equal == (how == Py_EQ));
+/* How two objects compare: by their games, and then by their bytes. */
+static PyObject *compare(PyObject *self, PyObject *other, const void *a, const void *b, size_t size,
+                         int how) {
+    uint32_t own = ((Board *)self)->game, its = ((Board *)other)->game;
+    int order = own == its ? memcmp(a, b, size) : own < its ? -1 : 1;
+    Py_RETURN_RICHCOMPARE(order, 0, how);
 }
 
 static Py_hash_t mixed(uint32_t game, const void *bytes, size_t size) {
@@ -188,6 +191,10 @@ static PyObject *passage_new(PyTypeObject *type, PyObject *words, PyObject *name
     }
     Py_DECREF(data);
     return (PyObject *)made;
+}
+
+static PyObject *passage_from_bytes(PyObject *type, PyObject *words, PyObject *names) {
+    return passage_new(passage_type, words, names);
 }
 
 static PyObject *passage_inverse(Passage *self, PyObject *unused) {
@@ -244,8 +251,7 @@ static PyObject *passage_reduce(Passage *self, PyObject *unused) {
 
 static PyObject *passage_compare(PyObject *self, PyObject *other, int how) {
     if (Py_TYPE(other) != passage_type) Py_RETURN_NOTIMPLEMENTED;
-    Passage *a = (Passage *)self, *b = (Passage *)other;
-    return compare(a->game == b->game && !memcmp(&a->passage, &b->passage, 20), how);
+    return compare(self, other, &((Passage *)self)->passage, &((Passage *)other)->passage, 20, how);
 }
 
 static Py_hash_t passage_hash(Passage *self) { return mixed(self->game, &self->passage, 20); }
@@ -468,8 +474,7 @@ static PyObject *board_reduce(Board *self, PyObject *unused) {
 
 static PyObject *board_compare(PyObject *self, PyObject *other, int how) {
     if (Py_TYPE(other) != board_type) Py_RETURN_NOTIMPLEMENTED;
-    Board *a = (Board *)self, *b = (Board *)other;
-    return compare(a->game == b->game && !memcmp(&a->board, &b->board, 72), how);
+    return compare(self, other, &((Board *)self)->board, &((Board *)other)->board, 72, how);
 }
 
 static Py_hash_t board_hash(Board *self) { return mixed(self->game, &self->board, 72); }
@@ -608,6 +613,8 @@ static PyObject *words_of(PyObject *module, PyObject *number) {
 #define METHOD(name, function, how, words) {name, (PyCFunction)(void (*)(void))function, how, words}
 
 static PyMethodDef passage_methods[] = {
+    METHOD("from_bytes", passage_from_bytes, BY_NAME | METH_CLASS,
+           "The passage of these 20 bytes, which fcanon.h describes."),
     METHOD("inverse", passage_inverse, METH_NOARGS, "The passage that leads back."),
     METHOD("then", passage_then, METH_O, "This passage, and then the next one of the same game."),
     METHOD("image", passage_image, METH_O, "The board that the passage leads to from a board."),
@@ -719,7 +726,9 @@ PyMODINIT_FUNC PyInit__calls(void) {
         are_named &= (games[game] = PyUnicode_InternFromString(game_names[game])) != NULL;
     board_type = type_in(module, "Board", &board_spec);
     passage_type = board_type ? type_in(module, "Passage", &passage_spec) : NULL;
-    if (are_named && passage_type) return module;
+    if (are_named && passage_type &&
+        !PyModule_AddStringConstant(module, "__version__", FCANON_RELEASE))
+        return module;
     Py_DECREF(module);
     return NULL;
 }

@@ -1,14 +1,20 @@
 // bundled.mjs: a page's use of the JavaScript package, which a bundler puts into one file.
 
 import init, { Board } from 'fcanon';
+import initRuns, { run } from 'fcanon/runs';
 
-let why = '';
-try {
-  Board.deal(1);
-} catch (error) {
-  why = error.message;
+for (const call of [() => Board.deal(1), () => run('show', '')]) {
+  let why = '';
+  try {
+    call();
+  } catch (error) {
+    why = error.message;
+  }
+  if (!/await init/.test(why)) console.log(`before init: ${why}`);
 }
-if (!/await init/.test(why)) console.log(`before init: ${why}`);
+initRuns(globalThis.runsModule).then(() => {
+  if (run('show', '').records !== 0) console.log('an empty collection has records');
+});
 init(globalThis.fcanonModule).then(() => {
   const carried = Board.deal(1).canonicalize().passage.carry('3a');
   if (carried !== '6a') console.log(`3a is carried to ${carried}`);

@@ -5,7 +5,7 @@ import assert from 'node:assert';
 import fs from 'node:fs';
 import { pathToFileURL } from 'node:url';
 
-const { Board, FcanonError, GAMES, canonicalizeAll } = await import(pathToFileURL(process.argv[2]));
+const { Board, FcanonError, GAMES, Passage, canonicalizeAll } = await import(pathToFileURL(process.argv[2]));
 const said = [];
 const lineOf = (board) => String(board).replaceAll('\n', '|');
 const hexOf = (bytes) => Buffer.from(bytes).toString('hex');
@@ -73,6 +73,54 @@ function tellList(board, mark, moves) {
   if (runs && !got.startsWith('illegal')) said.push(['>', ...expanded(board, moves)].join(' '));
 }
 
+// Numbers by chance, which each language draws alike: xorshift of 32 bits.
+function numbersFrom(seed) {
+  let it = seed;
+  return () => {
+    it ^= it << 13;
+    it ^= it >>> 17;
+    it ^= it << 5;
+    return it >>> 0;
+  };
+}
+
+// Bytes of which up to two are others.
+function damaged(draw, given) {
+  const bytes = Uint8Array.from(given);
+  for (let left = draw() % 3; left > 0; left--) {
+    const at = draw() % bytes.length;
+    bytes[at] = draw() % 60;
+  }
+  return bytes;
+}
+
+function answerTo(call) {
+  try {
+    call();
+  } catch (error) {
+    if (!(error instanceof FcanonError)) throw error;
+    return error.answer;
+  }
+  return 0;
+}
+
+// A sum of what is answered to damaged boards and passages, and to moves by chance.
+function tellAnswers(seed, rounds) {
+  const [draw, signs] = [numbersFrom(seed), '12345678abcdefgkhX \u00e9'];
+  let total = 0;
+  for (let round = 0; round < rounds; round++) {
+    const game = GAMES[draw() % GAMES.length];
+    const board = Board.deal(draw() % 1000 + 1);
+    const bytes = damaged(draw, board.bytes);
+    const passage = damaged(draw, board.canonicalize().passage.bytes);
+    const move = signs[draw() % signs.length] + signs[draw() % signs.length];
+    const asked = [() => Board.fromBytes(bytes, game), () => new Passage(passage, game),
+      () => board.play(move), () => board.playRun(`${move}v3`)];
+    for (const call of asked) total = (Math.imul(31, total) + answerTo(call)) >>> 0;
+  }
+  said.push(`answers ${total}`);
+}
+
 function made(what, game, given) {
   if (what === 'boards') canonicalizeAll(bytesOf(given), GAMES[game]);
   if (what === 'board') return new Board(bytesOf(given), GAMES[game]);
@@ -86,6 +134,8 @@ for (const line of fs.readFileSync(0, 'utf8').split('\n').slice(0, -1)) {
   try {
     if (what.startsWith('>')) {
       tellList(board, what, words);
+    } else if (what === 'answers') {
+      tellAnswers(...words.map(Number));
     } else {
       board = made(what, ...words);
       said.push('made');

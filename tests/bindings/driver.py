@@ -6,7 +6,9 @@ tests/bindings/run says how.
 import pickle
 import sys
 
-from fcanon import GAMES, Board, Error, canonicalize_all, canonicalize_all_with_passages, hash_all
+from fcanon import (
+    GAMES, Answer, Board, Error, Passage, canonicalize_all, canonicalize_all_with_passages, hash_all,
+)
 
 
 def line_of(board):
@@ -73,6 +75,47 @@ def tell_list(board, mark, moves):
         print(" ".join([">", *expanded(board, moves)]))
 
 
+def numbers(seed):
+    """Numbers by chance, which each language draws alike: xorshift of 32 bits."""
+    while True:
+        seed ^= seed << 13 & 0xFFFFFFFF
+        seed ^= seed >> 17
+        seed ^= seed << 5 & 0xFFFFFFFF
+        yield seed
+
+
+def damaged(draw, given):
+    """Bytes of which up to two are others."""
+    data = bytearray(given)
+    for _ in range(next(draw) % 3):
+        at = next(draw) % len(data)
+        data[at] = next(draw) % 60
+    return bytes(data)
+
+
+def answer_to(call, *given):
+    try:
+        call(*given)
+    except Error as error:
+        return error.answer
+    return Answer.DONE
+
+
+def tell_answers(seed, rounds):
+    """A sum of what is answered to damaged boards and passages, and to moves by chance."""
+    draw, total, signs = numbers(seed), 0, "12345678abcdefgkhX \u00e9"
+    for _ in range(rounds):
+        game = GAMES[next(draw) % len(GAMES)]
+        board = Board.deal(next(draw) % 1000 + 1)
+        asked = [(Board.from_bytes, damaged(draw, bytes(board)), game)]
+        asked += [(Passage.from_bytes, damaged(draw, bytes(board.canonicalize()[1])), game)]
+        move = signs[next(draw) % len(signs)] + signs[next(draw) % len(signs)]
+        asked += [(board.play, move), (board.play_run, move + "v3")]
+        for it in asked:
+            total = (31 * total + answer_to(*it)) % 2**32
+    print("answers", total)
+
+
 def made(what, game, given):
     if what == "boards":
         canonicalize_all(bytes.fromhex(given), GAMES[int(game)])
@@ -89,6 +132,8 @@ for line in sys.stdin.read().splitlines():
     try:
         if what in (">", ">>"):
             tell_list(board, what, words)
+        elif what == "answers":
+            tell_answers(*map(int, words))
         else:
             board = made(what, *words)
             print("made")

@@ -7,8 +7,12 @@ import multiprocessing
 import pickle
 import re
 from array import array
+from concurrent.futures import ThreadPoolExecutor
 
-from fcanon import Board, Error, canonicalize_all, canonicalize_all_with_passages, hash_all
+from fcanon import (
+    COMMANDS, GAMES, Answer, Board, Error, Passage, canonicalize_all, canonicalize_all_with_passages,
+    hash_all, import_text, run,
+)
 
 BOARD = Board.deal(1)
 PASSAGE = BOARD.canonicalize()[1]
@@ -32,6 +36,15 @@ REFUSED = [
     ("another game of a board", setattr, [BOARD, "game", "eight_off"], AttributeError, "game"),
     ("another game of a passage", setattr, [PASSAGE, "game", "eight_off"], AttributeError, "game"),
     ("a move that is no str", BOARD.play, [31], TypeError, "str"),
+    ("a passage that is none", Passage.from_bytes, [b"\1" * 20], Error, "no passage"),
+    ("an order of a board and a passage", max, [BOARD, PASSAGE], TypeError, "not supported"),
+    ("a command that is none", run, ["swim", ""], ValueError, "one of show, .*, not 'swim'"),
+    ("a format that is none", lambda: run("table", "", format="verse"), [], ValueError, "lines, header, json"),
+    ("a game of a command that is none", run, ["show", "", "golf"], Error, "no such game"),
+    ("a game of an import that is none", import_text, ["", "golf"], Error, "no such game"),
+    ("lines that are none", lambda: import_text("", lines="knots"), [], ValueError, "columns, rows"),
+    ("a text that is a number", run, ["show", 7], TypeError, "int"),
+    ("more than 16 MiB", run, ["show", b"\n" * (2**24 + 1)], Error, "input too large"),
 ]
 
 
@@ -53,6 +66,28 @@ def batches():
         yield f"{call.__name__} of none", call(b"") in (b"", (b"", b""))
 
 
+def ordered():
+    """Boards and passages have the order of their games, and then of their bytes."""
+    boards = [Board.deal(number, game) for game in GAMES[:2] for number in range(1, 30)]
+    for made in (boards, [board.canonicalize()[1] for board in boards]):
+        keys = {it: (GAMES.index(it.game), bytes(it)) for it in made}
+        yield "an order", sorted(made) == sorted(made, key=keys.get)
+        yield "a first one", min(made) <= max(made) and not min(made) > min(made) and made[0] >= made[0]
+
+
+def commands():
+    """What goes in and out of a run."""
+    text = f"{BOARD}@ freecell again\n{BOARD}@ freecell none\nKC\n"
+    for given in (text, text.encode(), bytearray(text.encode()), memoryview(text.encode())):
+        done = run("unique", given)
+        yield "a run", str(done).startswith(f"{BOARD}# refused none at ")
+        yield "what it says, and its counts", (*done[1:], done.status) == (b"", 3, 1, 1)
+    with ThreadPoolExecutor(4) as pool:
+        many = list(pool.map(run, COMMANDS * 20, [text] * len(COMMANDS) * 20))
+    yield "runs of threads", many == [run(command, text) for command in COMMANDS] * 20
+    yield "an answer by its name", Answer.INPUT_TOO_LARGE == 13 and Error(13).reason == "input too large"
+
+
 def pickled():
     """What goes to other processes and comes back."""
     for protocol in range(pickle.HIGHEST_PROTOCOL + 1):
@@ -71,6 +106,6 @@ if __name__ == "__main__":
     for name, *it in REFUSED:
         if not is_refused(*it):
             print(f"it is not refused: {name}")
-    for name, is_so in [*batches(), *pickled()]:
+    for name, is_so in [*batches(), *pickled(), *ordered(), *commands()]:
         if not is_so:
             print(f"it is not so: {name}")

@@ -5,7 +5,7 @@ import assert from 'node:assert';
 import { createRequire } from 'node:module';
 import { readFileSync } from 'node:fs';
 import init, { Board, FcanonError, GAMES, Passage } from 'fcanon';
-import { Runs } from 'fcanon/runs';
+import initRuns, { COMMANDS, importText, run, Runs } from 'fcanon/runs';
 
 await init();
 const text = String(Board.deal(1));
@@ -33,7 +33,19 @@ const require = createRequire(import.meta.url);
 if (process.features.require_module) assert.equal(require('fcanon').Board, Board);
 else assert.throws(() => require('fcanon'), /await import/);
 
-// Whole commands run by the package's other module.
+// Whole commands run by the package's other module, over a string or bytes.
+await initRuns();
+const twice = `${text}\n@ freecell again\n${text}`;
+const textOf = ({ text: bytes }) => new TextDecoder().decode(bytes);
 const runs = await Runs.from(readFileSync(new URL(import.meta.resolve('fcanon/fcanon_runs.wasm'))));
-const printed = runs.run('unique', new TextEncoder().encode(`${text}\n@ freecell again\n${text}`));
-assert.deepEqual([new TextDecoder().decode(printed.text), printed.records], [text, 2]);
+for (const given of [twice, new TextEncoder().encode(twice)]) {
+  for (const printed of [run('unique', given), runs.run('unique', given)]) {
+    assert.deepEqual([textOf(printed), printed.records, printed.refused, printed.status], [text, 2, 0, 0]);
+  }
+}
+for (const command of COMMANDS) assert(run(command, 'KC\n').status === 1, command);
+assert.equal(textOf(run('count', text, { format: 'json', game: 'eight_off' })).slice(0, 2), '{"');
+assert.equal(importText('nothing').status, 0);
+assert.throws(() => run('swim', text), { message: 'no such task', answer: 10 });
+assert.throws(() => run('show', text, { game: 'golf' }), { message: 'no such game', answer: 1 });
+assert.throws(() => run('show', text, { format: 'verse' }), { message: 'no such format', answer: 11 });

@@ -1,0 +1,6 @@
+from typing import Tuple
+
+_Answered = Tuple[int, bytes, bytes, int, int]
+
+def run(command: int, format: int, game: int, any_size: bool, seed: int, text: bytes) -> _Answered: ...
+def import_text(game: int, lines: int, text: bytes) -> _Answered: ...

@@ -1,0 +1,60 @@
+"""Calls of fcanon_runs.h in its shared library."""
+
+import ctypes
+import secrets
+from typing import NamedTuple
+
+from lib.headers import FORMATS, GAMES, LINES, MEANINGS, TASKS
+
+NO_ROOM = next(number for number, meaning in MEANINGS.items() if meaning.startswith("too little room"))
+
+
+class Request(ctypes.Structure):
+    _fields_ = [(name, ctypes.c_uint32) for name in ("task", "format", "game", "any_size")] + [("seed", ctypes.c_uint64)]
+
+
+class Written(ctypes.Structure):
+    _fields_ = [(name, ctypes.c_size_t) for name in ("length", "records", "refused")]
+
+
+class Printed(NamedTuple):
+    text: bytes
+    said: bytes  # by `import` on standard error
+    records: int
+    refused: int
+
+
+class Runs:
+    """The calls of the library in this file."""
+
+    def __init__(self, path):
+        self.library = ctypes.CDLL(path)
+        text = [ctypes.c_char_p, ctypes.c_size_t]
+        written, noted = ctypes.POINTER(Written), ctypes.POINTER(ctypes.c_size_t)
+        self.library.fcanon_run.argtypes = [ctypes.POINTER(Request), *text, *text, written]
+        self.library.fcanon_import.argtypes = [ctypes.c_uint32, ctypes.c_uint32, *text, *text, *text, written, noted]
+
+    def run(self, task, text, form="lines", game="freecell", any_size=False):
+        """What `fcanon TASK` prints of these bytes; form is that of table and count."""
+        request = Request(TASKS.index(task), FORMATS.index(form), GAMES.index(game), any_size, secrets.randbits(64))
+        written, answer = Written(2 * len(text) + 4096), NO_ROOM
+        while answer == NO_ROOM:
+            output = ctypes.create_string_buffer(written.length)
+            answer = self.library.fcanon_run(request, text, len(text), output, len(output), written)
+        return printed(answer, written, output)
+
+    def import_text(self, text, game="freecell", lines="unsaid"):
+        """The collection that `fcanon import` makes of these bytes; lines that may be columns or rows are what is said."""
+        written, noted, answer = Written(2 * len(text) + 4096), ctypes.c_size_t(4096), NO_ROOM
+        while answer == NO_ROOM:
+            output, notes = ctypes.create_string_buffer(written.length), ctypes.create_string_buffer(noted.value)
+            answer = self.library.fcanon_import(
+                GAMES.index(game), LINES.index(lines), text, len(text), output, len(output), notes, len(notes), written, noted)
+        return printed(answer, written, output, notes, noted.value)
+
+
+def printed(answer, written, output, notes=b"", noted=0):
+    if answer:
+        raise ValueError(MEANINGS.get(answer, f"answer {answer}"))
+    said = ctypes.string_at(notes, noted)
+    return Printed(ctypes.string_at(output, written.length), said, written.records, written.refused)
