@@ -3,11 +3,6 @@
 #include "fcanon.h"
 #include "x86-64.h"
 
-#define CALL(type, name, parameters, arguments) \
-    __attribute__((visibility("hidden"))) type name##_v1 parameters; \
-    __attribute__((visibility("hidden"))) type name##_v2 parameters; \
-    type name parameters { return (has_x86_64_v2() ? name##_v2 : name##_v1) arguments; }
-
 CALL(uint32_t, fcanon_version, (void), ())
 CALL(void, fcanon_find_answer_text, (uint32_t answer, const char **text), (answer, text))
 CALL(uint32_t, fcanon_read,

@@ -1,4 +1,4 @@
-/* x86-64.h: whether the processor has what x86-64-v2 has over the first x86-64. */
+/* x86-64.h: whether the processor has what x86-64-v2 has over the first x86-64, and calls by that. */
 #include <cpuid.h>
 
 /* 1 without and 2 with. */
@@ -20,3 +20,9 @@ static inline int has_x86_64_v2(void) {
     }
     return it == 2;
 }
+
+/* A call whose name ends in _v1 where it is compiled for every x86-64, and in _v2 for x86-64-v2. */
+#define CALL(type, name, parameters, arguments) \
+    __attribute__((visibility("hidden"))) type name##_v1 parameters; \
+    __attribute__((visibility("hidden"))) type name##_v2 parameters; \
+    type name parameters { return (has_x86_64_v2() ? name##_v2 : name##_v1) arguments; }

@@ -5,7 +5,7 @@
 typedef __SIZE_TYPE__ size_t;
 enum { PAGE = 65536, HEAD = 16, LEAST = 5 };
 extern unsigned char __heap_base;
-static unsigned char *next, nothing;
+static unsigned char *next;
 static struct block { struct block *next; } *freed[64];
 
 static int class_of(size_t size) {
@@ -51,21 +51,6 @@ void *realloc(void *at, size_t size) {
     free(at);
     return moved;
 }
-
-/* The three functions of the toolchain's own file over malloc, realloc and free, as it has them on
- * other machines. A request for no bytes is one for its alignment. */
-struct tried { size_t is_there; void *at; };
-
-static struct tried tried(void *at) { return (struct tried){at != 0, at ? at : &nothing}; }
-
-struct tried rattle_alloc(size_t size, size_t align) { return tried(malloc(size ? size : align)); }
-
-struct tried rattle_realloc(void *at, size_t old, size_t size, size_t align) {
-    (void)old;
-    return tried(realloc(at, size ? size : align));
-}
-
-void rattle_dealloc(void *at) { free(at); }
 
 typedef unsigned __int128 wide;
 typedef unsigned long long word;
