@@ -6,8 +6,8 @@
 True
 >>> passage.carry("3a")
 '6a'
->>> run("unique", f"{board}@ freecell again\n{board}").records
-2
+>>> run("show", str(board)).text == bytes(str(board), "ascii")
+True
 
 Two boards of a game have one canonical board exactly if an order of columns, an order of cells and
 a renaming of suits that keeps the building rule lead from the one to the other. Boards and passages
