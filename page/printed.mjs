@@ -1,19 +1,19 @@
 // What the program prints of the text, under each command: the proved runs print it.
 
-import { TASKS } from '../bindings/javascript/runs.js';
+import { COMMANDS } from '../bindings/javascript/runs.js';
 import { collection, isLarge } from './collection.mjs';
 import { at, download, element, isIdle, setIdle, write } from './elements.mjs';
 import { later, now } from './engine.mjs';
 import { asText } from './lines.mjs';
 
 const OPTIONS = { table: ['', ' --header', ' --json'], count: ['', ' --json'] };
-const COMMANDS = TASKS.flatMap((task) => (OPTIONS[task] ?? ['']).map((option) => task + option));
+const PRINTINGS = COMMANDS.flatMap((task) => (OPTIONS[task] ?? ['']).map((option) => task + option));
 const MOST_PRINTED = 100_000;
 
 let printed = { command: '', text: new Uint8Array() }; // of a collection
 
 export function listCommands() {
-  at('command').replaceChildren(...COMMANDS.map((name) => element('option', {}, name)));
+  at('command').replaceChildren(...PRINTINGS.map((name) => element('option', {}, name)));
 }
 
 // Prints anew where the text or the command is another one, and this is seen.

@@ -16,4 +16,4 @@ export default async function init() {}
 
 export const run = (command, text, options) => ready().run(command, text, options);
 export const importText = (text, options) => ready().import(text, options);
-export { Runs, TASKS as COMMANDS } from './runs.js';
+export { COMMANDS, Runs } from './runs.js';

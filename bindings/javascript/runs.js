@@ -4,7 +4,7 @@
 import { GAMES } from './calls.js';
 
 // tools/tables wrote this from fcanon_runs.h, to the next empty line.
-export const TASKS = ['show', 'canon', 'check', 'group', 'share', 'expand', 'unique', 'table', 'same', 'symmetries',
+export const COMMANDS = ['show', 'canon', 'check', 'group', 'share', 'expand', 'unique', 'table', 'same', 'symmetries',
   'count'];
 const FORMATS = ['lines', 'header', 'json'];
 const LINES = ['unsaid', 'columns', 'rows'];
@@ -41,7 +41,7 @@ export class Runs {
   // What a command prints of a collection, of how many records, and how many of them are refused.
   run(task, text, { format = 'lines', game = 'freecell', anySize = false } = {}) {
     const input = inBytes(text);
-    const words = [TASKS.indexOf(task), FORMATS.indexOf(format), GAMES.indexOf(game), Number(anySize)];
+    const words = [COMMANDS.indexOf(task), FORMATS.indexOf(format), GAMES.indexOf(game), Number(anySize)];
     return this.#untilThereIsRoom(input, (room) =>
       this.#lent([REQUEST_BYTES, WRITTEN_BYTES, input.length, room.output], (request, written, given, output) => {
         const view = new DataView(this.exports.memory.buffer);
