@@ -43,6 +43,19 @@ export class Passage {
   toString(): string;
 }
 
+/** The sums of a board, from which the hash of its class is made. They never change. */
+export class ClassSums {
+  private constructor();
+  readonly game: Game;
+  /** The sums when this card, 1 to 52, lies on the one no more, but on the other. A card lies on another card, 1 to 52, on the
+   * foot of a column, 0, in a cell, 53, or at home, 54, from where none comes back. */
+  moved(card: number, from: number, onto: number): ClassSums;
+  /** A hash of the board's class in 16 bytes, the same in each run and on each machine: equivalent boards have one. */
+  classHash(): Uint8Array;
+  /** Whether the sums are the same. */
+  equals(other: ClassSums): boolean;
+}
+
 /** The bytes of the canonical boards of boards, of which each is 72 bytes. */
 export function canonicalizeAll(boards: Uint8Array, game?: Game): Uint8Array;
 
@@ -70,6 +83,8 @@ export class Board {
   canonicalize(): { board: Board; passage: Passage };
   /** A hash of the canonical board in 16 bytes, the same in each run and on each machine. */
   canonicalHash(): Uint8Array;
+  /** The sums of the board, which a search moves with it to hash its class. */
+  classSums(): ClassSums;
   /** The canonical board of the board after a move of one card, and the passage to it. */
   child(move: string): { board: Board; passage: Passage };
   /** The moves of one card that the game allows. */

@@ -112,6 +112,35 @@ export class Passage {
   }
 }
 
+// The sums of a board, which a search moves with it.
+export class ClassSums {
+  #sums;
+
+  constructor(sums, game) {
+    if (!(sums instanceof Made)) throw new TypeError('write board.classSums()');
+    this.#sums = sums.bytes;
+    this.game = game;
+    Object.freeze(this);
+  }
+
+  moved(card, from, onto) {
+    if (![card, from, onto].every((it) => Number.isInteger(it) && it >= 0 && it < 256)) throw new FcanonError(3);
+    const sums = this.#sums.slice();
+    call('move_sums', this.game, card, from, onto, sums);
+    return new ClassSums(new Made(sums), this.game);
+  }
+
+  classHash() {
+    const hash = new Uint8Array(16);
+    call('class_hash', this.game, this.#sums.slice(), hash);
+    return hash;
+  }
+
+  equals(other) {
+    return this.game === other.game && this.#sums.every((byte, at) => byte === other.#sums[at]);
+  }
+}
+
 // The bytes of the board that a text spells.
 function bytesOf(text, game) {
   const bytes = typeof text === 'string' ? new TextEncoder().encode(text) : Uint8Array.from(text);
@@ -128,7 +157,7 @@ export function canonicalizeAll(boards, game = 'freecell') {
   return keys;
 }
 
-// The bytes of a board that a call wrote; no other file can make one.
+// The bytes of a board, or of sums, that a call wrote; no other file can make one.
 class Made {
   constructor(bytes) {
     this.bytes = bytes;
@@ -192,6 +221,12 @@ export class Board {
     const hash = new Uint8Array(16);
     call('hash', this.game, this.bytes, hash);
     return hash;
+  }
+
+  classSums() {
+    const sums = new Uint8Array(384);
+    call('sums', this.game, this.bytes, sums);
+    return new ClassSums(new Made(sums), this.game);
   }
 
   canonicalize() {

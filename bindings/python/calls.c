@@ -1,4 +1,4 @@
-/* calls.c: the module fcanon._calls: Board and Passage, and calls of fcanon.h over many boards.
+/* calls.c: the module fcanon._calls: Board, Passage and ClassSums, and calls of fcanon.h over many boards.
  *
  * It is written for Python's stable ABI from 3.8 on, so that one file serves every later version.
  * errors.py has the class Error, and hands it to this module.
@@ -20,12 +20,18 @@ typedef struct {
     fcanon_passage passage;
 } Passage;
 
+typedef struct {
+    PyObject_HEAD
+    uint32_t game;
+    fcanon_class_sums sums;
+} ClassSums;
+
 /* tools/tables wrote this from fcanon.h, to the next empty line. */
 enum { GAMES = 3 };
 static const char *const game_names[GAMES] = {"freecell", "bakers_game", "eight_off"};
 static const int cell_counts[GAMES] = {4, 4, 8};
 
-static PyTypeObject *board_type, *passage_type;
+static PyTypeObject *board_type, *passage_type, *sums_type;
 static PyObject *error_class, *games[GAMES];
 
 /* ---- errors, games and moves */
@@ -98,6 +104,12 @@ static Board *new_board(uint32_t game) {
 
 static Passage *new_passage(uint32_t game) {
     Passage *it = (Passage *)PyType_GenericAlloc(passage_type, 0);
+    if (it) it->game = game;
+    return it;
+}
+
+static ClassSums *new_sums(uint32_t game) {
+    ClassSums *it = (ClassSums *)PyType_GenericAlloc(sums_type, 0);
     if (it) it->game = game;
     return it;
 }
@@ -267,6 +279,38 @@ static PyObject *passage_str(Passage *self) {
 
 static PyObject *passage_repr(Passage *self) { return PyUnicode_FromFormat("<Passage %S>", self); }
 
+/* ---- sums */
+
+/* Sums are made by Board.class_sums alone. */
+static PyObject *sums_new(PyTypeObject *type, PyObject *words, PyObject *names) {
+    PyErr_SetString(PyExc_TypeError, "write board.class_sums()");
+    return NULL;
+}
+
+static PyObject *sums_moved(ClassSums *self, PyObject *words) {
+    long card, from, onto;
+    if (!PyArg_ParseTuple(words, "lll", &card, &from, &onto)) return NULL;
+    if ((card | from | onto) & ~255L) return refuse(FCANON_NO_MOVE, -1);
+    ClassSums *made = new_sums(self->game);
+    if (!made) return NULL;
+    made->sums = self->sums;
+    return given(made, fcanon_move_sums(self->game, (uint8_t)card, (uint8_t)from, (uint8_t)onto, &made->sums));
+}
+
+static PyObject *sums_class_hash(ClassSums *self, PyObject *unused) {
+    uint8_t hash[16];
+    uint32_t answer = fcanon_class_hash(self->game, &self->sums, hash);
+    return answer ? refuse(answer, -1) : PyBytes_FromStringAndSize((const char *)hash, 16);
+}
+
+static PyObject *sums_compare(PyObject *self, PyObject *other, int how) {
+    if (Py_TYPE(other) != sums_type) Py_RETURN_NOTIMPLEMENTED;
+    ClassSums *a = (ClassSums *)self, *b = (ClassSums *)other;
+    return compare(a->game == b->game && !memcmp(&a->sums, &b->sums, sizeof a->sums), how);
+}
+
+static Py_hash_t sums_hash(ClassSums *self) { return mixed(self->game, &self->sums, sizeof self->sums); }
+
 /* ---- boards */
 
 static PyObject *board_new(PyTypeObject *type, PyObject *words, PyObject *names) {
@@ -324,6 +368,11 @@ static PyObject *board_canonical_hash(Board *self, PyObject *unused) {
     uint8_t hash[16];
     uint32_t answer = fcanon_hash(self->game, &self->board, hash);
     return answer ? refuse(answer, -1) : PyBytes_FromStringAndSize((const char *)hash, 16);
+}
+
+static PyObject *board_class_sums(Board *self, PyObject *unused) {
+    ClassSums *made = new_sums(self->game);
+    return made ? given(made, fcanon_sums(self->game, &self->board, &made->sums)) : NULL;
 }
 
 static PyObject *board_canonicalize(Board *self, PyObject *unused) {
@@ -626,6 +675,15 @@ static PyMethodDef passage_methods[] = {
     METHOD("__reduce__", passage_reduce, METH_NOARGS, NULL),
     {0}};
 
+static PyMethodDef sums_methods[] = {
+    METHOD("moved", sums_moved, METH_VARARGS,
+           "The sums when this card, 1 to 52, lies on the one no more, but on the other.\n\n"
+           "A card lies on another card, 1 to 52, on the foot of a column, 0, in a cell, 53, or\n"
+           "at home, 54, from where none comes back."),
+    METHOD("class_hash", sums_class_hash, METH_NOARGS,
+           "A hash of the board's class in 16 bytes: equivalent boards have one."),
+    {0}};
+
 static PyMethodDef board_methods[] = {
     METHOD("deal", board_deal, BY_NAME | METH_CLASS,
            "One of Microsoft's numbered deals, of FreeCell or Baker's Game."),
@@ -635,6 +693,8 @@ static PyMethodDef board_methods[] = {
            "The canonical board of all that are equivalent to this one."),
     METHOD("canonical_hash", board_canonical_hash, METH_NOARGS,
            "A hash of the canonical board in 16 bytes, the same in each run and on each machine."),
+    METHOD("class_sums", board_class_sums, METH_NOARGS,
+           "The sums of the board, which a search moves with it to hash its class."),
     METHOD("canonicalize", board_canonicalize, METH_NOARGS,
            "The canonical board, and the passage to it."),
     METHOD("child", board_child, METH_O,
@@ -661,6 +721,9 @@ static PyMethodDef board_methods[] = {
 static PyGetSetDef passage_fields[] = {
     {"game", get_game, NULL, "The game, one of GAMES.", NULL},
     {0}};
+static PyGetSetDef sums_fields[] = {
+    {"game", get_game, NULL, "The game, one of GAMES.", NULL},
+    {0}};
 static PyGetSetDef board_fields[] = {
     {"game", get_game, NULL, "The game, one of GAMES.", NULL},
     {"is_won", (getter)board_is_won, NULL, "Whether all cards are home.", NULL},
@@ -677,6 +740,15 @@ static PyType_Slot passage_slots[] = {
     {Py_tp_str, passage_str},
     {Py_tp_repr, passage_repr},
     {0}};
+static PyType_Slot sums_slots[] = {
+    {Py_tp_doc, "The sums of a board, from which the hash of its class is made. They never change."},
+    {Py_tp_new, sums_new},
+    {Py_tp_dealloc, forget},
+    {Py_tp_methods, sums_methods},
+    {Py_tp_getset, sums_fields},
+    {Py_tp_richcompare, sums_compare},
+    {Py_tp_hash, sums_hash},
+    {0}};
 static PyType_Slot board_slots[] = {
     {Py_tp_doc, "A board of a game, on which each of the 52 cards is once. It never changes."},
     {Py_tp_new, board_new},
@@ -690,6 +762,8 @@ static PyType_Slot board_slots[] = {
     {0}};
 static PyType_Spec passage_spec = {
     "fcanon.Passage", sizeof(Passage), 0, Py_TPFLAGS_DEFAULT, passage_slots};
+static PyType_Spec sums_spec = {
+    "fcanon.ClassSums", sizeof(ClassSums), 0, Py_TPFLAGS_DEFAULT, sums_slots};
 static PyType_Spec board_spec = {"fcanon.Board", sizeof(Board), 0, Py_TPFLAGS_DEFAULT, board_slots};
 
 static PyMethodDef functions[] = {
@@ -726,7 +800,8 @@ PyMODINIT_FUNC PyInit__calls(void) {
         are_named &= (games[game] = PyUnicode_InternFromString(game_names[game])) != NULL;
     board_type = type_in(module, "Board", &board_spec);
     passage_type = board_type ? type_in(module, "Passage", &passage_spec) : NULL;
-    if (are_named && passage_type &&
+    sums_type = passage_type ? type_in(module, "ClassSums", &sums_spec) : NULL;
+    if (are_named && sums_type &&
         !PyModule_AddStringConstant(module, "__version__", FCANON_RELEASE))
         return module;
     Py_DECREF(module);

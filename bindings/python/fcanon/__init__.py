@@ -14,6 +14,12 @@ a renaming of suits that keeps the building rule lead from the one to the other.
 never change, are equal, hashed and ordered by their games and bytes, and so are keys of sets and
 dicts.
 
+The class_sums of a board are kept up to date by the one card that a move touches, and their class_hash
+is one for equivalent boards: a search hashes classes by it, and no canonical board is made.
+
+>>> board.class_sums().moved(7, 30, 53) == board.play("3a").class_sums()
+True
+
 A move of one card is a str as "3a"; one of several cards is a str as "14v3" or "14". What a call of
 the library refuses is raised as an Error, a ValueError with the reason and the place.
 
@@ -25,7 +31,9 @@ run does what a command of the program fcanon does over a whole collection, and 
 `fcanon import` does: in memory, and without the program.
 """
 
-from ._calls import Board, Passage, __version__, canonicalize_all, canonicalize_all_with_passages, hash_all
+from ._calls import (
+    Board, ClassSums, Passage, __version__, canonicalize_all, canonicalize_all_with_passages, hash_all,
+)
 from .commands import Printed, import_text, run
 from .errors import Error
 from .names import COMMANDS, GAMES, Answer, Command, Game
@@ -35,6 +43,7 @@ __all__ = [
     "GAMES",
     "Answer",
     "Board",
+    "ClassSums",
     "Command",
     "Error",
     "Game",

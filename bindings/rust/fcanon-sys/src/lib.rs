@@ -51,6 +51,14 @@ pub struct fcanon_run_move {
     pub count: u8,
 }
 
+/// The sums of a board: 384 bytes, one sum for each renaming, in two words of which the lower is first.
+#[repr(C)]
+#[derive(Clone, Copy, PartialEq, Eq, PartialOrd, Ord, Hash, Debug)]
+pub struct fcanon_class_sums {
+    /// The sums, and 0 after them.
+    pub sums: [[u64; 2]; 24],
+}
+
 /// Gives a type the bytes that C has it in.
 macro_rules! as_bytes {
     ($name:ident, $size:literal) => {
@@ -95,6 +103,23 @@ extern "C" {
         place: *mut usize,
     ) -> u32;
     pub fn fcanon_hash(game: u32, board: *const fcanon_board, hash: *mut [u8; 16]) -> u32;
+    pub fn fcanon_sums(
+        game: u32,
+        board: *const fcanon_board,
+        sums: *mut fcanon_class_sums,
+    ) -> u32;
+    pub fn fcanon_move_sums(
+        game: u32,
+        card: u8,
+        from: u8,
+        onto: u8,
+        sums: *mut fcanon_class_sums,
+    ) -> u32;
+    pub fn fcanon_class_hash(
+        game: u32,
+        sums: *const fcanon_class_sums,
+        hash: *mut [u8; 16],
+    ) -> u32;
     pub fn fcanon_child(
         game: u32,
         board: *const fcanon_board,

@@ -1,3 +1,4 @@
+use crate::class_sums::ClassSums;
 use crate::error::{made, Error};
 use crate::moves::{Move, Moves, Run};
 use crate::passage::Passage;
@@ -6,8 +7,8 @@ use fcanon_sys::{
     fcanon_board, fcanon_board as BoardBytes, fcanon_canon, fcanon_capacity, fcanon_child,
     fcanon_children, fcanon_deal, fcanon_expand, fcanon_hash, fcanon_key, fcanon_keys, fcanon_move,
     fcanon_moves, fcanon_play, fcanon_play_run, fcanon_read, fcanon_run_move, fcanon_run_moves,
-    fcanon_same, fcanon_symmetries, fcanon_write, FCANON_MOST_CHILDREN, FCANON_MOST_MOVES,
-    FCANON_MOST_RUN_MOVES,
+    fcanon_same, fcanon_sums, fcanon_symmetries, fcanon_write, FCANON_MOST_CHILDREN,
+    FCANON_MOST_MOVES, FCANON_MOST_RUN_MOVES,
 };
 
 // tools/tables wrote this from fcanon.h, to the next empty line.
@@ -119,6 +120,14 @@ impl Board {
         // SAFETY: all is apart.
         let hash = made([0; 16], |it| unsafe { fcanon_hash(self.game as u32, &self.bytes, it) });
         always(hash)
+    }
+
+    /// The sums of the board, from which the hash of its class is made.
+    pub fn class_sums(&self) -> ClassSums {
+        let Board { game, bytes } = *self;
+        // SAFETY: all is apart.
+        let sums = made(ClassSums::NONE, |it| unsafe { fcanon_sums(game as u32, &bytes, it) });
+        ClassSums { game, sums: sums.expect(IS_A_BOARD) }
     }
 
     /// The canonical board, and the passage to it.

@@ -16,11 +16,13 @@
 #![warn(missing_docs)]
 
 mod board;
+mod class_sums;
 mod error;
 mod moves;
 mod passage;
 
 pub use board::{canonicalize_all, Board, Game};
+pub use class_sums::{ClassSums, ON_CELL, ON_FOOT, ON_HOME};
 pub use error::{Card, Error, Reason};
 pub use fcanon_sys::{fcanon_board as BoardBytes, fcanon_passage as PassageBytes};
 pub use moves::{Move, Moves, Pile, Run};
