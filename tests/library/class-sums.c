@@ -125,6 +125,22 @@ static void compare(uint32_t game, const state *it) {
     must(!memcmp(hash, other, 16), "equivalent boards have two class hashes");
 }
 
+/* Of cards that go together the first alone moves the sums. */
+static void try_runs(uint32_t game, const state *it) {
+    static fcanon_run runs[FCANON_MOST_RUN_MOVES];
+    size_t count;
+    fcanon_run_moves(game, &it->board, runs, FCANON_MOST_RUN_MOVES, &count);
+    for (size_t i = 0; i < count; i++) {
+        int from = runs[i].from - '1', to = runs[i].to - '1';
+        uint8_t first = it->board.cards[end_of(&it->board, from) - runs[i].count];
+        state next = *it;
+        must(!fcanon_move_sums(game, first, before_last(&it->board, from, runs[i].count), before_last(&it->board, to, 0), &next.sums),
+             "the sums are not moved by a run");
+        must(!fcanon_play_run(game, &next.board, runs + i), "a listed run is refused");
+        compare(game, &next);
+    }
+}
+
 static void play_by_chance(uint32_t plays) {
     fcanon_move moves[FCANON_MOST_CHILDREN];
     for (uint32_t deal = 1; plays; deal++) {
@@ -134,6 +150,7 @@ static void play_by_chance(uint32_t plays) {
         start(game, deal, &it);
         for (int i = 0; i < 100 && plays; i++, plays--) {
             compare(game, &it);
+            try_runs(game, &it);
             fcanon_moves(game, &it.board, moves, FCANON_MOST_CHILDREN, &count);
             if (!count) break;
             play(game, &it, moves + chance((uint32_t)count));
