@@ -25,6 +25,8 @@ function tellBoard(board) {
   const capacities = [1, 2, 3, 4, 5, 6, 7, 8].map((column) => board.capacity(column));
   said.push(`capacity ${capacities.join(' ')}`);
   said.push(`key ${hexOf(canonical.bytes)} ${hexOf(board.canonicalHash())}`);
+  said.push(`class ${hexOf(board.classSums().classHash())}`);
+  assert.deepEqual(board.classSums().classHash(), canonical.classSums().classHash());
   said.push(`symmetries ${board.symmetries().join(' ')}`);
   assert(passage.image(board).equals(canonical) && passage.inverse().image(canonical).equals(board));
   assert(passage.followedBy(passage.inverse()).image(board).equals(board));

@@ -34,6 +34,8 @@ def tell_board(board):
     print("#", passage)
     print("capacity", *(board.capacity(column) for column in range(1, 9)))
     print("key", bytes(canonical).hex(), board.canonical_hash().hex())
+    print("class", board.class_sums().class_hash().hex())
+    assert board.class_sums().class_hash() == canonical.class_sums().class_hash()
     print("symmetries", *board.symmetries())
     assert passage.image(board) == canonical and passage.inverse().image(canonical) == board
     assert passage.then(passage.inverse()).image(board) == board

@@ -71,6 +71,14 @@ static void try_keys(uint32_t game, const fcanon_board *board) {
     add_number(place);
 }
 
+static void try_sums(uint32_t game, const fcanon_board *board) {
+    fcanon_class_sums sums = {{{0}}};
+    uint8_t hash[16] = {0}, card = (uint8_t)chance(55), from = (uint8_t)chance(56), onto = (uint8_t)chance(57);
+    did(fcanon_sums(game, board, &sums), &sums, sizeof sums);
+    did(fcanon_move_sums(game, card, from, onto, &sums), &sums, sizeof sums);
+    did(fcanon_class_hash(game, &sums, hash), hash, sizeof hash);
+}
+
 static void try_children(uint32_t game, const fcanon_board *board) {
     static fcanon_move moves[FCANON_MOST_CHILDREN];
     static fcanon_board keys[FCANON_MOST_CHILDREN];
@@ -136,6 +144,7 @@ int main(int argc, char **argv) {
         fcanon_board board = any_board(game);
         try_texts(game, &board);
         try_keys(game, &board);
+        try_sums(game, &board);
         try_children(game, &board);
         try_lists(game, &board);
         try_passages(game, &board);

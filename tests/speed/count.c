@@ -34,6 +34,7 @@ static void call_each(uint32_t deal, const fcanon_board *board, const fcanon_mov
     fcanon_run_move run = {move->from, move->to, 0}, carried = run;
     char text[256];
     uint8_t hash[16], suits[24][4];
+    fcanon_class_sums sums;
     uint32_t cards;
     const char *words;
     size_t place;
@@ -51,6 +52,9 @@ static void call_each(uint32_t deal, const fcanon_board *board, const fcanon_mov
     other = *board;
     fcanon_keys(GAME, &other, 1, &place);
     fcanon_hash(GAME, board, hash);
+    fcanon_sums(GAME, board, &sums);
+    fcanon_move_sums(GAME, 7, 30, FCANON_ON_CELL, &sums);
+    fcanon_class_hash(GAME, &sums, hash);
     fcanon_child(GAME, board, move, &other, &back);
     fcanon_carry(GAME, &passage, &image);
     fcanon_carry_run(GAME, &passage, &carried);

@@ -24,6 +24,8 @@ fn tell_board(board: &Board) {
     let capacities = (1..=8).map(|column| format!(" {}", board.capacity(column).unwrap()));
     println!("capacity{}", capacities.collect::<String>());
     println!("key {} {}", hex_of(&packed(canonical.bytes())), hex_of(&board.canonical_hash()));
+    println!("class {}", hex_of(&board.class_sums().class_hash()));
+    assert_eq!(board.class_sums().class_hash(), canonical.class_sums().class_hash());
     let letters = |suits: [u8; 4]| suits.map(|it| char::from(b"CDHS"[usize::from(it)]));
     let names = board.symmetries().flat_map(|suits| [' '].into_iter().chain(letters(suits)));
     println!("symmetries{}", names.collect::<String>());
