@@ -45,7 +45,7 @@ for (const given of [twice, new TextEncoder().encode(twice)]) {
 }
 for (const command of COMMANDS) assert(run(command, 'KC\n').status === 1, command);
 assert.equal(textOf(run('count', text, { format: 'json', game: 'eight_off' })).slice(0, 2), '{"');
-assert.equal(importText('nothing').status, 0);
+assert.deepEqual([importText(text).status, importText('nothing').status], [0, 1]);
 assert.throws(() => run('swim', text), { message: 'no such task', answer: 10 });
 assert.throws(() => run('show', text, { game: 'golf' }), { message: 'no such game', answer: 1 });
 assert.throws(() => run('show', text, { format: 'verse' }), { message: 'no such format', answer: 11 });
