@@ -304,9 +304,9 @@ static PyObject *sums_class_hash(ClassSums *self, PyObject *unused) {
 }
 
 static PyObject *sums_compare(PyObject *self, PyObject *other, int how) {
-    if (Py_TYPE(other) != sums_type) Py_RETURN_NOTIMPLEMENTED;
+    if (Py_TYPE(other) != sums_type || (how != Py_EQ && how != Py_NE)) Py_RETURN_NOTIMPLEMENTED;
     ClassSums *a = (ClassSums *)self, *b = (ClassSums *)other;
-    return compare(a->game == b->game && !memcmp(&a->sums, &b->sums, sizeof a->sums), how);
+    return compare(self, other, &a->sums, &b->sums, sizeof a->sums, how);
 }
 
 static Py_hash_t sums_hash(ClassSums *self) { return mixed(self->game, &self->sums, sizeof self->sums); }

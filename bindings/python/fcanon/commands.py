@@ -1,7 +1,7 @@
 """What the program fcanon does from standard input to standard output, over text in memory."""
 
 import os
-from typing import TYPE_CHECKING, NamedTuple, Sequence, Union
+from typing import TYPE_CHECKING, NamedTuple, Sequence, Union, cast
 
 from .errors import Error
 from .names import COMMANDS, FORMATS, GAMES, LINES, Answer, Command, Format, Game, Lines
@@ -77,7 +77,7 @@ def _game(word: str) -> int:
 
 
 def _bytes(text: Union[str, "Buffer"]) -> bytes:
-    return text.encode() if isinstance(text, str) else bytes(memoryview(text))
+    return text.encode() if isinstance(text, str) else bytes(memoryview(cast(bytes, text)))
 
 
 def _printed(answer: int, text: bytes, said: bytes, records: int, refused: int) -> Printed:

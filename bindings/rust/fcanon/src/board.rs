@@ -123,11 +123,12 @@ impl Board {
     }
 
     /// The sums of the board, from which the hash of its class is made.
+    #[must_use]
     pub fn class_sums(&self) -> ClassSums {
         let Board { game, bytes } = *self;
         // SAFETY: all is apart.
         let sums = made(ClassSums::NONE, |it| unsafe { fcanon_sums(game as u32, &bytes, it) });
-        ClassSums { game, sums: sums.expect(IS_A_BOARD) }
+        ClassSums { game, sums: always(sums) }
     }
 
     /// The canonical board, and the passage to it.

@@ -1,4 +1,4 @@
-use crate::board::Game;
+use crate::board::{always, Game};
 use crate::error::{made, Error};
 use fcanon_sys::{fcanon_class_hash, fcanon_class_sums, fcanon_move_sums};
 
@@ -33,13 +33,18 @@ impl ClassSums {
     pub(crate) const NONE: fcanon_class_sums = fcanon_class_sums { sums: [[0; 2]; 24] };
 
     /// The sums, each in two words of which the lower is first, and 0 after them.
+    #[must_use]
     pub fn sums(&self) -> &[[u64; 2]; 24] {
         &self.sums.sums
     }
 
     /// Makes them the sums of the board on which this card, 1 to 52 as in the bytes of a board, lies
     /// on the one no more, but on the other: another card, [`ON_FOOT`], [`ON_CELL`] or, for `onto`
-    /// alone, [`ON_HOME`]. Other numbers are refused, and nothing is changed then.
+    /// alone, [`ON_HOME`].
+    ///
+    /// # Errors
+    ///
+    /// Other numbers are refused, and nothing is changed then.
     pub fn move_card(&mut self, card: u8, from: u8, onto: u8) -> Result<(), Error> {
         self.sums = made(self.sums, |it| {
             // SAFETY: the sums are there.
@@ -51,11 +56,12 @@ impl ClassSums {
     /// The hash of the board's class, the same in each run and on each machine: equivalent boards
     /// have one. It is no more than 64 good bits, so compare canonical boards where a wrong match
     /// would do harm.
+    #[must_use]
     pub fn class_hash(&self) -> [u8; 16] {
         let hash = made([0; 16], |it| {
             // SAFETY: all is apart.
             unsafe { fcanon_class_hash(self.game as u32, &self.sums, it) }
         });
-        hash.expect("the call takes all sums")
+        always(hash)
     }
 }
