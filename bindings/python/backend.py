@@ -183,7 +183,7 @@ def build_sdist(sdist_directory, config_settings=None):
     files.update({it.name: it.read_bytes() for it in licences()})
     packed = io.BytesIO()
     with tarfile.open(fileobj=packed, mode="w", format=tarfile.USTAR_FORMAT) as archive:
-        for name, data in sorted(files.items()):
+        for name, data in sorted(files.items(), key=lambda it: it[0].split("/")):
             entry = tarfile.TarInfo(f"{top}/{name}")
             entry.size, entry.mtime = len(data), int(os.environ.get("SOURCE_DATE_EPOCH", 0))
             archive.addfile(entry, io.BytesIO(data))
