@@ -83,7 +83,7 @@ module _ (first next : List ℕ) (one : IsRenaming first) (two : IsRenaming next
 
   columns_twice : (columns : List (List ℕ)) → All (All IsCard) columns →
       sum_by (column_total next 0) (map (renamed_column first) columns)
-          ≡ sum_by (column_total (renaming_product first next) 0) columns
+      ≡ sum_by (column_total (renaming_product first next) 0) columns
   columns_twice [] are = refl
   columns_twice (column ∷ columns) are =
       sum_by-cons (column_total next 0) (renamed_column first column) (map (renamed_column first) columns)
@@ -93,7 +93,7 @@ module _ (first next : List ℕ) (one : IsRenaming first) (two : IsRenaming next
 
   cells_twice : (cells : List (Option ℕ)) →
       sum_by (cell_total next) (map (renamed_cell first) cells)
-          ≡ sum_by (cell_total (renaming_product first next)) cells
+      ≡ sum_by (cell_total (renaming_product first next)) cells
   cells_twice [] = refl
   cells_twice (cell ∷ cells) =
       sum_by-cons (cell_total next) (renamed_cell first cell) (map (renamed_cell first) cells)
@@ -108,7 +108,7 @@ carried_total game passage board renaming is well two =
     let columns = map (renamed_column passage.renaming) board.columns in
     let cells = map (renamed_cell passage.renaming) board.cells in
     let eight = length-map board.columns (renamed_column passage.renaming) ∙ well.piles.eight_columns
-        ∙ sym is.orders.eight_columns in
+    ∙ sym is.orders.eight_columns in
     let all = length-map board.cells (renamed_cell passage.renaming) ∙ well.piles.all_cells ∙ sym is.orders.all_cells in
     ap₂ (λ (a b : ℕ). a + b)
     (sum_by-IsPermutation (column_total renaming 0) columns (pick columns passage.columns)
@@ -143,24 +143,24 @@ module _ {game : Game} {renamings : List (List ℕ)} {cells count : ℕ} {kings_
       let renaming = get_or renamings place [] in
       let listed : Contains renamings renaming = (place, inside, get_or_default renamings place renaming [] inside) in
       let (j, within, found) = product-listed laws passage.renaming renaming
-          (laws.keeping_are_listed passage.renaming is.renames is.keeps) listed in
+      (laws.keeping_are_listed passage.renaming is.renames is.keeps) listed in
       let both = renaming_product passage.renaming renaming in
       let one : get_or (class_sums renamings (carried passage board)) place 0 ≡ class_sum board both =
       get_or-map (class_sum (carried passage board)) renamings place [] 0 inside
       ∙ ap (λ total. total % 2 ^ 128) (carried_total game passage board renaming is well
       (laws.listed_are_renamings renaming listed)) in
       let other : get_or (class_sums renamings board) j 0
-          ≡ class_sum board both = get_or-map (class_sum board) renamings j both 0 within
-          ∙ ap (class_sum board) found in
+      ≡ class_sum board both = get_or-map (class_sum board) renamings j both 0 within
+      ∙ ap (class_sum board) found in
       let below = least_below (class_sums renamings board) j
-          (omega (arith, within, length-map renamings (class_sum board))) in
+      (omega (arith, within, length-map renamings (class_sum board))) in
       omega (arith, one, other, below)
 
   least_half : (passage : Passage) (board other : Board) → IsWellFormed game board → Carries game passage board other →
       least_sum (class_sums renamings board) ≤ least_sum (class_sums renamings other)
   least_half passage board other well carries =
       subst (λ other. least_sum (class_sums renamings board) ≤ least_sum (class_sums renamings other))
-          (sym carries.there)
+      (sym carries.there)
       (bound_below (least_sum (class_sums renamings board)) (class_sums renamings (carried passage board))
       (least_bound (class_sums renamings board))
       (λ place inside. least_there passage board carries.is_passage well place
@@ -170,12 +170,12 @@ module _ {game : Game} {renamings : List (List ℕ)} {cells count : ℕ} {kings_
       → class_hash renamings board ≡ class_hash renamings other
   one_class_hash board other well (passage, carries) =
       let there = subst (IsWellFormed game) (sym carries.there)
-          (carried-IsWellFormed game passage board carries.is_passage well) in
+      (carried-IsWellFormed game passage board carries.is_passage well) in
       let forth = least_half passage board other well carries in
       let back = least_half (inverse_passage passage) other board there
-          (Carries-inverse game passage board other well.piles carries) in
+      (Carries-inverse game passage board other well.piles carries) in
       let same : least_sum (class_sums renamings board)
-          ≡ least_sum (class_sums renamings other) = omega (arith, forth, back) in
+      ≡ least_sum (class_sums renamings other) = omega (arith, forth, back) in
       ap (to_le_bytes w128) same
 
 -- ---- a card more at the end of a column
@@ -196,7 +196,7 @@ add-zero n = omega arith
 
 total_pushed : (renaming : List ℕ) (on card : ℕ) (front : List ℕ) →
     column_total renaming on (front ++ card ∷ []) ≡ column_total renaming on front + term renaming (card + 1)
-        (top on front)
+    (top on front)
 total_pushed renaming on card [] = add-zero (term renaming (card + 1) on)
 total_pushed renaming on card (first ∷ front) = let rest = total_pushed renaming (first + 1) card front in omega
     (arith, rest)
@@ -210,7 +210,7 @@ HasRoom board Home = Unit {0}
 module _ (renaming : List ℕ) where
   pushed : (card : ℕ) (front : List ℕ) →
       column_total renaming 0 (front ++ card ∷ []) ≡ column_total renaming 0 front + term renaming (card + 1)
-          (cell_byte (last_card front))
+      (cell_byte (last_card front))
   pushed card front = total_pushed renaming 0 card front
       ∙ ap (λ on. column_total renaming 0 front + term renaming (card + 1) on) (top_is front (last_card front) refl)
 
@@ -222,7 +222,7 @@ module _ (renaming : List ℕ) where
 
   taken_total : (board : Board) (from : Source) (card : ℕ) → card_at board from ≡ Some card →
       board_total board renaming ≡ board_total (taken_from board from) renaming + term renaming (card + 1)
-          (lies_on board from)
+      (lies_on board from)
   taken_total board (FromColumn column) card found =
       let was = column_at board column in
       let inside = inside_columns board.columns column card found in
@@ -237,7 +237,7 @@ module _ (renaming : List ℕ) where
 
   put_total : (board : Board) (card : ℕ) (to : Place) → HasRoom board to →
       board_total (put_on board card to) renaming ≡ board_total board renaming + term renaming (card + 1)
-          (put_onto board to)
+      (put_onto board to)
   put_total board card (ToColumn column) inside =
       let was = column_at board column in
       let set_there = sum_by-set (column_total renaming 0) board.columns column (was ++ card ∷ []) [] inside in
@@ -263,8 +263,13 @@ module _ (game : Game) (board : Board) (well : IsWellFormed game board) where
           → MayGo game board card to
           → HasRoom (taken_from board from) to
       by (FromColumn column) (ToColumn other) fits offered goes =
-          omega (arith, fits.1, well.piles.eight_columns, length-set board.columns column
-              (without_last (column_at board column)))
+          omega (
+            arith,
+            fits.1,
+            well.piles.eight_columns,
+            length-set board.columns column
+                (without_last (column_at board column)),
+          )
       by (FromCell cell) (ToColumn other) fits offered goes = omega (arith, fits.1, well.piles.eight_columns)
       by (FromColumn column) (ToCell cell) fits offered goes = (omega (arith, fits.1, well.piles.all_cells), goes)
       by (FromCell cell) (ToCell other) fits offered goes = (
@@ -289,7 +294,7 @@ module _ (game : Game) (board : Board) (well : IsWellFormed game board) where
 
   pub sum_after : (after : Board) (move : Move) (step : Step game board move after) (renaming : List ℕ) →
       class_sum after renaming ≡ moved_sum (step.card + 1) (lies_on board move.from) (put_onto board move.to) renaming
-          (class_sum board renaming)
+      (class_sum board renaming)
   sum_after after move step renaming =
       let card = step.card in
       let left = taken_from board move.from in
@@ -321,8 +326,13 @@ sums_read renamings all sums long are =
 
 module _ (all : List ℕ) (few : length all ≤ 24) where
   padded_long : length (padded 24 all) ≡ 24
-  padded_long = omega (arith, few, length-append all (drop (length all) (replicate 24 0)), length-drop (length all)
-      (replicate {A = ℕ} 24 0))
+  padded_long = omega (
+    arith,
+    few,
+    length-append all (drop (length all) (replicate 24 0)),
+    length-drop (length all)
+        (replicate {A = ℕ} 24 0),
+  )
 
   padded_here : (place : ℕ) → place < length all → get_or (padded 24 all) place 0 ≡ get_or all place 0
   padded_here place inside = get_or-append all (drop (length all) (replicate 24 0)) 0 place inside
@@ -344,31 +354,31 @@ pub sums_kept : (game : Game) (renamings : List (List ℕ)) (board after : Board
     (step : Step game board move after) (old new : ClassSums) →
     IsWellFormed game board → length renamings ≤ 24 → AreSums (class_sums renamings board) old →
     AreMoved renamings (step.card + 1) (lies_on board move.from) (put_onto board move.to) old new
-        → AreSums (class_sums renamings after) new
+    → AreSums (class_sums renamings after) new
 sums_kept game renamings board after move step old new well few are (long, left, moved) =
     let all = class_sums renamings board in
     let all' = class_sums renamings after in
     let n : length all ≡ length renamings = length-map renamings (class_sum board) in
     let n' : length all' ≡ length renamings = length-map renamings (class_sum after) in
     let old_long : length old.sums ≡ 24 = ap length are ∙ length-map (padded 24 all) words_of
-        ∙ padded_long all (omega (arith, n, few)) in
+    ∙ padded_long all (omega (arith, n, few)) in
     let new_long : length (map words_of (padded 24 all')) ≡ 24 = length-map (padded 24 all') words_of
-        ∙ padded_long all' (omega (arith, n', few)) in
+    ∙ padded_long all' (omega (arith, n', few)) in
     ext_get_or [] new.sums (map words_of (padded 24 all')) (omega (arith, long, old_long, new_long)) (λ place inside.
     let within : place < 24 = omega (arith, inside, long, old_long) in
     let there = get_or-map words_of (padded 24 all') place 0 []
-        (omega (arith, within, padded_long all' (omega (arith, n', few)))) in
+    (omega (arith, within, padded_long all' (omega (arith, n', few)))) in
     elim (cases_lt place (length renamings)) [
       | inl here ↦
           let renaming = get_or renamings place [] in
           let was : sum_in (get_or old.sums place []) ≡ class_sum board renaming =
           ap sum_in (sum_at all (omega (arith, n, few)) old place are within)
-              ∙ word_back (get_or (padded 24 all) place 0)
+          ∙ word_back (get_or (padded 24 all) place 0)
           ∙ padded_here all (omega (arith, n, few)) place (omega (arith, here, n))
           ∙ get_or-map (class_sum board) renamings place [] 0 here in
           let now : get_or (padded 24 all') place 0 ≡ class_sum after renaming =
           padded_here all' (omega (arith, n', few)) place (omega (arith, here, n'))
-              ∙ get_or-map (class_sum after) renamings place [] 0 here in
+          ∙ get_or-map (class_sum after) renamings place [] 0 here in
           moved place here
           ∙ ap (λ sum. words_of (moved_sum (step.card + 1) (lies_on board move.from)
           (put_onto board move.to) renaming sum)) was
@@ -377,7 +387,7 @@ sums_kept game renamings board after move step old new well few are (long, left,
           let rest : length renamings + (place - length renamings) ≡ place = omega (arith, past) in
           let kept : get_or new.sums place [] ≡ get_or old.sums place [] =
           ap (λ k. get_or new.sums k []) (sym rest) ∙ sym
-              (get_or-drop (length renamings) new.sums (place - length renamings) [])
+          (get_or-drop (length renamings) new.sums (place - length renamings) [])
           ∙ ap (λ sums. get_or sums (place - length renamings) []) left
           ∙ get_or-drop (length renamings) old.sums (place - length renamings) []
           ∙ ap (λ k. get_or old.sums k []) rest in
@@ -392,7 +402,7 @@ card_below : (column : List ℕ) (last : Option ℕ) → All IsCard column → l
 card_below column None are found = omega arith
 card_below column (Some card) are found =
     let in_deck = All-head IsCard card [] (All-right IsCard (without_last column) (card ∷ [])
-        (subst (All IsCard) (split_last column card found) are)) in
+    (subst (All IsCard) (split_last column card found) are)) in
     omega (arith, in_deck)
 
 module _ (game : Game) (board : Board) (well : IsWellFormed game board) where
@@ -406,7 +416,7 @@ module _ (game : Game) (board : Board) (well : IsWellFormed game board) where
   taken_card (FromCell cell) card fits found =
       let in_deck : IsCell (Some card) =
       subst IsCell found (All-get_or IsCell board.cells cell None (omega (arith, fits, well.piles.all_cells))
-          (in_cells game board well)) in
+      (in_cells game board well)) in
       omega (arith, in_deck)
 
   lies_below : (from : Source) → SourceFits game from → lies_on board from ≤ 53
@@ -414,7 +424,7 @@ module _ (game : Game) (board : Board) (well : IsWellFormed game board) where
       let was = column_at board column in
       let left = without_last was in
       let below = card_below left (last_card left) (All-take IsCard (length was - 1) was
-          (column_cards column fits)) refl in
+      (column_cards column fits)) refl in
       omega (arith, below)
   lies_below (FromCell cell) fits = omega arith
 
