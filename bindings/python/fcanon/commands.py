@@ -77,6 +77,7 @@ def _game(word: str) -> int:
 
 
 def _bytes(text: Union[str, "Buffer"]) -> bytes:
+    # Checkers of before 2023 know of few objects that they have a buffer.
     return text.encode() if isinstance(text, str) else bytes(memoryview(cast(bytes, text)))
 
 
