@@ -118,12 +118,12 @@ export const chooseGame = (game) => apply({ what: 'the choice of a game', change
 
 // The bytes with a record at their end, or null where it has no room.
 function withRecord(text) {
-  const { bytes, records, isBeingRead } = collection;
+  const { bytes, starts, isBeingRead } = collection;
   if (isBeingRead) return say('The collection is being read.', true);
   const isEnded = bytes.length === 0 || bytes[bytes.length - 1] === LINE_FEED;
   const added = (isEnded ? '' : '\n') + (bytes.length > 0 ? '\n' : '') + text;
   const all = joined(bytes, bytesOf(added.replaceAll('\n', endingOf(bytes))));
-  if (all.length <= MOST.input && records.length < MOST.records) return all;
+  if (all.length <= MOST.input && starts.length < MOST.records) return all;
   return say('The collection is full.', true);
 }
 
@@ -131,7 +131,7 @@ function withRecord(text) {
 export function append(what, record, text, more = {}) {
   const bytes = withRecord(headerLine(record) + text);
   if (!bytes) return;
-  const number = collection.records.length + 1;
+  const number = collection.starts.length + 1;
   apply({ what, change: { ...AT_FIRST, bytes, number, name: record.name, ...more } });
 }
 
@@ -144,7 +144,7 @@ export function dealNumber(game, number) {
 // A name for a shuffled board, with the first number that none has yet.
 function shuffledName(name) {
   const first = `${name.replace(/-shuffled-\d+$/, '').slice(0, FIRST_NAME)}-shuffled`;
-  const names = new Set(collection.records.map((record) => record.name));
+  const names = new Set(collection.names);
   let number = 1;
   while (names.has(`${first}-${number}`)) number += 1;
   return `${first}-${number}`;
@@ -200,7 +200,7 @@ function beginExchanged(what, moves) {
   const { record, times } = shown;
   const { shuffle: passage } = store.state;
   const text = fcanon.write(record.game, record.board) + listLine({ sign: '>>', bytes: moves });
-  const number = collection.records.length + 1;
+  const number = collection.starts.length + 1;
   append(what, record, text, { shuffle: passage, times, step: 1, begun: [...store.state.begun, `${number}/0`] });
 }
 

@@ -4,14 +4,15 @@ import { at } from './elements.mjs';
 import { later, now } from './engine.mjs';
 import { MOST } from './library.mjs';
 import { headersIn, spliceOf } from './lines.mjs';
-import { groupsOf, numbered, recordsAround, recordsOf } from './records.mjs';
+import { groupsOf, noRecords, recordsAround, recordsOf, recordsWith } from './records.mjs';
 
 export const LARGE = 300_000; // bytes that are not read at once, and not put in the text field
 const FIRST = 5_000; // bytes of a large text of which a record is shown before all is read
 
-const NONE = { records: [], groups: [], fault: null, isBeingRead: false };
+const emptied = () => ({ ...noRecords(), ...groupsOf(noRecords()), fault: null, isBeingRead: false });
 
-export let collection = { bytes: new Uint8Array(), game: 0, ...NONE };
+/** @type {any} */
+export let collection = { bytes: new Uint8Array(), game: 0, ...emptied() };
 
 export const isLarge = () => collection.bytes.length > LARGE;
 
@@ -21,19 +22,16 @@ export const isLarge = () => collection.bytes.length > LARGE;
 /** @returns {true | Promise<boolean>} */
 export function read(bytes, game, see) {
   const isAnew = collection.isBeingRead || collection.fault || collection.game !== game;
-  const splice = isAnew ? null : spliceOf(collection.bytes, bytes);
-  if (!isAnew && splice === null) return true;
-  const last = collection;
-  const { before, after, start, end } = recordsAround(isAnew ? [] : last.records, bytes.length, splice);
-  collection = { ...NONE, bytes, game };
+  const last = isAnew ? { ...emptied(), bytes: new Uint8Array() } : collection;
+  const splice = spliceOf(last.bytes, bytes) ?? { from: 0, taken: [], put: [] };
+  if (!isAnew && splice.put.length + splice.taken.length === 0) return true;
+  const around = recordsAround(last, bytes.length, splice);
+  const { start, end } = around;
+  collection = { ...emptied(), bytes, game };
   const work = { work: 'read', bytes: bytes.subarray(start, end), game };
-  const take = (said) => finish([...before, ...recordsOf(said, start), ...after]);
+  const take = (said) => finish(recordsWith(last, recordsOf(said), bytes, around, splice));
   if (end - start > LARGE) return readLater(work, take, see);
-  return orFault(() => {
-    const records = recordsOf(now(work), start);
-    const replaced = last.records.slice(before.length, last.records.length - after.length);
-    finish([...before, ...records, ...after], isAnew ? null : groupsAfter(last.groups, replaced, records));
-  });
+  return orFault(() => take(now(work)));
 }
 
 async function readLater(work, take, see) {
@@ -59,7 +57,7 @@ function orFault(act) {
   try {
     act();
   } catch (error) {
-    Object.assign(collection, NONE, { fault: error.message });
+    Object.assign(collection, emptied(), { fault: error.message });
   }
   return true;
 }
@@ -68,20 +66,11 @@ function orFault(act) {
 function seeFirst() {
   const { bytes, game } = collection;
   const end = headersIn(bytes.subarray(0, LARGE), FIRST)[0] ?? 0;
-  const found = recordsOf(now({ work: 'read', bytes: bytes.subarray(0, end), game }), 0);
-  collection.records = numbered(found.filter((record) => !record.fault));
+  finish(recordsOf(now({ work: 'read', bytes: bytes.subarray(0, end), game })));
 }
 
-// The groups where records were read again, and are in the same groups as before; else null.
-function groupsAfter(groups, replaced, records) {
-  const isAlike = (record, place) => record.key === replaced[place].key;
-  if (replaced.length !== records.length || !records.every(isAlike)) return null;
-  const renewed = new Map(replaced.map((record, place) => [record, records[place]]));
-  const groupOf = (group) => (group.some((it) => renewed.has(it)) ? group.map((it) => renewed.get(it) ?? it) : group);
-  return groups.map(groupOf);
-}
-
-function finish(records, groups = null) {
-  if (records.length > MOST.records || collection.bytes.length > MOST.input) throw new Error('input too large');
-  Object.assign(collection, { records: numbered(records), groups: groups ?? groupsOf(records) });
+function finish(records) {
+  if (records.starts.length > MOST.records || collection.bytes.length > MOST.input) throw new Error('input too large');
+  const made = new Map([...records.made, ...collection.made]);
+  Object.assign(collection, records, groupsOf(records), { made });
 }

@@ -5,11 +5,12 @@ import { collection, isLarge } from './collection.mjs';
 import { at, element, say, write } from './elements.mjs';
 import { later, now } from './engine.mjs';
 import { asText } from './lines.mjs';
+import { isHeaded } from './records.mjs';
 import { amend, store } from './store.mjs';
 
 const MOST_NOTES = 100;
 const QUESTION = 'may be columns or rows'; // in a note that asks
-const OPTIONS = ', with --columns or --rows'; // how the program is answered
+const ANSWERS = ', with --columns or --rows'; // how the program is answered
 
 // The text as it was given, and all that is said of it.
 function takeImport(given, what, { text, said }) {
@@ -36,9 +37,9 @@ export const answerAs = (lines) => () => importBytes(store.state.imported.bytes,
 
 // Whether a text that came from elsewhere is imported at once: where no record of it is accepted, or where it is one
 // board without a header, whose lines may be rows.
-function isForImport({ records }) {
-  const isBare = records.length === 1 && !records[0].isHeaded;
-  return records.length > 0 && (isBare || records.every((record) => record.fault));
+function isForImport({ starts, faults }) {
+  const isBare = starts.length === 1 && !isHeaded(collection, 0);
+  return starts.length > 0 && (isBare || faults.length === starts.length);
 }
 
 // Imports what came from elsewhere, where there is a need to, and `import` has something to say of it.
@@ -51,7 +52,7 @@ export async function importAsNeeded() {
 }
 
 // A note of the program in the words of the page, which has buttons in the place of options.
-const noteOf = (note) => note.replace(/^fcanon: /, '').replace(OPTIONS, ', by a button');
+const noteOf = (note) => note.replace(/^fcanon: /, '').replace(ANSWERS, ', by a button');
 
 export function drawImported() {
   const { imported } = store.state;

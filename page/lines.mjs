@@ -1,8 +1,8 @@
 // Bytes of a text: its lines and words, changes of it, and where the text field has them.
 
 const [TAB, BLANK] = [9, 32];
-const [CARRIAGE_RETURN, NUMBER_SIGN, AT_SIGN] = [13, 35, 64];
-export const [LINE_FEED, GREATER] = [10, 62];
+const [CARRIAGE_RETURN, NUMBER_SIGN] = [13, 35];
+export const [LINE_FEED, GREATER, AT_SIGN] = [10, 62, 64];
 
 // A mark of the order of bytes is a character like others: what is dropped has no place.
 export const asText = new TextDecoder('utf-8', { ignoreBOM: true });
@@ -31,6 +31,12 @@ export function firstAfter(bytes, start, end, test) {
   return start;
 }
 
+export function countLines(bytes) {
+  let count = 0;
+  for (let place = bytes.indexOf(LINE_FEED); place >= 0; place = bytes.indexOf(LINE_FEED, place + 1)) count++;
+  return count;
+}
+
 // Where headers begin: at each `@` that begins a line.
 export function headersIn(bytes, from = 0) {
   const starts = [];
@@ -48,8 +54,9 @@ export function isSkipped(bytes, line) {
 
 // ---- changes
 
+// Arrays as one, of the kind of the first one.
 export function joined(...parts) {
-  const all = new Uint8Array(parts.reduce((size, part) => size + part.length, 0));
+  const all = new parts[0].constructor(parts.reduce((size, part) => size + part.length, 0));
   let from = 0;
   for (const part of parts) {
     all.set(part, from);

@@ -46,7 +46,7 @@ function draw(before, action) {
 // What is seen while a large text is read: its first record.
 function drawReading() {
   drawSaid(`Reading ${inFigures(collection.bytes.length)} bytes ..`);
-  if (collection.records.length > 0) drawBoards({});
+  if (collection.firsts.length > 0) drawBoards({});
 }
 
 function drawAll(action) {

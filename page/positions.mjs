@@ -9,7 +9,7 @@ import { fcanon, TITLES } from './library.mjs';
 import { afterField, asText, bytesOf, fieldText, headersIn, isSkipped, joined, linesOf, spliceOf } from './lines.mjs';
 import { carriedTo, listLine, verdictOf } from './lists.mjs';
 import { drawPrinted } from './printed.mjs';
-import { faultsAt, whole } from './records.mjs';
+import { membersFrom, nameAt, recordAt, wordAt } from './records.mjs';
 import { shown } from './shown.mjs';
 import { store } from './store.mjs';
 import { counted, inFigures } from './words.mjs';
@@ -20,12 +20,11 @@ const LEAST_SEARCHED = 12; // records, among which one looks for a name
 // ---- the text
 
 export function drawCollection() {
-  const { records, fault } = collection;
-  const refused = records.filter((record) => record.fault);
-  const counts = [`${inFigures(records.length)} read`, ...refused.length > 0 ? [`${refused.length} refused`] : []];
-  const said = records.length > 0 ? `${counts.join(', ')}.` : 'Paste a position, open a file, or deal a number.';
+  const { starts: { length }, faults, fault } = collection;
+  const refused = faults.length > 0 ? `, ${faults.length} refused` : '';
+  const said = length > 0 ? `${inFigures(length)} read${refused}.` : 'Paste a position, open a file, or deal a number.';
   drawSaid(fault ?? said, fault !== null);
-  drawFaults(refused);
+  drawFaults();
   drawGroups();
   drawPrinted();
 }
@@ -117,18 +116,17 @@ export function openDropped(event) {
 
 // ---- faults
 
-function drawFaults(refused) {
-  const first = refused.slice(0, MOST_SHOWN.faults);
-  const places = faultsAt(collection.bytes, first.map(({ fault }) => fault));
-  const faults = first.map((record, at) => {
-    const { line, column, word } = places[at];
-    const parts = [`line ${line}, column ${column}`, record.fault.reason, word.slice(0, 80)];
+function drawFaults() {
+  const { faults, bytes } = collection;
+  const items = faults.slice(0, MOST_SHOWN.faults).map((fault) => {
+    const { column, word } = wordAt(bytes, fault);
+    const parts = [`line ${fault.line}, column ${column}`, fault.reason, word.slice(0, 80)];
     const said = parts.filter((part) => part !== '').join(': ');
-    const button = element('button', { type: 'button', onclick: () => select(record.fault.place, word) }, 'Go there');
-    return element('li', {}, `${record.name}: ${said} `, ...isLarge() ? [] : [button]);
+    const button = element('button', { type: 'button', onclick: () => select(fault.place, word) }, 'Go there');
+    return element('li', {}, `${nameAt(collection, fault.at)}: ${said} `, ...isLarge() ? [] : [button]);
   });
-  const left = refused.length - faults.length;
-  at('faults').replaceChildren(...faults, ...left > 0 ? [element('li', {}, `and ${inFigures(left)} more`)] : []);
+  const left = faults.length - items.length;
+  at('faults').replaceChildren(...items, ...left > 0 ? [element('li', {}, `and ${inFigures(left)} more`)] : []);
 }
 
 // Selects a word of the text that begins after so many bytes.
@@ -140,40 +138,45 @@ function select(place, word) {
 
 // ---- groups
 
-let groupsFound = []; // the groups with a record that is looked for, each with those of its records
+let groupsFound = []; // the groups with a record that is looked for, by their first ones
 
-// The records of a group whose names have what is looked for: all where nothing is.
-function membersFound(group) {
-  const part = at('find').value.trim().toLowerCase();
-  return part === '' ? group : group.filter(({ name }) => name.toLowerCase().includes(part));
+const lookedFor = () => at('find').value.trim().toLowerCase();
+
+// The places of a group's records whose names have what is looked for: all where nothing is.
+function membersFound(first, part = lookedFor()) {
+  const isFound = (place) => part === '' || nameAt(collection, place).toLowerCase().includes(part);
+  return membersFrom(collection, first).filter(isFound);
 }
 
-function groupElement({ group, members: found }) {
-  const button = (record) => element('button', {
-    type: 'button', value: record.number, onclick: () => choose(record),
-    aria: { pressed: record === shown?.base },
-  }, record.name);
-  const members = found.slice(0, MOST_SHOWN.members).map(button);
+function groupElement(first) {
+  const [size, found] = [membersFrom(collection, first).length, membersFound(first)];
+  const members = found.slice(0, MOST_SHOWN.members).map((place) => element('button', {
+    type: 'button', value: place + 1, onclick: () => chooseAt(place),
+    aria: { pressed: place + 1 === shown?.base.number },
+  }, nameAt(collection, place)));
   const left = found.length - members.length;
-  if (group.length === 1) return element('li', {}, ...members);
-  const said = element('span', { className: 'soft' }, `${inFigures(group.length)} are one:`);
+  if (size === 1) return element('li', {}, ...members);
+  const said = element('span', { className: 'soft' }, `${inFigures(size)} are one:`);
   return element('li', { className: 'several' }, said, ...members, ...left > 0 ? [`and ${inFigures(left)} more`] : []);
 }
 
+const chooseAt = (place) => choose({ number: place + 1, name: nameAt(collection, place) });
+
 // Groups are drawn as far as they are seen: the list's last line, once it is seen, draws some more.
 function drawGroups() {
-  write('groups-title', counted(collection.groups.length, 'different position'));
-  at('find-row').hidden = collection.records.length < LEAST_SEARCHED;
+  write('groups-title', counted(collection.firsts.length, 'different position'));
+  at('find-row').hidden = collection.starts.length < LEAST_SEARCHED;
   if (at('find-row').hidden) at('find').value = '';
   drawFound();
 }
 
 // Lists the groups of the records that are looked for by a part of their names.
 export function drawFound() {
-  const groups = collection.groups.map((group) => ({ group, members: membersFound(group) }));
-  groupsFound = groups.filter(({ members }) => members.length > 0);
-  const found = groupsFound.reduce((count, { members }) => count + members.length, 0);
-  write('find-said', at('find').value.trim() === '' ? '' : `${inFigures(found)} found`);
+  const part = lookedFor();
+  const countFound = (first) => membersFound(first, part).length;
+  groupsFound = part === '' ? collection.firsts : collection.firsts.filter(countFound);
+  const count = () => groupsFound.reduce((sum, first) => sum + countFound(first), 0);
+  write('find-said', part === '' ? '' : `${inFigures(count())} found`);
   at('groups').replaceChildren(element('li', { className: 'end' }));
   drawMoreGroups();
 }
@@ -181,7 +184,7 @@ export function drawFound() {
 // Shows the first record that is found.
 export function chooseFound(event) {
   event.preventDefault();
-  if (groupsFound.length > 0) choose(groupsFound[0].members[0]);
+  if (groupsFound.length > 0) chooseAt(membersFound(groupsFound[0])[0]);
 }
 
 function drawMoreGroups() {
@@ -215,18 +218,21 @@ function bringInSight(button) {
 
 export function drawShare() {
   const { base, lists, exchange } = shown;
-  const group = collection.groups.find((members) => members.includes(base)) ?? [];
-  const others = group.filter((member) => member !== base).slice(0, MOST_SHOWN.members);
+  const { groups } = collection;
+  const own = base.number - 1;
+  const group = membersFrom(collection, groups.indexOf(groups[own]));
+  const others = group.filter((place) => place !== own).slice(0, MOST_SHOWN.members);
   const isNone = others.length === 0 || lists.length === 0 || exchange !== null;
   at('share').hidden = isNone;
   const drawn = [...at('member').options].map((option) => option.value).join();
-  if (drawn !== others.map(({ number }) => number).join()) {
-    at('member').replaceChildren(...others.map((member) => element('option', { value: member.number }, member.name)));
+  if (drawn !== others.join()) {
+    const option = (place) => element('option', { value: place }, nameAt(collection, place));
+    at('member').replaceChildren(...others.map(option));
   }
   if (!isNone) drawCarried();
 }
 
-const chosenMember = () => whole(collection.records[Number(at('member').value) - 1], collection.bytes);
+const chosenMember = () => recordAt(collection, Number(at('member').value));
 
 export function drawCarried() {
   const member = chosenMember();

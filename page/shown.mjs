@@ -4,7 +4,7 @@ import { collection } from './collection.mjs';
 import { fcanon, MOVE_SIZE } from './library.mjs';
 import { stepsOf, verdictOf } from './lists.mjs';
 import { areEqual, PLACE, stayingPassage } from './passages.mjs';
-import { whole } from './records.mjs';
+import { nameAt, recordAt } from './records.mjs';
 import { AT_FIRST } from './store.mjs';
 
 const MOST_ROWS = { least: 6, most: 9 }; // below the first card of a column; longer columns are squeezed
@@ -20,15 +20,14 @@ function once(made, thing, make) {
   return made.get(thing);
 }
 
-const isGood = (record) => record !== undefined && !record.fault;
-
 // The record of that number and name, or else of that name, or else the first one. Where the name is null any will do.
 function pick({ number, name }) {
-  const { records, bytes } = collection;
-  const record = records[number - 1];
-  const isIt = isGood(record) && (name === null || record.name === name);
-  const found = isIt ? record : records.find((it) => it.name === name && isGood(it)) ?? records.find(isGood);
-  return found ? whole(found, bytes) : null;
+  const { groups } = collection;
+  const isIt = (group, place) => group >= 0 && nameAt(collection, place) === name;
+  const isGood = (group) => group >= 0;
+  const isThere = groups[number - 1] >= 0 && (name === null || isIt(0, number - 1));
+  const place = [isThere ? number - 1 : groups.findIndex(isIt), groups.findIndex(isGood)].find((it) => it >= 0);
+  return place === undefined ? null : recordAt(collection, place);
 }
 
 // Whether a record that was read again has the board and the moves that lead to what is shown.

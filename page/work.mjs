@@ -2,7 +2,7 @@
 
 import { GAMES } from '../bindings/javascript/calls.js';
 import { Runs } from '../bindings/javascript/runs.js';
-import { asText, headersIn, LINE_FEED } from './lines.mjs';
+import { asText, AT_SIGN, bytesOf, countLines, headersIn, LINE_FEED } from './lines.mjs';
 
 let runs = null;
 
@@ -23,23 +23,35 @@ function hasName(bytes, start) {
   return /[^ \t\r][ \t]+[^ \t\r]/.test(line);
 }
 
+// The refused records: which ones they are, and where each is refused, for what, and in which line.
+function faultsIn(bytes, said) {
+  const refused = [...said.keys()].filter((at) => said[at].reason);
+  const places = refused.map((at) => said[at].place);
+  let line = 1;
+  const lines = places.map((place, at) => (line += countLines(bytes.subarray(places[at - 1] ?? 0, place))));
+  const [at, place, lineOf] = [refused, places, lines].map((numbers) => Uint32Array.from(numbers));
+  return { at, place, line: lineOf, reasons: refused.map((it) => said[it].reason).join('\n') };
+}
+
 // The records of a text: where each begins, and what `table` says of it, column by column, which is soon handed over.
-// What comes before the first header is a record where `table` has a line more than there are headers. A record's key,
-// its game and its canonical board, is that of all records of its group; a refused one has none.
+// What comes before the first header is a record where `table` has a line more than there are headers. A group's key
+// is the game and the canonical board of its records; each has its group's place among the keys, a refused one -1.
 function recordsIn({ bytes, game }) {
   const lines = asText.decode(printFor({ command: 'table --json', bytes, game }).text).split('\n').slice(0, -1);
   const said = lines.map((line) => JSON.parse(line));
   const headers = headersIn(bytes);
-  const bare = said.length - headers.length;
-  const starts = Uint32Array.from(said, (_, at) => (at < bare ? 0 : headers[at - bare]));
-  const isNamed = ({ reason }, at) => at >= bare && reason !== 'bad header' && hasName(bytes, starts[at]);
+  const starts = Uint32Array.from(said.length > headers.length ? [0, ...headers] : headers);
+  const isNamed = (start) => bytes[start] === AT_SIGN && hasName(bytes, start);
+  const games = Uint8Array.from(said, ({ variant }) => Math.max(0, GAMES.indexOf(variant)));
+  const keys = new Map();
+  const placeOf = (key) => keys.get(key) ?? keys.set(key, keys.size).size - 1;
   return {
-    bare, starts,
-    end: bytes.length,
-    named: Uint8Array.from(said, (it, at) => Number(isNamed(it, at))),
+    starts, games,
+    named: Uint8Array.from(said, ({ reason }, at) => Number(reason !== 'bad header' && isNamed(starts[at]))),
+    groups: Int32Array.from(said, ({ board }, at) => (board ? placeOf(`${games[at]} ${board}`) : -1)),
     names: said.map(({ name, refused }) => name ?? refused).join('\n'),
-    keys: said.map(({ variant, board }) => (board ? `${GAMES.indexOf(variant)} ${board}` : '')).join('\n'),
-    faults: said.flatMap(({ place, reason }, at) => (reason ? [{ at, place, reason }] : [])),
+    keys: bytesOf([...keys.keys()].join('\n')),
+    faults: faultsIn(bytes, said),
   };
 }
 
@@ -58,12 +70,16 @@ export function workAt(asked) {
   }
 }
 
-// Answers one message after another in a worker; the first one has the module.
+// Answers one message after another in a worker, and hands over the arrays of an answer; the first message has the
+// module.
 export function listenInWorker() {
   let started = null;
   globalThis.onmessage = async ({ data: { number, module, ...asked } }) => {
     started ??= startRuns(module);
     await started;
-    if (asked.work) globalThis.postMessage({ number, ...workAt(asked) });
+    if (!asked.work) return;
+    const done = workAt(asked);
+    const arrays = Object.values(done.value ?? {}).filter(ArrayBuffer.isView);
+    globalThis.postMessage({ number, ...done }, { transfer: arrays.map(({ buffer }) => buffer) });
   };
 }
