@@ -127,7 +127,7 @@ static void compare(uint32_t game, const state *it) {
 
 /* Of cards that go together the first alone moves the sums. */
 static void try_runs(uint32_t game, const state *it) {
-    static fcanon_run runs[FCANON_MOST_RUN_MOVES];
+    static fcanon_run_move runs[FCANON_MOST_RUN_MOVES];
     size_t count;
     fcanon_run_moves(game, &it->board, runs, FCANON_MOST_RUN_MOVES, &count);
     for (size_t i = 0; i < count; i++) {
