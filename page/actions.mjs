@@ -86,11 +86,11 @@ export function choose({ number, name }, more = {}) {
 
 export const chooseList = (list) => apply({ what: 'the choice of a list', change: { list, step: 0 } });
 
-export function stepTo(step) {
+export function stepTo(step, isBeside = false) {
   if (!shown) return;
   const to = Math.max(0, Math.min(step, shown.steps.boards.length - 1));
   const joins = `${shown.base.number}/${shown.chosen}`;
-  if (to !== shown.step) apply({ what: 'the steps', joins, change: { step: to } });
+  if (to !== shown.step) apply({ what: 'the steps', joins, change: { step: to }, isBeside });
 }
 
 // Shows a list on the board of another record of its group.

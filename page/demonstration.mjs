@@ -3,32 +3,24 @@
 
 import { exchangeBack, exchangeBy, shuffleBy } from './actions.mjs';
 import { at, hide, prefersStill, say } from './elements.mjs';
-import { anyPassage, PLACE } from './passages.mjs';
+import { shuffleOf } from './links.mjs';
+import { PLACE } from './passages.mjs';
 import { shown } from './shown.mjs';
 import { amend, store } from './store.mjs';
 
 const BEGIN_MILLISECONDS = 1_500;
 const STEP_MILLISECONDS = 2_200;
-const [SEED, FACTOR, ADDED, LIMIT] = [7, 214_013, 2_531_011, 2 ** 31]; // the same shuffles each time
+const SHUFFLES = ['HCSD.28751463.bcda', 'CDHS.18347625.cdab', 'CHDS.58674231.adcb']; // as links have them
 
 let left = null; // what is still to be shown, or null
 let timer = null;
 
-function chance() {
-  let number = SEED;
-  return () => {
-    number = (number * FACTOR + ADDED) % LIMIT;
-    return number / LIMIT;
-  };
-}
-
 function acts() {
-  const by = chance();
-  const shuffle = () => shuffleBy(anyPassage(shown.record.game, by));
   const first = PLACE.cards;
   const lengths = shown.sides.own.subarray(PLACE.lengths, PLACE.cards);
   const places = [first + lengths[0] - 1, first + lengths[0] + lengths[1] - 1];
-  return [shuffle, shuffle, shuffle, () => exchangeBy(places), exchangeBack];
+  const shuffles = SHUFFLES.map((text) => () => shuffleBy(shuffleOf(text)));
+  return [...shuffles, () => exchangeBy(places), exchangeBack];
 }
 
 function showNext() {

@@ -29,9 +29,18 @@ export const drawing = (name, className) => shape('svg', { class: className }, s
 // A drawing of a suit, which may become another one: what a `use` shows is made anew when that changes.
 export const suitDrawing = (className) => shape('svg', { class: className, viewBox: '0 0 100 100' }, shape('path', {}));
 
-// Puts a text where it is not there yet, so that nothing is read out twice.
-export function write(id, words) {
+// Puts a text where it is not there yet, so that nothing is read out twice; it may say that something is wrong.
+export function write(id, words, isBad = false) {
   if (at(id).textContent !== words) at(id).textContent = words;
+  at(id).classList.toggle('bad', isBad);
+}
+
+// Fills a list with items of these words and values, where they are not there yet.
+export function fill(id, name, words, values = []) {
+  const textOfItem = ({ value, textContent }) => `${value} ${textContent}`;
+  const items = words.map((it, place) => element(name, name === 'option' ? { value: values[place] ?? place } : {}, it));
+  const [drawn, wanted] = [[...at(id).children], items].map((its) => its.map(textOfItem).join('\n'));
+  if (drawn !== wanted) at(id).replaceChildren(...items);
 }
 
 // Names a button; on narrow screens the rest of its name is not shown.
@@ -41,7 +50,14 @@ export function nameButton(id, word, rest = '') {
 
 // A control that has nothing to do keeps the focus, which a disabled one would lose.
 export const setIdle = (id, isIdle) => { at(id).ariaDisabled = isIdle; };
-export const isIdle = (it) => it.ariaDisabled === 'true';
+
+// Does what takes a while, once at a time: its control has nothing to do meanwhile.
+export async function onceAtATime(id, act) {
+  if (at(id).ariaDisabled === 'true') return;
+  setIdle(id, true);
+  await act();
+  setIdle(id, false);
+}
 
 // Hides a control; where it has the focus, another one takes it.
 export function hide(id, isHidden, other) {
@@ -52,8 +68,7 @@ export function hide(id, isHidden, other) {
 
 // Says what was done, or why it was not.
 export function say(words, isBad = false) {
-  write('counter', words);
-  at('counter').classList.toggle('bad', isBad);
+  write('counter', words, isBad);
   if (!prefersStill.matches && words !== '') at('counter').animate({ opacity: [.3, 1] }, { duration: 250 });
 }
 

@@ -143,19 +143,17 @@ export function sayMoves() {
 // ---- the pointer
 
 const pressable = (target) => target?.closest?.('.card, .pile') ?? null;
+const sideOf = (it) => it?.closest('.board')?.id;
 
 function pressAt(target) {
   const it = pressable(target);
-  const side = Object.keys(views).find((name) => views[name].holder.contains(it));
-  if (side) press(side, it.dataset.key, it.dataset.row === undefined ? null : Number(it.dataset.row));
-  return Boolean(side);
+  if (it) press(sideOf(it), it.dataset.key, it.dataset.row === undefined ? null : Number(it.dataset.row));
+  return it !== null;
 }
 
 function dragBy(x, y) {
-  for (const view of Object.values(views)) {
-    view.table.style.setProperty('--drag-x', `${x}px`);
-    view.table.style.setProperty('--drag-y', `${y}px`);
-  }
+  at('shown').style.setProperty('--drag-x', `${x}px`);
+  at('shown').style.setProperty('--drag-y', `${y}px`);
 }
 
 // Cards follow the pointer from the first few steps of it on; a shorter touch is a press.
@@ -200,7 +198,7 @@ function dropAt(event) {
   const target = document.elementsFromPoint(event.clientX, event.clientY)
     .find((it) => pressable(it) && !it.closest('.held'));
   const pile = pressable(target);
-  const side = Object.keys(views).find((name) => views[name].holder.contains(pile));
+  const side = sideOf(pile);
   const isBack = !side || keyBefore(shown.sides[side].passage, pile.dataset.key) === held?.key;
   if (isBack) release();
   else pressAt(target);
@@ -279,10 +277,8 @@ export function listenToHands() {
   for (const [name, view] of Object.entries(views)) {
     const { holder } = view;
     listenToPointer(view);
-    holder.addEventListener('mouseover', (event) => light(name, event.target));
-    holder.addEventListener('mouseleave', () => light(name, null));
-    holder.addEventListener('focusin', (event) => light(name, event.target));
-    holder.addEventListener('focusout', () => light(name, null));
+    for (const event of ['mouseover', 'focusin']) holder.addEventListener(event, ({ target }) => light(name, target));
+    for (const event of ['mouseleave', 'focusout']) holder.addEventListener(event, () => light(name, null));
     holder.addEventListener('keydown', (event) => walk(name, event));
   }
   document.addEventListener('keydown', typed);

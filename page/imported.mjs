@@ -2,7 +2,7 @@
 
 import { replace } from './actions.mjs';
 import { collection, isLarge } from './collection.mjs';
-import { at, element, say, write } from './elements.mjs';
+import { at, fill, say, write } from './elements.mjs';
 import { later, now } from './engine.mjs';
 import { asText } from './lines.mjs';
 import { isHeaded } from './records.mjs';
@@ -59,9 +59,7 @@ export function drawImported() {
   const notes = imported?.said.split('\n').slice(0, -1).map(noteOf) ?? [];
   at('imported').hidden = !imported;
   at('ask').hidden = !notes.some((note) => note.endsWith(QUESTION) || note.includes(`${QUESTION}:`));
-  const drawn = [...at('notes').children].map((item) => item.textContent);
   const shown = notes.length > MOST_NOTES ? [...notes.slice(0, MOST_NOTES), '..', notes.at(-1)] : notes;
-  const items = shown.map((note) => element('li', {}, note));
-  if (shown.join('\n') !== drawn.join('\n')) at('notes').replaceChildren(...items);
+  fill('notes', 'li', shown);
   if (imported) write('imported-said', notes.length > 0 ? 'Import says of this:' : 'Import reads this as it is.');
 }

@@ -26,11 +26,18 @@ function must(call, ...given) {
   if (answer !== 0) throw new Error(`${call}: ${wordsOf(answer)}`);
 }
 
+// What a call writes into its last array, of so many bytes.
+function written(size, call, ...given) {
+  const bytes = new Uint8Array(size);
+  must(call, ...given, bytes);
+  return bytes;
+}
+
 // Makes a call that writes some things of so many bytes, and then their number.
 function listed(call, size, most, ...given) {
-  const [things, number] = [new Uint8Array(size * most), new Uint8Array(NUMBER)];
-  must(call, ...given, things, BigInt(most), number);
-  return Array.from({ length: numberIn(number) }, (_, place) => things.slice(size * place, size * (place + 1)));
+  const things = new Uint8Array(size * most);
+  const count = numberIn(written(NUMBER, call, ...given, things, BigInt(most)));
+  return Array.from({ length: count }, (_, place) => things.slice(size * place, size * (place + 1)));
 }
 
 export const fcanon = {
@@ -42,32 +49,19 @@ export const fcanon = {
   },
 
   // The printed text of a board.
-  write(game, board) {
-    const text = new Uint8Array(TEXT);
-    must('write', game, board, text);
-    return textOf(text);
-  },
+  write: (game, board) => textOf(written(TEXT, 'write', game, board)),
 
   // The canonical board, and the passage there.
   canon(game, board) {
-    const [canonical, passage] = [new Uint8Array(BOARD), new Uint8Array(PASSAGE)];
-    must('canon', game, board, canonical, passage);
-    return { canonical, passage };
+    const canonical = new Uint8Array(BOARD);
+    return { canonical, passage: written(PASSAGE, 'canon', game, board, canonical) };
   },
 
   // The board where a passage leads.
-  image(game, board, passage) {
-    const image = new Uint8Array(BOARD);
-    must('image', game, passage, board, image);
-    return image;
-  },
+  image: (game, board, passage) => written(BOARD, 'image', game, passage, board),
 
   // How many renamings lead, with some orders, from the board to itself.
-  countSymmetries(game, board) {
-    const number = new Uint8Array(NUMBER);
-    must('symmetries', game, board, new Uint8Array(SYMMETRIES), number);
-    return numberIn(number);
-  },
+  countSymmetries: (game, board) => numberIn(written(NUMBER, 'symmetries', game, board, new Uint8Array(SYMMETRIES))),
 
   // The moves that the game allows, each in three bytes: those of one card, which say no count, and those of more.
   moves(game, board) {
@@ -78,11 +72,7 @@ export const fcanon = {
   // Whether a passage leads from the one board to the other.
   areSame: (game, board, other) => answerOf('same', game, board, other, new Uint8Array(PASSAGE)) === 0,
 
-  inverse(game, passage) {
-    const inverse = new Uint8Array(PASSAGE);
-    must('inverse', game, passage, inverse);
-    return inverse;
-  },
+  inverse: (game, passage) => written(PASSAGE, 'inverse', game, passage),
 
   // Whether these bytes are a passage of the game.
   isPassage: (game, passage) => answerOf('inverse', game, passage, new Uint8Array(PASSAGE)) === 0,
@@ -111,11 +101,7 @@ export const fcanon = {
   },
 
   // How many cards can go at once to the column of this digit.
-  capacity(game, board, digit) {
-    const number = new Uint8Array(NUMBER);
-    must('capacity', game, board, digit, number);
-    return numberIn(number);
-  },
+  capacity: (game, board, digit) => numberIn(written(NUMBER, 'capacity', game, board, digit)),
 
   // The one-card moves that do what a move does.
   expand: (game, board, move) => listed('expand', 2, MOST_MOVES, game, board, move).map(textOf),
@@ -123,6 +109,6 @@ export const fcanon = {
   // Microsoft's deal with this number, if the game has one.
   deal(game, number) {
     const board = new Uint8Array(BOARD);
-    return answerOf('deal', game, number, board) === 0 ? board : null;
+    return number > 0 && number < 2 ** 32 && answerOf('deal', game, number, board) === 0 ? board : null;
   },
 };

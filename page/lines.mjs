@@ -1,34 +1,27 @@
 // Bytes of a text: its lines and words, changes of it, and where the text field has them.
 
-const [TAB, BLANK] = [9, 32];
-const [CARRIAGE_RETURN, NUMBER_SIGN] = [13, 35];
+const CARRIAGE_RETURN = 13;
 export const [LINE_FEED, GREATER, AT_SIGN] = [10, 62, 64];
 
 // A mark of the order of bytes is a character like others: what is dropped has no place.
 export const asText = new TextDecoder('utf-8', { ignoreBOM: true });
 export const bytesOf = (text) => new TextEncoder().encode(text);
 
-const isGap = (byte) => byte === BLANK || byte === TAB;
-export const isApart = (byte) => isGap(byte) || byte === CARRIAGE_RETURN || byte === LINE_FEED;
-
-// Where the line from `start` on ends, without its carriage return, and where the next one begins.
-export function lineAt(bytes, start, limit) {
-  const found = bytes.indexOf(LINE_FEED, start);
-  const stop = found < 0 || found >= limit ? limit : found;
-  const isCut = stop > start && bytes[stop - 1] === CARRIAGE_RETURN;
-  return { start, end: isCut ? stop - 1 : stop, next: Math.min(stop + 1, limit) };
+// The text from a place on to the end of its line.
+export function restOfLine(bytes, place) {
+  const end = bytes.indexOf(LINE_FEED, place);
+  return asText.decode(bytes.subarray(place, end < 0 ? bytes.length : end));
 }
 
+// The lines of a part of a text: where each begins, and where it ends, without its carriage return.
 export function* linesOf(bytes, start, limit) {
-  for (let line; start < limit; start = line.next) {
-    line = lineAt(bytes, start, limit);
-    yield line;
+  while (start < limit) {
+    const found = bytes.indexOf(LINE_FEED, start);
+    const stop = found < 0 || found >= limit ? limit : found;
+    const isCut = stop > start && bytes[stop - 1] === CARRIAGE_RETURN;
+    yield { start, end: isCut ? stop - 1 : stop };
+    start = stop + 1;
   }
-}
-
-export function firstAfter(bytes, start, end, test) {
-  while (start < end && !test(bytes[start])) start++;
-  return start;
 }
 
 export function countLines(bytes) {
@@ -47,10 +40,7 @@ export function headersIn(bytes, from = 0) {
 }
 
 // Whether a line is blank or a comment.
-export function isSkipped(bytes, line) {
-  const first = firstAfter(bytes, line.start, line.end, (byte) => !isGap(byte));
-  return first === line.end || bytes[first] === NUMBER_SIGN;
-}
+export const isSkipped = (bytes, { start, end }) => /^[ \t]*(#|$)/.test(asText.decode(bytes.subarray(start, end)));
 
 // ---- changes
 

@@ -7,7 +7,6 @@ import { bytesOf } from './lines.mjs';
 import { headerLine, listLine } from './lists.mjs';
 import { areEqual } from './passages.mjs';
 import { AT_FIRST } from './store.mjs';
-import { isGame } from './words.mjs';
 
 export const LONGEST = 8_000; // what some programs cut off is longer
 
@@ -20,7 +19,7 @@ function shuffleText(game, passage) {
 }
 
 // The bytes that such words spell; whether they are a passage of the game is asked where they are used.
-function shuffleOf(text) {
+export function shuffleOf(text) {
   const [suits = '', columns = '', cells = ''] = text.split('.');
   const passage = new Uint8Array(20);
   passage.set([...suits.slice(0, 4)].map((letter) => SUITS.indexOf(letter)));
@@ -32,8 +31,7 @@ function shuffleOf(text) {
 const numberOf = (record) => /^deal-(\d{1,10})$/.exec(record.name)?.[1];
 
 function isDeal(record) {
-  const number = Number(numberOf(record));
-  const dealt = number > 0 && number < 2 ** 32 ? fcanon.deal(record.game, number) : null;
+  const dealt = fcanon.deal(record.game, Number(numberOf(record)));
   return dealt !== null && areEqual(dealt, record.board);
 }
 
@@ -57,9 +55,9 @@ export function linkOf({ record, lists, chosen, step, shuffle, times, isSorted }
 // The state that a link asks for, or null where it holds no text.
 export function linked(hash) {
   const given = new URLSearchParams(hash.slice(1));
-  const game = isGame(given.get('game')) ? Number(given.get('game')) : 0;
+  const game = Math.max(0, Object.keys(GAMES).indexOf(given.get('game')));
   const deal = Number(given.get('deal'));
-  const board = deal > 0 && deal < 2 ** 32 ? fcanon.deal(game, deal) : null;
+  const board = fcanon.deal(game, deal);
   const dealt = board && `@ ${GAMES[game]} deal-${deal}\n${fcanon.write(game, board)}${given.get('list') ?? ''}\n`;
   const text = dealt || given.get('text');
   if (!text) return null;

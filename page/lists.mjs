@@ -5,14 +5,12 @@ import { COUNTS, fcanon, moveAt, movesIn } from './library.mjs';
 
 export const headerLine = (record) => `@ ${GAMES[record.game]} ${record.name}\n`;
 
-// A move of a list as it is printed.
-export function moveText(list, place) {
-  const [from, to, count] = moveAt(list, place);
-  return String.fromCharCode(from, to) + (count > 0 ? 'v' + COUNTS[count - 1] : '');
-}
-
+// A list as it is printed.
 export function listLine(list) {
-  const moves = Array.from({ length: movesIn(list) }, (_, place) => ' ' + moveText(list, place));
+  const moves = Array.from({ length: movesIn(list) }, (_, place) => {
+    const [from, to, count] = moveAt(list, place);
+    return ` ${String.fromCharCode(from, to)}${count > 0 ? 'v' + COUNTS[count - 1] : ''}`;
+  });
   return `${list.sign}${moves.join('')}\n`;
 }
 
@@ -32,17 +30,6 @@ export function stepsOf(record, list) {
   const other = fcanon.play(record.game, record.canonical, list.image, (board) => images.push(board));
   const isAlike = played.answer === other.answer && played.made === other.made;
   return { boards, images, isAlike, refusal: played.answer === 0 ? null : wordsOf(played.answer) };
-}
-
-// How many cards can go where the next move of a list leads, which the game refuses since they are too many.
-export function capacityFor(record, list, boards) {
-  const [, digit] = moveAt(list, boards.length - 1);
-  return fcanon.capacity(record.game, boards[boards.length - 1], digit);
-}
-
-// The one-card moves of a move that the game allows on the board.
-export function expandedMove(game, board, list, place) {
-  return list.sign === '>' ? [moveText(list, place)] : fcanon.expand(game, board, moveAt(list, place));
 }
 
 // A list of one record, on the board of another of its group.

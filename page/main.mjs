@@ -1,12 +1,10 @@
 // The page's beginning: what listens to what, and how a state is drawn.
 
 import { start } from '../bindings/javascript/calls.js';
-import {
-  chooseGame, chooseList, keep, replace, shuffle, sort, stepTo, swap,
-} from './actions.mjs';
+import { chooseGame, chooseList, keep, replace, shuffle, sort, stepTo, swap } from './actions.mjs';
 import { collection, read } from './collection.mjs';
 import { demonstrate, skip, stopOnActs } from './demonstration.mjs';
-import { at, download, nameButton, say, setIdle, write } from './elements.mjs';
+import { at, download, nameButton, onceAtATime, say, setIdle, write } from './elements.mjs';
 import { startEngine } from './engine.mjs';
 import { drawGathered } from './gathered.mjs';
 import { holdMore, listenToHands, release, sayMoves } from './hands.mjs';
@@ -16,7 +14,7 @@ import { bytesOf } from './lines.mjs';
 import { linked, linkOf, LONGEST } from './links.mjs';
 import { copyPrinted, drawPrinted, listCommands, savePrinted } from './printed.mjs';
 import {
-  chooseFound, deal, drawCarried, drawChosen, drawCollection, drawFound, drawSaid, drawShare, drawText, openDropped,
+  chooseFound, deal, drawCarried, drawChosen, drawCollection, drawFound, drawShare, drawText, openDropped,
   openFiles, paste, showCarried, typeText,
 } from './positions.mjs';
 import { derive, settled, shown } from './shown.mjs';
@@ -29,7 +27,6 @@ const RESIZED_MILLISECONDS = 300;
 
 let settling = null;
 let player = null;
-let isTick = false;
 let drawn = null; // the collection that is drawn
 
 // ---- drawing
@@ -45,7 +42,7 @@ function draw(before, action) {
 
 // What is seen while a large text is read: its first record.
 function drawReading() {
-  drawSaid(`Reading ${inFigures(collection.bytes.length)} bytes ..`);
+  write('said', `Reading ${inFigures(collection.bytes.length)} bytes ..`);
   if (collection.firsts.length > 0) drawBoards({});
 }
 
@@ -62,7 +59,7 @@ function drawAll(action) {
 }
 
 function drawBoards({ stagger = 0, isBeside = false }) {
-  if (!isTick && !isBeside) stopPlaying();
+  if (!isBeside) stopPlaying();
   store.state = settled(store.state);
   derive(store.state);
   at('shown').hidden = shown === null;
@@ -101,29 +98,18 @@ function drawPlay() {
   nameButton('run', 'Play', lists[chosen]?.label.includes('wins') ? ' the solution' : ' the list');
 }
 
-function tick() {
-  isTick = true;
-  stepTo(shown.step + 1);
-  isTick = false;
-}
-
 function play() {
   const isPlaying = player !== null;
   stopPlaying();
   if (!isPlaying) {
     if (shown.step === shown.steps.boards.length - 1) stepTo(0);
     at('move').setAttribute('aria-live', 'off');
-    player = setInterval(tick, PLAY_MILLISECONDS);
+    player = setInterval(() => stepTo(shown.step + 1, true), PLAY_MILLISECONDS);
   }
   drawPlay();
 }
 
-async function carryOver() {
-  if (at('carry-over').ariaDisabled === 'true') return;
-  setIdle('carry-over', true);
-  await views.right.carryFrom(views.left);
-  setIdle('carry-over', false);
-}
+const carryOver = () => onceAtATime('carry-over', () => views.right.carryFrom(views.left));
 
 // ---- links
 
@@ -131,7 +117,8 @@ async function makeLink() {
   const link = linkOf(shown);
   const isTooLong = link.length > LONGEST;
   at('link-text').hidden = isTooLong;
-  write('link-said', isTooLong ? `This is too long for a link: ${inFigures(link.length)} characters. Save it.` : '');
+  const why = `This is too long for a link: ${inFigures(link.length)} characters. Save it.`;
+  write('link-said', isTooLong ? why : '', true);
   if (isTooLong) return;
   at('link-text').value = location.href.split('#')[0] + link;
   at('link-text').select();
@@ -153,59 +140,31 @@ function forgetAll() {
   forget();
 }
 
-function listenToText(on) {
-  on('text', 'input', typeText);
-  on('text', 'paste', paste);
-  on('game', 'change', () => chooseGame(Number(at('game').value)));
-  on('deal-form', 'submit', deal);
-  on('open', 'click', () => at('file').click());
-  on('file', 'change', async () => {
-    await openFiles(at('file').files);
-    at('file').value = '';
-  });
-  on('save', 'click', () => download([collection.bytes], 'positions.collection'));
-  on('more', 'click', () => replace('more examples', bytesOf(at('examples').textContent)));
-  on('forget', 'click', forgetAll);
-  on('find', 'input', drawFound);
-  on('find-row', 'submit', chooseFound);
-  on('member', 'change', drawCarried);
-  on('carry', 'click', showCarried);
-  on('command', 'change', drawPrinted);
-  on('copy', 'click', copyPrinted);
-  on('save-printed', 'click', savePrinted);
-  on('program', 'toggle', drawPrinted);
-  on('import', 'click', importText);
-  on('as-columns', 'click', answerAs('columns'));
-  on('as-rows', 'click', answerAs('rows'));
-  on('link', 'click', () => shown && makeLink());
-  addEventListener('hashchange', follow);
-  addEventListener('dragover', (event) => event.preventDefault());
-  addEventListener('drop', openDropped);
+async function openChosen() {
+  await openFiles(at('file').files);
+  at('file').value = '';
 }
 
-function listenToTable(on) {
-  on('undo', 'click', undo);
-  on('redo', 'click', redo);
-  on('shuffle', 'click', shuffle);
-  on('swap', 'click', swap);
-  on('carry-over', 'click', carryOver);
-  on('sort', 'click', sort);
-  on('keep', 'click', keep);
-  on('skip', 'click', skip);
-  on('moves', 'click', sayMoves);
-  on('more-cards', 'click', () => holdMore(1));
-  on('fewer-cards', 'click', () => holdMore(-1));
-  on('let-go', 'click', release);
-  on('list', 'change', () => chooseList(Number(at('list').value)));
-  on('step', 'input', () => stepTo(Number(at('step').value)));
-  on('first', 'click', () => stepTo(0));
-  on('back', 'click', () => stepTo(shown.step - 1));
-  on('on', 'click', () => stepTo(shown.step + 1));
-  on('last', 'click', () => stepTo(Infinity));
-  on('run', 'click', play);
-  layTable();
-  listenToHands();
-}
+// What is done where something happens to an element.
+const ACTS = {
+  click: {
+    undo, redo, shuffle, swap, sort, keep, skip, 'carry-over': carryOver, run: play, moves: sayMoves, 'let-go': release,
+    'more-cards': () => holdMore(1), 'fewer-cards': () => holdMore(-1),
+    first: () => stepTo(0), back: () => stepTo(shown.step - 1), on: () => stepTo(shown.step + 1),
+    last: () => stepTo(Infinity), link: () => shown && makeLink(), carry: showCarried, forget: forgetAll,
+    open: () => at('file').click(), save: () => download([collection.bytes], 'positions.collection'),
+    more: () => replace('more examples', bytesOf(at('examples').textContent)), import: importText,
+    'as-columns': answerAs('columns'), 'as-rows': answerAs('rows'), copy: copyPrinted, 'save-printed': savePrinted,
+  },
+  change: {
+    game: () => chooseGame(Number(at('game').value)), list: () => chooseList(Number(at('list').value)),
+    file: openChosen, member: drawCarried, command: drawPrinted,
+  },
+  input: { text: typeText, find: drawFound, step: () => stepTo(Number(at('step').value)) },
+  submit: { 'deal-form': deal, 'find-row': chooseFound },
+  paste: { text: paste },
+  toggle: { program: drawPrinted },
+};
 
 // At first, and where the window gets another size, cards are at their places at once.
 function settle() {
@@ -215,9 +174,14 @@ function settle() {
 }
 
 function listen() {
-  const on = (id, event, act) => at(id).addEventListener(event, act);
-  listenToText(on);
-  listenToTable(on);
+  for (const [event, acts] of Object.entries(ACTS)) {
+    for (const [id, act] of Object.entries(acts)) at(id).addEventListener(event, act);
+  }
+  addEventListener('hashchange', follow);
+  addEventListener('dragover', (event) => event.preventDefault());
+  addEventListener('drop', openDropped);
+  layTable();
+  listenToHands();
   listenToLeaving();
   stopOnActs();
   addEventListener('resize', settle);
@@ -272,4 +236,4 @@ async function main() {
   document.body.dataset.is = 'ready';
 }
 
-main().catch((error) => drawSaid(`This browser does not run the page's code: ${error.message}`, true));
+main().catch((error) => write('said', `This browser does not run the page's code: ${error.message}`, true));

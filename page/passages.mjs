@@ -23,19 +23,19 @@ const passageOf = (game, suits, columns, cells) => {
 
 export const stayingPassage = (game) => passageOf(game, upTo(4), upTo(8), upTo(CELL_COUNTS[game]));
 
-export function inAnyOrder(values, chance = Math.random) {
+export function inAnyOrder(values) {
   for (let left = values.length; left > 1; left--) {
-    const taken = Math.floor(chance() * left);
+    const taken = Math.floor(Math.random() * left);
     [values[taken], values[left - 1]] = [values[left - 1], values[taken]];
   }
   return values;
 }
 
 // A passage by chance. Whether a renaming keeps the rule of building the library says.
-export function anyPassage(game, chance = Math.random) {
-  const orders = [4, 8, CELL_COUNTS[game]].map((count) => inAnyOrder(upTo(count), chance));
+export function anyPassage(game) {
+  const orders = [4, 8, CELL_COUNTS[game]].map((count) => inAnyOrder(upTo(count)));
   const passage = passageOf(game, ...orders);
-  return fcanon.isPassage(game, passage) ? passage : anyPassage(game, chance);
+  return fcanon.isPassage(game, passage) ? passage : anyPassage(game);
 }
 
 function ordersOf(values) {

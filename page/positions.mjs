@@ -3,7 +3,7 @@
 import { GAMES } from '../bindings/javascript/calls.js';
 import { carryTo, choose, dealNumber, replace, type } from './actions.mjs';
 import { collection, isLarge, LARGE } from './collection.mjs';
-import { at, element, write } from './elements.mjs';
+import { at, element, fill, write } from './elements.mjs';
 import { importAsNeeded } from './imported.mjs';
 import { fcanon, TITLES } from './library.mjs';
 import { afterField, asText, bytesOf, fieldText, headersIn, isSkipped, joined, linesOf, spliceOf } from './lines.mjs';
@@ -23,15 +23,10 @@ export function drawCollection() {
   const { starts: { length }, faults, fault } = collection;
   const refused = faults.length > 0 ? `, ${faults.length} refused` : '';
   const said = length > 0 ? `${inFigures(length)} read${refused}.` : 'Paste a position, open a file, or deal a number.';
-  drawSaid(fault ?? said, fault !== null);
+  write('said', fault ?? said, fault !== null);
   drawFaults();
   drawGroups();
   drawPrinted();
-}
-
-export function drawSaid(words, isBad = false) {
-  write('said', words);
-  at('said').classList.toggle('bad', isBad);
 }
 
 // Puts the text in its field, or only the record that is shown where the text is too large for one. A change that is
@@ -76,10 +71,10 @@ export function deal(event) {
   event.preventDefault();
   const game = Number(at('game').value);
   const word = at('deal').value.trim().replace(/[#,\s]/g, '');
-  const number = /^\d{1,10}$/.test(word) && Number(word) < 2 ** 32 ? Number(word) : 0;
+  const number = /^\d{1,10}$/.test(word) ? Number(word) : 0;
   const isDealt = fcanon.deal(game, 1) !== null;
   const why = isDealt ? 'Deals have the numbers 1 to 2,147,483,647.' : `${TITLES[game]} has no numbered deals.`;
-  write('deal-said', dealNumber(game, number) ? '' : why);
+  write('deal-said', dealNumber(game, number) ? '' : why, true);
 }
 
 // ---- files
@@ -224,11 +219,7 @@ export function drawShare() {
   const others = group.filter((place) => place !== own).slice(0, MOST_SHOWN.members);
   const isNone = others.length === 0 || lists.length === 0 || exchange !== null;
   at('share').hidden = isNone;
-  const drawn = [...at('member').options].map((option) => option.value).join();
-  if (drawn !== others.join()) {
-    const option = (place) => element('option', { value: place }, nameAt(collection, place));
-    at('member').replaceChildren(...others.map(option));
-  }
+  fill('member', 'option', others.map((place) => nameAt(collection, place)), others);
   if (!isNone) drawCarried();
 }
 

@@ -2,7 +2,7 @@
 
 import { COMMANDS } from '../bindings/javascript/runs.js';
 import { collection, isLarge } from './collection.mjs';
-import { at, download, element, isIdle, setIdle, write } from './elements.mjs';
+import { at, download, fill, onceAtATime, write } from './elements.mjs';
 import { later, now } from './engine.mjs';
 import { asText } from './lines.mjs';
 
@@ -12,9 +12,7 @@ const MOST_PRINTED = 100_000;
 
 let printed = { command: '', text: new Uint8Array() }; // of a collection
 
-export function listCommands() {
-  at('command').replaceChildren(...PRINTINGS.map((name) => element('option', {}, name)));
-}
+export const listCommands = () => fill('command', 'option', PRINTINGS, PRINTINGS);
 
 // Prints anew where the text or the command is another one, and this is seen.
 export function drawPrinted() {
@@ -55,14 +53,11 @@ export async function copyPrinted() {
 }
 
 // Saves all that is printed: what is no table is read again as a collection.
-export async function savePrinted() {
+export const savePrinted = () => onceAtATime('save-printed', async () => {
   const asked = printed;
-  if (isIdle(at('save-printed'))) return;
-  setIdle('save-printed', true);
   await asked.ready;
-  setIdle('save-printed', false);
   if (printed !== asked) return;
   const isTable = /^(check|table|same|symmetries|count)/.test(asked.command);
   download([asked.text], `${asked.command.replace(' --', '-')}.${isTable ? 'txt' : 'collection'}`);
   write('copied', 'Saved.');
-}
+});

@@ -1,42 +1,33 @@
 // The records of a collection: what the program says of each, and what it prints of one, taken apart.
 //
-// They are in columns, each with one thing of every record: where it begins, its game, whether it is named, its group
-// (-1 where it is refused), and its name. Beside them are the groups' keys, the faults of the refused ones, and the
-// records that were looked at, by their places.
+// They are in columns, each with one thing of every record: where it begins, its group (-1 where it is refused), and
+// its name, which may be empty. Beside them are the groups' places by their keys, the faults of the refused ones, and
+// the records that were looked at, by their places.
 
+import { GAMES } from '../bindings/javascript/calls.js';
 import { COUNTS, fcanon } from './library.mjs';
-import { asText, AT_SIGN, bytesOf, countLines, firstAfter, isApart, joined, LINE_FEED } from './lines.mjs';
+import { asText, AT_SIGN, bytesOf, countLines, joined, LINE_FEED, restOfLine } from './lines.mjs';
 import { now } from './engine.mjs';
+import { placeIn } from './work.mjs';
 
 const listOf = (text) => (text === '' ? [] : text.split('\n'));
 
-// The groups' keys, which are taken apart once one is asked for.
-class GroupKeys {
-  constructor(bytes = new Uint8Array()) {
-    this.bytes = bytes;
-    this.places = null;
-  }
-
-  get all() {
-    this.places ??= new Map(listOf(asText.decode(this.bytes)).map((key, place) => [key, place]));
-    return this.places;
-  }
-
-  placeOf(key) {
-    if (!this.all.has(key)) this.all.set(key, this.all.size);
-    return this.all.get(key);
-  }
+// The groups' places by their keys, which are taken apart once they are asked for.
+function placesOf(keys) {
+  let places = null;
+  return () => places ??= new Map(listOf(asText.decode(keys)).map((key, place) => [key, place]));
 }
 
 // Records of what is said of a text.
-export function recordsOf({ names, keys, faults: { reasons, at, place, line }, ...columns }) {
+export function recordsOf({ starts, groups, names, keys, faults: { reasons, at, place, line } }) {
   const faults = listOf(reasons).map((reason, it) => ({ at: at[it], place: place[it], line: line[it], reason }));
-  return { ...columns, names: listOf(names), keys: new GroupKeys(keys), faults, made: new Map() };
+  const nameList = starts.length > 0 ? names.split('\n') : [];
+  return { starts, groups, names: nameList, places: placesOf(keys), faults, made: new Map() };
 }
 
-export const noRecords = () => ({
-  starts: new Uint32Array(), games: new Uint8Array(), named: new Uint8Array(), groups: new Int32Array(), names: [],
-  keys: new GroupKeys(), faults: [], made: new Map(),
+export const noRecords = () => recordsOf({
+  starts: new Uint32Array(), groups: new Int32Array(), names: '', keys: new Uint8Array(),
+  faults: { reasons: '', at: [], place: [], line: [] },
 });
 
 const endOf = ({ starts, bytes }, place) => starts[place + 1] ?? bytes.length;
@@ -66,19 +57,16 @@ function faultsMoved(faults, records, bytes, countMore) {
 // The records after a change of the text, of which some were read again.
 export function recordsWith(all, read, bytes, { first, rest, grown, start }, { taken, put }) {
   const isAll = rest - first === all.starts.length;
-  const groupPlaces = isAll ? null : [...read.keys.all.keys()].map((key) => all.keys.placeOf(key));
+  const groupPlaces = isAll ? null : [...read.places().keys()].map((key) => placeIn(all.places(), key));
   const more = first + read.starts.length - rest;
-  const column = (name, now = read[name], after = all[name].subarray(rest)) =>
-    joined(all[name].subarray(0, first), now, after);
+  const column = (name, now, after = all[name].subarray(rest)) => joined(all[name].subarray(0, first), now, after);
   const madeBefore = [...all.made].filter(([place]) => place < first);
   const madeAfter = [...all.made].filter(([place]) => place >= rest).map(([place, record]) => [place + more, record]);
   return {
     starts: column('starts', read.starts.map((it) => start + it), all.starts.subarray(rest).map((it) => it + grown)),
-    games: column('games'),
-    named: column('named'),
     groups: column('groups', isAll ? read.groups : read.groups.map((it) => groupPlaces[it] ?? -1)),
     names: [...all.names.slice(0, first), ...read.names, ...all.names.slice(rest)],
-    keys: isAll ? read.keys : all.keys,
+    places: isAll ? read.places : all.places,
     faults: [
       ...all.faults.filter(({ at }) => at < first),
       ...faultsMoved(read.faults, first, start, () => countLines(bytes.subarray(0, start))),
@@ -112,7 +100,7 @@ export function membersFrom({ next }, first) {
 // ---- one record
 
 // One without a name has its number for one.
-export const nameAt = ({ named, names }, place) => (named[place] === 1 ? names[place] : String(place + 1));
+export const nameAt = ({ names }, place) => names[place] || String(place + 1);
 export const isHeaded = ({ bytes, starts }, place) => bytes[starts[place]] === AT_SIGN;
 
 function moveOf(word) {
@@ -124,15 +112,16 @@ function moveOf(word) {
 // the passage there and its lists, each with its image, which are taken from what `show` prints of it.
 export function recordAt(all, place) {
   const span = { start: all.starts[place], end: endOf(all, place) };
-  const bytes = all.bytes.subarray(span.start, span.end);
-  const record = all.made.get(place) ?? whole(all.games[place], bytes, isHeaded(all, place));
+  const record = all.made.get(place) ?? whole(all.game, all.bytes.subarray(span.start, span.end));
   all.made.set(place, record);
   return Object.assign(record, { number: place + 1, name: nameAt(all, place), span });
 }
 
-function whole(game, bytes, hasHeader) {
-  const lines = asText.decode(now({ work: 'print', command: 'show', bytes, game }).text).split('\n')
-    .slice(hasHeader ? 1 : 0, -1);
+// All that is seen in what `show` prints of a record; one without a header is of the game that is given.
+function whole(givenGame, bytes) {
+  const work = { work: 'print', command: 'show', bytes, game: givenGame };
+  const lines = asText.decode(now(work).text).split('\n').slice(0, -1);
+  const game = lines[0][0] === '@' ? GAMES.indexOf(lines.shift().split(' ')[1]) : givenGame;
   const isList = (line) => line[0] === '>';
   const board = fcanon.read(game, bytesOf(lines.filter((line) => !isList(line)).join('\n')));
   const { canonical, passage } = fcanon.canon(game, board);
@@ -147,8 +136,7 @@ function whole(game, bytes, hasHeader) {
 // The column of a fault, from 1, and the word that is there; of a stray line all of it.
 export function wordAt(bytes, { place, reason }) {
   const start = bytes.subarray(0, place).lastIndexOf(LINE_FEED) + 1;
-  const isEnd = reason === 'stray line' ? (byte) => byte === LINE_FEED : isApart;
-  const end = firstAfter(bytes, place, bytes.length, isEnd);
   const column = [...asText.decode(bytes.subarray(start, place))].length + 1;
-  return { column, word: asText.decode(bytes.subarray(place, end)).trimEnd() };
+  const rest = restOfLine(bytes, place);
+  return { column, word: (reason === 'stray line' ? rest : /^[^ \t\r]*/.exec(rest)[0]).trimEnd() };
 }

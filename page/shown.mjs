@@ -10,12 +10,10 @@ import { AT_FIRST } from './store.mjs';
 const MOST_ROWS = { least: 6, most: 9 }; // below the first card of a column; longer columns are squeezed
 
 export let shown = null;
-const exchanged = new WeakMap();
-const labels = new WeakMap();
-const steps = new WeakMap();
+const made = new WeakMap(); // of an exchange its record, of a record the labels of its lists, of a list its boards
 
 // What was made of a thing once, and is there for the next time.
-function once(made, thing, make) {
+function once(thing, make) {
   if (!made.has(thing)) made.set(thing, make());
   return made.get(thing);
 }
@@ -54,7 +52,7 @@ export function settled(state) {
 // The record with two cards exchanged on one of its boards, which is a record of its own.
 export function exchangedOf(record, exchange) {
   if (!exchange) return record;
-  return once(exchanged, exchange, () => {
+  return once(exchange, () => {
     const { board } = exchange;
     const name = `${record.name.slice(0, 50)}-swapped`;
     return { ...record, name, lists: [], board, ...fcanon.canon(record.game, board) };
@@ -63,7 +61,7 @@ export function exchangedOf(record, exchange) {
 
 function labelledLists(record, carried) {
   const labelOf = (list, place) => `${place + 1}: ${verdictOf(record.game, record.board, list)}`;
-  const lists = once(labels, record, () => record.lists.map((list, place) => ({ list, label: labelOf(list, place) })));
+  const lists = once(record, () => record.lists.map((list, place) => ({ list, label: labelOf(list, place) })));
   return carried ? [...lists, carried] : lists;
 }
 
@@ -76,7 +74,7 @@ export function derive(state) {
   const lists = labelledLists(record, exchange ? null : state.carried);
   const chosen = state.list;
   const still = { boards: [record.board], images: [record.canonical], isAlike: true, refusal: null };
-  const way = lists.length > 0 ? once(steps, lists[chosen].list, () => stepsOf(record, lists[chosen].list)) : still;
+  const way = lists.length > 0 ? once(lists[chosen].list, () => stepsOf(record, lists[chosen].list)) : still;
   const step = Math.max(0, Math.min(state.step, way.boards.length - 1));
   const passage = shuffle ?? stayingPassage(record.game);
   const now = { base, record, lists, chosen, steps: way, step, times, exchange, isSorted, shuffle: passage };

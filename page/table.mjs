@@ -2,10 +2,10 @@
 
 import { CELL_COUNTS, CELLS, SUITS } from '../bindings/javascript/calls.js';
 import { BoardView } from './boards.mjs';
-import { at, drawing, element, hide, nameButton, setIdle, write } from './elements.mjs';
+import { at, drawing, element, fill, hide, nameButton, setIdle, write } from './elements.mjs';
 import { fcanon, moveAt, movesIn, TITLES } from './library.mjs';
-import { capacityFor, expandedMove, isWon } from './lists.mjs';
-import { cardsByPile, countEquivalent, keyAfter, keyBefore, upTo } from './passages.mjs';
+import { isWon } from './lists.mjs';
+import { cardsByPile, countEquivalent, keyAfter, keyBefore } from './passages.mjs';
 import { shown } from './shown.mjs';
 import { inFigures, moveWords, pileTitle, pileWords, SUIT_NAMES } from './words.mjs';
 
@@ -68,11 +68,11 @@ function drawPassage() {
     said.setAttribute('role', 'img');
     return said;
   };
-  const suits = upTo(4).map((own) => {
-    const [before, after] = [left, right].map(({ passage }) => SUITS[passage[own]]);
-    const pip = (suit) => drawing(suit, `pip ${'DH'.includes(suit) ? 'red' : ''}`);
-    return { before, it: arrow(pip(before), pip(after), `${SUIT_NAMES[before]} become ${SUIT_NAMES[after]}`) };
-  }).sort((one, other) => (one.before < other.before ? -1 : 1)).map(({ it }) => it);
+  const pip = (suit) => drawing(suit, `pip ${'DH'.includes(suit) ? 'red' : ''}`);
+  const suits = [...SUITS].map((before) => {
+    const [, after] = keyAfter(right.passage, keyBefore(left.passage, `h${before}`));
+    return arrow(pip(before), pip(after), `${SUIT_NAMES[before]} become ${SUIT_NAMES[after]}`);
+  });
   const orders = (keys) => keys.map((key) => keyAfter(left.passage, keyBefore(right.passage, key))).join(' ');
   const order = (name, keys) => element('span', { className: 'order' }, `${name} ${orders(keys)}`);
   const cells = [...CELLS].slice(0, CELL_COUNTS[shown.record.game]);
@@ -94,11 +94,7 @@ function drawCaption() {
 
 function drawLists() {
   const { lists } = shown;
-  const labels = lists.map(({ label }) => label);
-  const drawn = [...at('list').options].map((option) => option.textContent);
-  if (labels.join('\n') !== drawn.join('\n')) {
-    at('list').replaceChildren(...labels.map((label, place) => element('option', { value: place }, label)));
-  }
+  fill('list', 'option', lists.map(({ label }) => label));
   hide('play', lists.length === 0, 'shuffle');
   hide('run', lists.length === 0, 'shuffle');
   if (lists.length > 0) return drawStep();
@@ -137,16 +133,16 @@ function drawMove() {
   const { record, steps, step, sides } = shown;
   const isSame = steps.isAlike && fcanon.areSame(record.game, sides.left.board, sides.right.board);
   const made = step > 0 ? `Made: ${moveNow(step - 1)}. ` : '';
-  write('move', `${made}${nextWords()} ${isSame ? 'Still the same puzzle.' : 'NOT the same puzzle!'}`);
-  at('move').classList.toggle('bad', !isSame);
+  write('move', `${made}${nextWords()} ${isSame ? 'Still the same puzzle.' : 'NOT the same puzzle!'}`, !isSame);
 }
 
 function nextWords() {
   const { record, steps, step, lists, chosen } = shown;
   if (step < steps.boards.length - 1) return `Next: ${moveNow(step)}.`;
   if (steps.refusal) {
+    const [, digit] = moveAt(lists[chosen].list, step);
     const isMany = steps.refusal === 'over capacity';
-    const most = isMany ? `, which is ${capacityFor(record, lists[chosen].list, steps.boards)}` : '';
+    const most = isMany ? `, which is ${fcanon.capacity(record.game, steps.boards[step], digit)}` : '';
     return `Move ${step + 1} is refused on both boards: ${moveNow(step)}: ${steps.refusal}${most}.`;
   }
   return isWon(steps.boards[step]) ? 'All cards are home on both boards.' : `The list ends after ${step} moves.`;
@@ -156,7 +152,7 @@ function nextWords() {
 function drawExpansion() {
   const { record: { game }, steps, step, lists, chosen, shuffle, isSorted } = shown;
   const { list } = lists[chosen];
-  const expanded = (board, its) => expandedMove(game, board, its, step - 1).join(' ');
+  const expanded = (board, its) => fcanon.expand(game, board, moveAt(its, step - 1)).join(' ');
   const isOne = list.sign === '>' || step === 0;
   const imageBefore = () => fcanon.image(game, steps.boards[step - 1], shuffle);
   const here = isOne ? '' : expanded(imageBefore(), fcanon.carry(game, shuffle, list));

@@ -1,6 +1,5 @@
 // Words of players: cards, piles and moves, as they are seen and as they are read out.
 
-import { GAMES } from '../bindings/javascript/calls.js';
 import { fcanon, IN_SUIT, moveAt, TITLES } from './library.mjs';
 import { cardsByPile, cardText, isColumn, renamed, suitOf } from './passages.mjs';
 
@@ -9,7 +8,6 @@ const GLYPHS = { C: '♣', D: '♦', H: '♥', S: '♠' };
 export const SUIT_NAMES = { C: 'clubs', D: 'diamonds', H: 'hearts', S: 'spades' };
 const RANK_NAMES = { A: 'ace', T: '10', J: 'jack', Q: 'queen', K: 'king' };
 
-export const isGame = (number) => Object.keys(GAMES).includes(number);
 export const inFigures = (count) => count.toLocaleString('en');
 export const counted = (count, one, many = `${one}s`) => `${inFigures(count)} ${count === 1 ? one : many}`;
 

@@ -2,7 +2,7 @@
 
 import { GAMES } from '../bindings/javascript/calls.js';
 import { Runs } from '../bindings/javascript/runs.js';
-import { asText, AT_SIGN, bytesOf, countLines, headersIn, LINE_FEED } from './lines.mjs';
+import { asText, AT_SIGN, bytesOf, countLines, headersIn, restOfLine } from './lines.mjs';
 
 let runs = null;
 
@@ -17,11 +17,10 @@ function printFor({ command, bytes, game }) {
 }
 
 // Whether the header at this place has a second word.
-function hasName(bytes, start) {
-  const end = bytes.indexOf(LINE_FEED, start);
-  const line = asText.decode(bytes.subarray(start + 1, end < 0 ? bytes.length : end));
-  return /[^ \t\r][ \t]+[^ \t\r]/.test(line);
-}
+const hasName = (bytes, start) => /[^ \t\r][ \t]+[^ \t\r]/.test(restOfLine(bytes, start + 1));
+
+// The place of a key in a map by keys, at whose end it is put where it is not there yet.
+export const placeIn = (places, key) => places.get(key) ?? places.set(key, places.size).size - 1;
 
 // The refused records: which ones they are, and where each is refused, for what, and in which line.
 function faultsIn(bytes, said) {
@@ -35,21 +34,20 @@ function faultsIn(bytes, said) {
 
 // The records of a text: where each begins, and what `table` says of it, column by column, which is soon handed over.
 // What comes before the first header is a record where `table` has a line more than there are headers. A group's key
-// is the game and the canonical board of its records; each has its group's place among the keys, a refused one -1.
+// is the game and the canonical board of its records; each has its group's place among the keys, a refused one -1. A
+// record without a name has an empty one here.
 function recordsIn({ bytes, game }) {
   const lines = asText.decode(printFor({ command: 'table --json', bytes, game }).text).split('\n').slice(0, -1);
   const said = lines.map((line) => JSON.parse(line));
   const headers = headersIn(bytes);
   const starts = Uint32Array.from(said.length > headers.length ? [0, ...headers] : headers);
-  const isNamed = (start) => bytes[start] === AT_SIGN && hasName(bytes, start);
-  const games = Uint8Array.from(said, ({ variant }) => Math.max(0, GAMES.indexOf(variant)));
+  const isNamed = ({ reason }, at) =>
+    reason !== 'bad header' && bytes[starts[at]] === AT_SIGN && hasName(bytes, starts[at]);
   const keys = new Map();
-  const placeOf = (key) => keys.get(key) ?? keys.set(key, keys.size).size - 1;
   return {
-    starts, games,
-    named: Uint8Array.from(said, ({ reason }, at) => Number(reason !== 'bad header' && isNamed(starts[at]))),
-    groups: Int32Array.from(said, ({ board }, at) => (board ? placeOf(`${games[at]} ${board}`) : -1)),
-    names: said.map(({ name, refused }) => name ?? refused).join('\n'),
+    starts,
+    groups: Int32Array.from(said, ({ variant, board }) => (board ? placeIn(keys, `${variant} ${board}`) : -1)),
+    names: said.map((it, at) => (isNamed(it, at) ? it.name ?? it.refused : '')).join('\n'),
     keys: bytesOf([...keys.keys()].join('\n')),
     faults: faultsIn(bytes, said),
   };
