@@ -1,11 +1,12 @@
 -- What is read of bytes, and which bytes are the codes of what is read of them.
-use Rattle.std.specs.{List.{sum}, Option.{unwrap_or}, Prelude.{◌+◌, ◌-◌, ◌<◌, ◌==◌, ◌↔◌, ◌∷◌, ◌≤◌}}
-use Rattle.std.specs.Prelude.{[], All, drop, if◌then◌else◌, length, List, map, min, nat_le, nat_lt}
-use Rattle.std.specs.Prelude.{None, Option, slice_index, Some, take, ℕ}
-use Rattle.fc_board.specs.{Boards.{Board}, Moves.{move_between}}
+use Rattle.std.specs.{List.{sum}, Option.{unwrap_or}, Prelude.{◌%◌, ◌+◌, ◌-◌, ◌<◌, ◌==◌, ◌^◌, ◌↔◌}}
+use Rattle.std.specs.Prelude.{◌∷◌, ◌≤◌, [], All, drop, if◌then◌else◌, length, List, map, min}
+use Rattle.std.specs.Prelude.{nat_le, nat_lt, None, Option, slice_index, Some, take, ℕ}
+use Rattle.{fc_board.specs.{Boards.{Board}, Moves.{move_between}}, fc_card.specs.{renamed_code}}
 use Rattle.fc_board.specs.declared.moves.Place.{Place, TheVariants.{Column as ToColumn}}
 use Rattle.fc_board.specs.declared.moves.Source.{Source, TheVariants.{Column as FromColumn}}
 use Rattle.fc_board.specs.declared.run_move.RunMove.{RunMove, TheVariants.{One, Run}}
+use Rattle.fc_bytes.specs.class_hash.{card_weight, place_weight, renamed_place}
 use Rattle.fc_bytes.specs.declared.board.BoardBytes.{BoardBytes}
 
 -- the byte of a card
@@ -71,3 +72,18 @@ count_decoded byte = if byte == 0 then None else Some byte
 abbrev pub run_decoded : Source → Place → ℕ → Option RunMove
 run_decoded (FromColumn from) (ToColumn to) count = if nat_le count 13 then Some (Run from to (count_decoded count)) else None
 run_decoded source target count = if count == 0 then Some (One (move_between source target)) else None
+
+-- ---- sums under all renamings at once
+-- what the card with this byte weighs under each of these renamings
+abbrev pub card_row : List (List ℕ) → ℕ → List ℕ
+card_row renamings card = map (λ renaming. card_weight (renamed_code renaming card)) renamings
+
+-- what it weighs to lie on this under each of them
+abbrev pub place_row : List (List ℕ) → ℕ → List ℕ
+place_row renamings on = map (λ renaming. place_weight (renamed_place renaming on)) renamings
+
+-- to the sum of each renaming its number is added; what comes after these sums is as it was
+abbrev pub sums_with : (List ℕ → ℕ) → List (List ℕ) → List ℕ → List ℕ
+sums_with number [] sums = sums
+sums_with number (renaming ∷ renamings) [] = []
+sums_with number (renaming ∷ renamings) (sum ∷ sums) = (sum + number renaming) % 2 ^ 128 ∷ sums_with number renamings sums

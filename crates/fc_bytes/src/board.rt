@@ -1,7 +1,7 @@
 //! Boards in 72 bytes.
 ghost use Rattle.std.specs.{List.{flat_map, sum}, Prelude.{◌*◌, ◌++◌, ◌+◌, ◌<◌, ◌↔◌, ◌≡◌, ◌≤◌}};
-ghost use Rattle.std.specs.Prelude.{All, drop, IfSome, IsNone, IsTrue, length, List, map, min};
-ghost use Rattle.std.specs.Prelude.{SomeIff, take, ℕ};
+ghost use Rattle.std.specs.Prelude.{All, drop, IfSome, IsNone, IsTrue, length, List, map, SomeIff};
+ghost use Rattle.std.specs.Prelude.{take, ℕ};
 ghost use Rattle.fc_card.specs.{places};
 ghost use Rattle.fc_board.specs.Boards.{Board as Layout, IsHeight, IsWellFormed};
 ghost use Rattle.fc_board.specs.{inside.{AscendTo}, Steps.{cell_at, column_at, height_of}};
@@ -257,6 +257,7 @@ fn is_laid(byte: u8, is_card: bool) -> bool
 }
 
 fn cells_of(bytes: &[u8; 8]) -> [Option<Card>; 8]
+    requires { All (λ byte. byte ≤ 52) bytes.now }
     ensures cells { result ≡ map cell_decoded bytes.now }
     ensures size { length result ≡ 8 }
 {
@@ -293,19 +294,21 @@ fn heights_of(bytes: &[u8; 4]) -> Option<[Height; 4]>
     ])
 }
 
-/// The card that the byte is, or `None` for 0 and from 53 up.
+/// The card that the byte is, or `None` for 0.
 fn cell_of(byte: u8) -> Option<Card>
+    requires { byte ≤ 52 }
     ensures { result ≡ cell_decoded byte }
 {
     if byte == 0 {
         None
     } else {
-        Card::from_number(byte - 1)
+        Some(Card::of_number(byte - 1))
     }
 }
 
-/// The cards that the bytes are; a byte that is no card is read as AC.
+/// The cards that the bytes are; 0, which is no card, is read as AC.
 fn cards_of(bytes: &[u8; 52]) -> [Card; 52]
+    requires { All (λ byte. byte ≤ 52) bytes.now }
     ensures cards { result ≡ map card_decoded bytes.now }
     ensures size { length result ≡ 52 }
 {
@@ -317,36 +320,19 @@ fn cards_of(bytes: &[u8; 52]) -> [Card; 52]
 }
 
 fn card_of(byte: u8) -> Card
+    requires { byte ≤ 52 }
     ensures { result ≡ card_decoded byte }
 {
-    cell_of(byte).unwrap_or_default()
+    Card::of_number(byte.saturating_sub(1))
 }
 
-/// Where columns of so many cards each end, one after another.
+/// Where columns of so many cards each end, one after another. The product makes of each byte the
+/// sum of those up to it, and none of these is too much for a byte.
 fn ends_of(lengths: &[u8; 8]) -> [u8; 8]
     requires { sum lengths.now ≤ 52 }
     ensures ends { result ≡ ends_decoded 0 lengths.now }
     ensures ascend { AscendTo 0 result 52 }
 {
-    let [a, b, c, d, e, f, g, h] = *lengths;
-    let first = end_after(0, a);
-    let second = end_after(first, b);
-    let third = end_after(second, c);
-    let fourth = end_after(third, d);
-    let fifth = end_after(fourth, e);
-    let sixth = end_after(fifth, f);
-    let seventh = end_after(sixth, g);
-    let eighth = end_after(seventh, h);
-    [first, second, third, fourth, fifth, sixth, seventh, eighth]
-}
-
-/// Where a column of so many cards ends that begins at this place of 52.
-fn end_after(start: u8, cards: u8) -> u8
-    requires { start + cards ≤ 52 }
-    ensures sum { result ≡ start + cards }
-    ensures end { result ≡ min (start + cards) 52 }
-    ensures after { start ≤ result }
-    ensures within { result ≤ 52 }
-{
-    start + cards
+    let all = u64::from_le_bytes(*lengths);
+    all.wrapping_mul(0x0101_0101_0101_0101).to_le_bytes()
 }

@@ -31,7 +31,7 @@ impl BoardBytes {
     }
 }
 
-fn concat(first: [u8; 8], next: [u8; 8]) -> [u8; 16]
+pub(crate) fn concat(first: [u8; 8], next: [u8; 8]) -> [u8; 16]
     ensures { result ≡ first ++ next }
 {
     let [a, b, c, d, e, f, g, h] = first;

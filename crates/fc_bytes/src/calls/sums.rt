@@ -29,7 +29,7 @@ pub fn move_of<R: Rule>(card: u8, from: u8, onto: u8, sums: &mut ClassSums) -> u
     ensures no_other_answer { 0 < result → result ≡ 3 }
     ensures kept { 0 < result → sums.new ≡ sums.old }
 {
-    if !sums.moved::<R>(card, from, onto) {
+    if !sums.move_card::<R>(card, from, onto) {
         return NO_MOVE;
     }
     DONE
