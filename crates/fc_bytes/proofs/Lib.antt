@@ -3,6 +3,12 @@ mod ExactBytes
 pub mod DecodedLemmas
 pub mod MovesDecoded
 pub mod PassageDecoded
+pub mod PackedRow
+pub mod PackedBound
+pub mod PackedNumber
+pub mod PackedGrown
+pub mod PackedOrder
+pub mod PackedBoards
 mod PutCards
 mod ChildrenLemmas
 mod LegalMoves
