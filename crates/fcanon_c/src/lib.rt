@@ -20,6 +20,7 @@ mod canonical;
 mod children;
 mod keys;
 mod moves;
+mod packed;
 mod runs;
 mod sums;
 mod symmetry;
