@@ -15,7 +15,7 @@ use Rattle.fc_board.specs.Moves.{PlaceFits, SourceFits}
 use Rattle.fc_board.specs.laws.ListWords.{IsCell}
 use Rattle.std.proofs.lemmas.Bool.{cases_lt, eqb-false, le-leb}
 use Rattle.std.proofs.lemmas.List.Elements.{All-head, All-tail}
-use Rattle.std.proofs.lemmas.List.{get_or-map, get_or-set_other, get_or_default, get_or_past}
+use Rattle.std.proofs.lemmas.List.{get_or-map, get_or-set_other, get_or_default}
 use Rattle.std.proofs.lemmas.List.{length-map, length-set}
 use Rattle.std.proofs.lemmas.List.{Sorted.{sum_by-IsPermutation}, Sums.{sum_by-cons, sum_by-set}}
 use Rattle.std.specs.{Int.{to_le_bytes, w128}, List.{sum_by}}

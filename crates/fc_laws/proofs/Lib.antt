@@ -29,3 +29,4 @@ pub mod SolutionLemmas
 pub mod TableLawLemmas
 pub mod UniqueAgainLemmas
 pub mod VerdictLineLemmas
+pub mod PackedLemmas

@@ -10,4 +10,5 @@ pub mod class_hashes;
 pub mod collections;
 pub mod deals;
 pub mod headline;
+pub mod packed;
 pub mod texts;
