@@ -1,6 +1,7 @@
 """Runs of the scripts that are installed with fcanon."""
 
 import subprocess
+import time
 from typing import NamedTuple
 
 
@@ -17,3 +18,20 @@ class Ended(NamedTuple):
 def ended(words, text=b"", **how):
     run = subprocess.run(words, input=text, stdout=subprocess.PIPE, stderr=subprocess.PIPE, **how)
     return Ended(run.returncode, run.stdout, run.stderr.decode())
+
+
+def once_free(run):
+    """What `run` gives once what is left of another run has ended, in five minutes at most: it is called until then."""
+    for _ in range(1_500):
+        found = run()
+        if "another run works" not in found.said:
+            break
+        time.sleep(0.2)
+    return found
+
+
+def program_file(file, text):
+    """The file, which is a program of this text."""
+    file.write_text(text)
+    file.chmod(0o755)
+    return file
