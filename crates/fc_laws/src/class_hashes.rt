@@ -8,7 +8,7 @@ ghost use Rattle.fc_bytes.specs.class_hash.{class_sums, hash_of_sums, lies_on, m
 ghost use Rattle.fc_bytes.specs.class_hash.{sums_in};
 ghost use Rattle.fc_bytes.specs.declared.class_hash.ClassSums.{ClassSums};
 ghost use Rattle.fc_laws.specs.BoardExamples.{two_spades_left};
-ghost use Rattle.fc_laws.specs.CanonicalExamples.{clubs_king_left};
+ghost use Rattle.fc_laws.specs.CanonicalExamples.{clubs_king_left, four_in_a_column};
 
 use fc_board::Rule;
 
@@ -44,8 +44,10 @@ pub fn sums_stay_those_of_the_board<R: Rule>()
         → hash_of_sums (sums_in R.renamings sums) ≡ class_hash R.renamings board }
 {}
 
-/// The class hashes of two boards, as another program computes them: with KC on the foot of a
-/// column in FreeCell, and with QS and KS in cells in Eight Off.
+/// The class hashes of three boards, as another program computes them: with KC on the foot of a
+/// column in FreeCell, with QS and KS in cells in Eight Off, and in FreeCell with four cards in a
+/// column and one in a cell, where each sum is 2^127 or more, and neither the first nor the last
+/// is the least.
 #[rattlefmt::skip]
 pub fn class_hashes_of_boards()
     ensures clubs_king_left { class_hash colour_renamings clubs_king_left
@@ -54,4 +56,7 @@ pub fn class_hashes_of_boards()
     ensures two_spades_left { class_hash all_renamings two_spades_left
         ≡ 249 ∷ 155 ∷ 240 ∷ 211 ∷ 156 ∷ 165 ∷ 28 ∷ 29
         ∷ 68 ∷ 107 ∷ 196 ∷ 185 ∷ 75 ∷ 10 ∷ 155 ∷ 37 ∷ [] }
+    ensures four_in_a_column { class_hash colour_renamings four_in_a_column
+        ≡ 128 ∷ 78 ∷ 165 ∷ 157 ∷ 222 ∷ 20 ∷ 219 ∷ 238
+        ∷ 57 ∷ 120 ∷ 1 ∷ 241 ∷ 209 ∷ 95 ∷ 3 ∷ 128 ∷ [] }
 {}
