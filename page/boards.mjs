@@ -1,8 +1,8 @@
 // A drawn board: 52 cards that stay, and go where the board has them.
 
-import { CELL_COUNTS, CELLS, RANKS, SUITS } from '../bindings/javascript/calls.js';
+import { CELL_COUNTS, CELLS, SUITS } from '../bindings/javascript/calls.js';
 import { drawing, element, prefersStill, suitDrawing, at } from './elements.mjs';
-import { cardsByPile, cardText, HOMES, isColumn, pileKeys, rankOf, renamed, suitOf, upTo } from './passages.mjs';
+import { cardsByPile, cardText, HOMES, isColumn, keyAfter, pileKeys, renamed, suitOf, upTo } from './passages.mjs';
 import { pileName } from './words.mjs';
 
 const TURN_MILLISECONDS = 150;
@@ -10,12 +10,25 @@ const suitShapes = new Map([...SUITS].map((suit) => [suit, at(suit).firstChild.g
 
 // A card that has this number on the record's own board; on other boards it may have another suit.
 function cardElement(own) {
-  const rank = RANKS[rankOf(own)];
+  const [rank] = cardText(own);
   const index = element('span', { className: 'index' }, rank.replace('T', '10'), suitDrawing('pip'));
   const mark = 'JQK'.includes(rank) ? drawing(rank, 'mark') : suitDrawing('mark');
   const card = element('div', { className: 'card' }, element('div', { className: 'face' }, index, mark));
   card.dataset.own = own;
   return card;
+}
+
+// A pile, where cells and homes fill so many bands above the columns.
+function pileElement(key, bands) {
+  const isHome = key[0] === 'h';
+  const x = isHome ? 4 + HOMES.indexOf(key[1]) : isColumn(key) ? Number(key) - 1 : CELLS.indexOf(key);
+  const y = isHome ? bands - 1 : isColumn(key) ? bands : 0;
+  const sign = element('span', { className: 'place' }, isHome ? drawing(key[1], 'pip') : key);
+  const className = isColumn(key) ? 'pile column' : 'pile';
+  const pile = element('div', { className, tabIndex: -1, role: 'button', x, y }, sign);
+  Object.assign(pile.dataset, { key, name: pileName(key) });
+  placeAt(pile, x, y, 0);
+  return pile;
 }
 
 function showSuit(card, suit) {
@@ -46,7 +59,6 @@ export class BoardView {
     this.cards = upTo(52).map((place) => cardElement(place + 1));
     this.piles = new Map();
     this.game = null;
-    holder.setAttribute('role', 'group');
     holder.replaceChildren(this.table);
   }
 
@@ -54,25 +66,11 @@ export class BoardView {
   lay(game) {
     if (game === this.game) return;
     this.game = game;
-    const inBand = CELL_COUNTS[game] + 4 > 8 ? 1 : 0;
-    this.piles = new Map(pileKeys(game).map((key) => {
-      const home = HOMES.indexOf(key[1]);
-      const isHome = key[0] === 'h';
-      const x = isHome ? 4 + home : key < '9' ? Number(key) - 1 : CELLS.indexOf(key);
-      const y = isHome ? inBand : key < '9' ? inBand + 1 : 0;
-      const sign = isHome ? drawing(key[1], 'pip') : key;
-      const pile = element('div', { className: key < '9' ? 'pile column' : 'pile', tabIndex: -1 },
-        element('span', { className: 'place' }, sign));
-      pile.setAttribute('role', 'button');
-      Object.assign(pile.dataset, { key, name: pileName(key) });
-      Object.assign(pile, { x, y });
-      placeAt(pile, x, y, 0);
-      return [key, pile];
-    }));
+    const bands = CELL_COUNTS[game] + 4 > 8 ? 2 : 1;
+    this.piles = new Map(pileKeys(game).map((key) => [key, pileElement(key, bands)]));
     this.piles.get('1').tabIndex = 0;
-    this.table.style.setProperty('--bands', inBand + 1);
-    const cards = element('div', { aria: { hidden: true } }, ...this.cards);
-    this.table.replaceChildren(...this.piles.values(), cards);
+    this.table.style.setProperty('--bands', bands);
+    this.table.replaceChildren(...this.piles.values(), element('div', { ariaHidden: 'true' }, ...this.cards));
   }
 
   // Where nothing flies a card keeps its face, and takes the number of the card that has this face now.
@@ -87,25 +85,24 @@ export class BoardView {
   draw({ game, board, passage, label, wordsOf, grips, stagger = 0, most }) {
     const isFirst = this.game === null;
     this.lay(game);
-    this.holder.setAttribute('aria-label', label);
+    this.passage = passage;
+    this.holder.ariaLabel = label;
     this.table.style.setProperty('--most', most);
     this.table.classList.toggle('slow', stagger > 0);
     if (!isFirst && prefersStill.matches) this.keepFaces(passage);
     for (const [key, cards] of cardsByPile(game, board)) {
       const pile = this.piles.get(key);
-      pile.words = wordsOf(key, cards);
-      pile.setAttribute('aria-label', pile.words);
+      pile.ariaLabel = pile.words = wordsOf(key, cards);
       const squeeze = key < '9' ? Math.min(1, most / Math.max(1, cards.length - 1)) : 0;
       cards.forEach((card, row) => {
         const made = this.cards[card - suitOf(card) + passage.subarray(0, 4).indexOf(suitOf(card)) - 1];
-        const isLast = row === cards.length - 1 && key[0] !== 'h';
-        const isGrip = row >= cards.length - (grips.get(key) ?? 0);
-        const drawn = [pile.x, pile.y, squeeze * row, key, cardText(card), isLast, isGrip].join();
+        const home = key[0] === 'h';
+        const left = cards.length - row; // from this card on
+        const classes = { home, last: left === 1 && !home, grip: left <= (grips.get(key) ?? 0) };
+        const drawn = [pile.x, pile.y, squeeze * row, key, cardText(card), ...Object.values(classes)].join();
         if (made.drawn === drawn) return;  // it stays as it is
         made.drawn = drawn;
-        made.classList.toggle('last', isLast);
-        made.classList.toggle('grip', isGrip);
-        made.classList.toggle('home', key[0] === 'h');
+        for (const [name, isSo] of Object.entries(classes)) made.classList.toggle(name, isSo);
         placeAt(made, pile.x, pile.y, squeeze * row);
         this.move(made, { card: cardText(card), key, row }, stagger * pile.x, isFirst || prefersStill.matches);
       });
@@ -145,10 +142,11 @@ export class BoardView {
     }));
   }
 
-  // Marks cards by their numbers on the record's own board, and piles by their keys.
-  mark(name, cards, keys = new Set()) {
-    for (const card of this.cards) card.classList.toggle(name, cards.has(Number(card.dataset.own)));
-    for (const [key, pile] of this.piles) pile.classList.toggle(name, keys.has(key));
+  // Marks cards by their numbers on the record's own board, and piles by their keys there.
+  mark(name, cards, keys = []) {
+    const marked = keys.map((key) => keyAfter(this.passage, key));
+    for (const card of this.cards) card.classList.toggle(name, cards.includes(Number(card.dataset.own)));
+    for (const [key, pile] of this.piles) pile.classList.toggle(name, marked.includes(key));
   }
 }
 

@@ -7,10 +7,7 @@ export const prefersStill = matchMedia('(prefers-reduced-motion: reduce)');
 
 // An element with these properties; whatever is said in it is text, never markup.
 export function element(name, properties, ...children) {
-  const made = document.createElement(name);
-  const { aria = {}, ...others } = properties;
-  Object.assign(made, others);
-  for (const [key, value] of Object.entries(aria)) made.setAttribute(`aria-${key}`, value);
+  const made = Object.assign(document.createElement(name), properties);
   made.append(...children);
   return made;
 }
@@ -29,6 +26,11 @@ export const drawing = (name, className) => shape('svg', { class: className }, s
 // A drawing of a suit, which may become another one: what a `use` shows is made anew when that changes.
 export const suitDrawing = (className) => shape('svg', { class: className, viewBox: '0 0 100 100' }, shape('path', {}));
 
+// Listens to events of an element, or of the window.
+export function listen(target, acts) {
+  for (const [event, act] of Object.entries(acts)) target.addEventListener(event, act);
+}
+
 // Puts a text where it is not there yet, so that nothing is read out twice; it may say that something is wrong.
 export function write(id, words, isBad = false) {
   if (at(id).textContent !== words) at(id).textContent = words;
@@ -37,16 +39,13 @@ export function write(id, words, isBad = false) {
 
 // Fills a list with items of these words and values, where they are not there yet.
 export function fill(id, name, words, values = []) {
-  const textOfItem = ({ value, textContent }) => `${value} ${textContent}`;
   const items = words.map((it, place) => element(name, name === 'option' ? { value: values[place] ?? place } : {}, it));
-  const [drawn, wanted] = [[...at(id).children], items].map((its) => its.map(textOfItem).join('\n'));
-  if (drawn !== wanted) at(id).replaceChildren(...items);
+  if (at(id).innerHTML !== items.map((it) => it.outerHTML).join('')) at(id).replaceChildren(...items);
 }
 
 // Names a button; on narrow screens the rest of its name is not shown.
-export function nameButton(id, word, rest = '') {
+export const nameButton = (id, word, rest = '') =>
   at(id).replaceChildren(word, element('span', { className: 'long' }, rest));
-}
 
 // A control that has nothing to do keeps the focus, which a disabled one would lose.
 export const setIdle = (id, isIdle) => { at(id).ariaDisabled = isIdle; };
@@ -60,10 +59,10 @@ export async function onceAtATime(id, act) {
 }
 
 // Hides a control; where it has the focus, another one takes it.
-export function hide(id, isHidden, other) {
+export function hide(id, isHidden) {
   const hadFocus = isHidden && at(id).contains(document.activeElement);
   at(id).hidden = isHidden;
-  if (hadFocus) at(other).focus({ preventScroll: true });
+  if (hadFocus) at('shuffle').focus({ preventScroll: true });
 }
 
 // Says what was done, or why it was not.

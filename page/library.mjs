@@ -1,10 +1,12 @@
 // The library's calls over bytes: a board has 72 of them, a passage 20, as fcanon.h says. A list is its sign, `>` or
 // `>>`, and three bytes for each move: its two characters and how many cards it says, or 0. No rule of a game is in the
-// page: boards, canonical boards, passages and moves come from these calls, which are proved.
+// page: boards, canonical boards, passages and moves come from these calls, which are proved. What they make of lists
+// is at the end.
 
 import {
-  answerOf, MOST_CHILDREN, MOST_MOVES, MOST_RUN_MOVES, numberIn, textOf, wordsOf,
+  answerOf, GAMES, MOST_CHILDREN, MOST_MOVES, MOST_RUN_MOVES, numberIn, textOf, wordsOf,
 } from '../bindings/javascript/calls.js';
+import { joined } from './lines.mjs';
 
 // tools/tables wrote this from fcanon.h, to the next empty line.
 export const TITLES = ['FreeCell', "Baker's Game", 'Eight Off'];
@@ -19,6 +21,7 @@ const PLAY = { '>': 'play', '>>': 'play_run' };
 
 export const movesIn = (list) => list.bytes.length / MOVE_SIZE;
 export const moveAt = (list, place) => list.bytes.slice(MOVE_SIZE * place, MOVE_SIZE * (place + 1));
+export const movesOf = (list) => Array.from({ length: movesIn(list) }, (_, place) => moveAt(list, place));
 
 // Makes a call that is never refused here.
 function must(call, ...given) {
@@ -79,25 +82,23 @@ export const fcanon = {
 
   // The list on the board where the passage leads.
   carry(game, passage, { sign, bytes }) {
-    const carried = new Uint8Array(bytes.length);
-    for (let from = 0; from < bytes.length; from += MOVE_SIZE) {
-      const move = bytes.slice(from, from + MOVE_SIZE);
-      must(CARRY[sign], game, passage, move);
-      carried.set(move, from);
-    }
-    return { sign, bytes: carried };
+    const moves = movesOf({ bytes });
+    for (const move of moves) must(CARRY[sign], game, passage, move);
+    return { sign, bytes: joined(new Uint8Array(), ...moves) };
   },
 
-  // Plays a list: the last board, how many moves were made, and the answer to the next one, 0 where all were made.
-  // `see` is shown each board.
-  play(game, start, list, see = (_) => {}) {
-    const board = start.slice();
-    for (let made = 0; made < movesIn(list); made++) {
-      const answer = answerOf(PLAY[list.sign], game, board, moveAt(list, made));
-      if (answer !== 0) return { answer, made, board };
-      see(board.slice());
+  // Plays a list: the boards from the first on, the last one of them, how many moves were made, and the answer to the
+  // next one, 0 where all were made.
+  play(game, board, list) {
+    const boards = [board];
+    let answer = 0;
+    for (const move of movesOf(list)) {
+      const next = boards.at(-1).slice();
+      answer = answerOf(PLAY[list.sign], game, next, move);
+      if (answer !== 0) break;
+      boards.push(next);
     }
-    return { answer: 0, made: movesIn(list), board };
+    return { boards, board: boards.at(-1), made: boards.length - 1, answer };
   },
 
   // How many cards can go at once to the column of this digit.
@@ -112,3 +113,38 @@ export const fcanon = {
     return number > 0 && number < 2 ** 32 && answerOf('deal', game, number, board) === 0 ? board : null;
   },
 };
+
+// ---- lists of moves
+
+export const listOf = (moves) => ({ sign: '>>', bytes: Uint8Array.from(moves) });
+
+export const headerLine = (record) => `@ ${GAMES[record.game]} ${record.name}\n`;
+
+// A list as it is printed.
+export function listLine(list) {
+  const wordOf = ([from, to, count]) => String.fromCharCode(from, to) + (count > 0 ? `v${COUNTS[count - 1]}` : '');
+  return `${[list.sign, ...movesOf(list).map(wordOf)].join(' ')}\n`;
+}
+
+export const isWon = (board) => board.subarray(0, 4).every((height) => height === 13);
+
+// What becomes of a list, as `check` says it after the list's number.
+export function verdictOf(game, board, list) {
+  const played = fcanon.play(game, board, list);
+  if (played.answer !== 0) return `illegal ${played.made} ${wordsOf(played.answer)}`;
+  return `${isWon(played.board) ? 'wins' : 'legal'} ${played.made}`;
+}
+
+// The boards that a list leads through, up to the first move that is refused, and on the canonical board likewise.
+export function stepsOf(record, list) {
+  const played = fcanon.play(record.game, record.board, list);
+  const other = fcanon.play(record.game, record.canonical, list.image);
+  const isAlike = played.answer === other.answer && played.made === other.made;
+  return { boards: played.boards, images: other.boards, isAlike, refusal: played.answer && wordsOf(played.answer) };
+}
+
+// A list of one record, on the board of another of its group.
+export function carriedTo(member, list) {
+  const carried = fcanon.carry(member.game, fcanon.inverse(member.game, member.passage), list.image);
+  return { ...carried, image: list.image };
+}

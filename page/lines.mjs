@@ -13,34 +13,29 @@ export function restOfLine(bytes, place) {
   return asText.decode(bytes.subarray(place, end < 0 ? bytes.length : end));
 }
 
-// The lines of a part of a text: where each begins, and where it ends, without its carriage return.
-export function* linesOf(bytes, start, limit) {
-  while (start < limit) {
-    const found = bytes.indexOf(LINE_FEED, start);
-    const stop = found < 0 || found >= limit ? limit : found;
-    const isCut = stop > start && bytes[stop - 1] === CARRIAGE_RETURN;
-    yield { start, end: isCut ? stop - 1 : stop };
-    start = stop + 1;
-  }
+function placesOfByte(bytes, byte, from = 0) {
+  const places = [];
+  for (let at = bytes.indexOf(byte, from); at >= 0; at = bytes.indexOf(byte, at + 1)) places.push(at);
+  return places;
 }
 
-export function countLines(bytes) {
-  let count = 0;
-  for (let place = bytes.indexOf(LINE_FEED); place >= 0; place = bytes.indexOf(LINE_FEED, place + 1)) count++;
-  return count;
-}
+export const countLines = (bytes) => placesOfByte(bytes, LINE_FEED).length;
 
 // Where headers begin: at each `@` that begins a line.
 export function headersIn(bytes, from = 0) {
-  const starts = [];
-  for (let place = bytes.indexOf(AT_SIGN, from); place >= 0; place = bytes.indexOf(AT_SIGN, place + 1)) {
-    if (place === 0 || bytes[place - 1] === LINE_FEED) starts.push(place);
-  }
-  return starts;
+  const isFirst = (place) => place === 0 || bytes[place - 1] === LINE_FEED;
+  return placesOfByte(bytes, AT_SIGN, from).filter(isFirst);
 }
 
-// Whether a line is blank or a comment.
-export const isSkipped = (bytes, { start, end }) => /^[ \t]*(#|$)/.test(asText.decode(bytes.subarray(start, end)));
+// The lines of a part of a text that are neither blank nor comments: where each begins, and where it ends, without its
+// carriage return.
+export function linesIn(bytes, from, limit) {
+  const isSaid = ({ start, end }) => !/^[ \t]*(#|$)/.test(asText.decode(bytes.subarray(start, end)));
+  const starts = [from, ...placesOfByte(bytes.subarray(0, limit), LINE_FEED, from).map((place) => place + 1)];
+  const stops = [...starts.slice(1).map((start) => start - 1), limit];
+  const endOfLine = (stop) => (bytes[stop - 1] === CARRIAGE_RETURN ? stop - 1 : stop);
+  return starts.map((start, place) => ({ start, end: endOfLine(stops[place]) })).filter(isSaid);
+}
 
 // ---- changes
 
@@ -55,7 +50,7 @@ export function joined(...parts) {
   return all;
 }
 
-// How much two texts, of bytes or of characters, have in common: where they begin to differ, and how much at their ends.
+// How much two texts, of bytes or characters, have in common: where they begin to differ, and how much at their ends.
 function commonOf(before, after) {
   const least = Math.min(before.length, after.length);
   let from = 0, same = 0;

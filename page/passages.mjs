@@ -16,56 +16,46 @@ export function columnsOf(board) {
   return upTo(8).map((column) => board.subarray(start, start += board[PLACE.lengths + column]));
 }
 
-const passageOf = (game, suits, columns, cells) => {
-  const others = new Array(8 - CELL_COUNTS[game]).fill(0);
-  return Uint8Array.from([...suits, ...columns, ...cells, ...others]);
-};
+// The passage of the suits, the columns and the cells in these orders.
+export function passageOf(...orders) {
+  const passage = new Uint8Array(20);
+  orders.forEach((order, part) => passage.set(order, [0, 4, 12][part]));
+  return passage;
+}
 
-export const stayingPassage = (game) => passageOf(game, upTo(4), upTo(8), upTo(CELL_COUNTS[game]));
+export const stayingPassage = (game) => passageOf(upTo(4), upTo(8), upTo(CELL_COUNTS[game]));
 
 export function inAnyOrder(values) {
-  for (let left = values.length; left > 1; left--) {
-    const taken = Math.floor(Math.random() * left);
-    [values[taken], values[left - 1]] = [values[left - 1], values[taken]];
-  }
-  return values;
+  const keyed = values.map((value) => ({ value, key: Math.random() }));
+  return keyed.sort((one, other) => one.key - other.key).map(({ value }) => value);
 }
 
 // A passage by chance. Whether a renaming keeps the rule of building the library says.
 export function anyPassage(game) {
-  const orders = [4, 8, CELL_COUNTS[game]].map((count) => inAnyOrder(upTo(count)));
-  const passage = passageOf(game, ...orders);
+  const passage = passageOf(...[4, 8, CELL_COUNTS[game]].map((count) => inAnyOrder(upTo(count))));
   return fcanon.isPassage(game, passage) ? passage : anyPassage(game);
-}
-
-function ordersOf(values) {
-  if (values.length < 2) return [values];
-  return values.flatMap((first) => ordersOf(values.filter((it) => it !== first)).map((rest) => [first, ...rest]));
 }
 
 const factorial = (count) => (count < 2 ? 1 : count * factorial(count - 1));
 
-// How many passages a game has.
-function countPassages(game) {
-  const cells = upTo(CELL_COUNTS[game]);
-  const renamings = ordersOf(upTo(4)).filter((suits) => fcanon.isPassage(game, passageOf(game, suits, upTo(8), cells)));
-  return factorial(8) * factorial(cells.length) * renamings.length;
+// How many passages lead from a board to itself: its symmetries, with its empty columns and cells in any order.
+function countStaying(game, board) {
+  const countEmpty = (from, count) => board.subarray(from, from + count).filter((it) => it === 0).length;
+  const orders = factorial(countEmpty(PLACE.lengths, 8)) * factorial(countEmpty(PLACE.cells, CELL_COUNTS[game]));
+  return fcanon.countSymmetries(game, board) * orders;
 }
 
+const ALL_HOME = new Uint8Array(72).fill(13, 0, 4); // each passage leads from this board to itself
+
 // How many boards are equivalent to a board, it among them: as many as there are passages, but those that lead to one
-// board count once. Empty columns and empty cells may change places, and a symmetry may come before.
-export function countEquivalent(game, board) {
-  const cells = board.subarray(PLACE.cells, PLACE.cells + CELL_COUNTS[game]).filter((card) => card === 0).length;
-  const columns = board.subarray(PLACE.lengths, PLACE.cards).filter((length) => length === 0).length;
-  return countPassages(game) / (fcanon.countSymmetries(game, board) * factorial(columns) * factorial(cells));
-}
+// board count once.
+export const countEquivalent = (game, board) => countStaying(game, ALL_HOME) / countStaying(game, board);
 
 // ---- piles: a column is known by its digit, a cell by its letter, a home by `h` and its suit
 
-export function pileKeys(game) {
-  const cells = [...CELLS].slice(0, CELL_COUNTS[game]);
-  return [...cells, ...[...HOMES].map((suit) => `h${suit}`), ...'12345678'];
-}
+const keysOf = (cells) => [...cells, ...[...HOMES].map((suit) => `h${suit}`), ...'12345678'];
+export const cellKeys = (game) => CELLS.slice(0, CELL_COUNTS[game]);
+export const pileKeys = (game) => keysOf(cellKeys(game));
 
 // Where a passage puts a pile, and which pile it puts there.
 export function keyAfter(passage, key) {
@@ -74,19 +64,13 @@ export function keyAfter(passage, key) {
   return CELLS[passage.subarray(12).indexOf(CELLS.indexOf(key))];
 }
 
-export function keyBefore(passage, key) {
-  if (key[0] === 'h') return `h${SUITS[passage.subarray(0, 4).indexOf(SUITS.indexOf(key[1]))]}`;
-  if (key < '9') return String(passage[3 + Number(key)] + 1);
-  return CELLS[passage[12 + CELLS.indexOf(key)]];
-}
+export const keyBefore = (passage, key) => keysOf(CELLS).find((it) => keyAfter(passage, it) === key);
 
 // The cards of each pile, the last of them on top.
 export function cardsByPile(game, board) {
   const cells = upTo(CELL_COUNTS[game]).map((cell) => [board[PLACE.cells + cell]].filter((card) => card > 0));
-  const homes = [...HOMES].map((suit) => {
-    const place = SUITS.indexOf(suit);
-    return upTo(board[place]).map((rank) => 4 * rank + place + 1);
-  });
+  const homes = [...HOMES].map((name) => SUITS.indexOf(name))
+    .map((suit) => upTo(board[suit]).map((rank) => 4 * rank + suit + 1));
   const piles = [...cells, ...homes, ...columnsOf(board).map((column) => [...column])];
   return new Map(pileKeys(game).map((key, place) => [key, piles[place]]));
 }

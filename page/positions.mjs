@@ -1,15 +1,11 @@
 // The reader's positions: the text field, refused records, groups, and files.
 
-import { GAMES } from '../bindings/javascript/calls.js';
-import { carryTo, choose, dealNumber, replace, type } from './actions.mjs';
-import { collection, isLarge, LARGE } from './collection.mjs';
+import { append, carryTo, choose, replace, type } from './actions.mjs';
+import { collection, isLarge, LARGE, membersFrom, nameAt, recordAt, wordAt } from './collection.mjs';
 import { at, element, fill, write } from './elements.mjs';
-import { importAsNeeded } from './imported.mjs';
-import { fcanon, TITLES } from './library.mjs';
-import { afterField, asText, bytesOf, fieldText, headersIn, isSkipped, joined, linesOf, spliceOf } from './lines.mjs';
-import { carriedTo, listLine, verdictOf } from './lists.mjs';
-import { drawPrinted } from './printed.mjs';
-import { membersFrom, nameAt, recordAt, wordAt } from './records.mjs';
+import { carriedTo, fcanon, headerLine, listLine, TITLES, verdictOf } from './library.mjs';
+import { afterField, bytesOf, fieldText, headersIn, joined, linesIn, spliceOf } from './lines.mjs';
+import { drawPrinted, importAsNeeded } from './program.mjs';
 import { shown } from './shown.mjs';
 import { store } from './store.mjs';
 import { counted, inFigures } from './words.mjs';
@@ -25,7 +21,10 @@ export function drawCollection() {
   const said = length > 0 ? `${inFigures(length)} read${refused}.` : 'Paste a position, open a file, or deal a number.';
   write('said', fault ?? said, fault !== null);
   drawFaults();
-  drawGroups();
+  write('groups-title', counted(collection.firsts.length, 'different position'));
+  at('find-row').hidden = length < LEAST_SEARCHED;
+  if (at('find-row').hidden) at('find').value = '';
+  drawFound();
   drawPrinted();
 }
 
@@ -43,15 +42,14 @@ export function drawText() {
   if (before === text) return;
   field.value = text;
   if (field !== document.activeElement) return;
-  const { from, put } = spliceOf(bytesOf(before), bytesOf(text));
-  const end = asText.decode(bytesOf(text).subarray(0, from + put.length)).length;
-  field.setSelectionRange(end, end);
+  const { from, put } = spliceOf(before, text);
+  field.setSelectionRange(from + put.length, from + put.length);
 }
 
-// Another text in the place of this one, which comes from elsewhere.
+// Puts a text that comes from elsewhere in the place of this one.
 function come(what, bytes) {
   replace(what, bytes);
-  return importAsNeeded();
+  importAsNeeded();
 }
 
 export function typeText({ inputType = '' }) {
@@ -70,33 +68,35 @@ export function paste(event) {
 export function deal(event) {
   event.preventDefault();
   const game = Number(at('game').value);
-  const word = at('deal').value.trim().replace(/[#,\s]/g, '');
+  const word = at('deal').value.replace(/[#,\s]/g, '');
   const number = /^\d{1,10}$/.test(word) ? Number(word) : 0;
-  const isDealt = fcanon.deal(game, 1) !== null;
+  const [board, isDealt] = [fcanon.deal(game, number), fcanon.deal(game, 1)];
   const why = isDealt ? 'Deals have the numbers 1 to 2,147,483,647.' : `${TITLES[game]} has no numbered deals.`;
-  write('deal-said', dealNumber(game, number) ? '' : why, true);
+  write('deal-said', board ? '' : why, true);
+  if (board) append(`deal ${number}`, { game, name: `deal-${number}` }, board);
 }
 
 // ---- files
 
-// A name for the records of a file that has no header.
-const nameOf = (file) => file.name.replace(/\.[^.]*$/, '').replace(/[^!-~]/g, '-').slice(0, 64) || 'file';
+const contentOf = async (file) => new Uint8Array(await file.arrayBuffer());
 
-// The bytes of a file, such that they can follow those of others: with a header where there is none at first.
+// The bytes of a file, such that they can follow those of others: with a header, named as the file is, where there is
+// none at first.
 async function following(file, place) {
-  const bytes = new Uint8Array(await file.arrayBuffer());
-  const before = [...linesOf(bytes, 0, headersIn(bytes)[0] ?? bytes.length)];
-  const isHeaded = place === 0 || before.every((line) => isSkipped(bytes, line));
-  const header = isHeaded ? '' : `@ ${GAMES[store.state.game]} ${nameOf(file)}\n`;
+  const bytes = await contentOf(file);
+  const isHeaded = place === 0 || linesIn(bytes, 0, headersIn(bytes)[0] ?? bytes.length).length === 0;
+  const name = file.name.replace(/\.[^.]*$/, '').replace(/[^!-~]/g, '-').slice(0, 64) || 'file';
+  const header = isHeaded ? '' : headerLine({ game: store.state.game, name });
   return joined(bytesOf(header), bytes, bytesOf(bytes.at(-1) === 10 ? '' : '\n'));
 }
 
-// Opens all files together, one after another, as one collection.
+// Opens all files together, one after another, as one collection. The same file can be opened again.
 export async function openFiles(files) {
-  if (files.length === 0) return;
-  const isOne = files.length === 1;
-  const parts = isOne ? [new Uint8Array(await files[0].arrayBuffer())] : await Promise.all([...files].map(following));
-  await come(isOne ? `opening ${files[0].name}` : `opening ${files.length} files`, joined(...parts));
+  const [file, ...others] = files;
+  if (!file) return;
+  if (others.length === 0) come(`opening ${file.name}`, await contentOf(file));
+  else come(`opening ${files.length} files`, joined(...await Promise.all([file, ...others].map(following))));
+  at('file').value = '';
 }
 
 // Files or a text that are dropped anywhere on the page.
@@ -113,15 +113,20 @@ export function openDropped(event) {
 
 function drawFaults() {
   const { faults, bytes } = collection;
-  const items = faults.slice(0, MOST_SHOWN.faults).map((fault) => {
-    const { column, word } = wordAt(bytes, fault);
-    const parts = [`line ${fault.line}, column ${column}`, fault.reason, word.slice(0, 80)];
-    const said = parts.filter((part) => part !== '').join(': ');
-    const button = element('button', { type: 'button', onclick: () => select(fault.place, word) }, 'Go there');
-    return element('li', {}, `${nameAt(collection, fault.at)}: ${said} `, ...isLarge() ? [] : [button]);
+  const items = faults.slice(0, MOST_SHOWN.faults).map(({ at: record, place, line, reason }) => {
+    const { column, word } = wordAt(bytes, { place, reason });
+    const parts = [nameAt(collection, record), `line ${line}, column ${column}`, reason, word.slice(0, 80)];
+    const said = `${parts.filter((part) => part !== '').join(': ')} `;
+    const button = element('button', { type: 'button', onclick: () => select(place, word) }, 'Go there');
+    return element('li', {}, said, isLarge() ? '' : button);
   });
-  const left = faults.length - items.length;
-  at('faults').replaceChildren(...items, ...left > 0 ? [element('li', {}, `and ${inFigures(left)} more`)] : []);
+  at('faults').replaceChildren(...items, ...leftOut(faults, items).map((said) => element('li', {}, said)));
+}
+
+// How many things are more than those that are shown, where some are.
+function leftOut(all, drawn) {
+  const left = all.length - drawn.length;
+  return left > 0 ? [`and ${inFigures(left)} more`] : [];
 }
 
 // Selects a word of the text that begins after so many bytes.
@@ -146,24 +151,14 @@ function membersFound(first, part = lookedFor()) {
 function groupElement(first) {
   const [size, found] = [membersFrom(collection, first).length, membersFound(first)];
   const members = found.slice(0, MOST_SHOWN.members).map((place) => element('button', {
-    type: 'button', value: place + 1, onclick: () => chooseAt(place),
-    aria: { pressed: place + 1 === shown?.base.number },
+    type: 'button', value: place + 1, ariaPressed: place + 1 === shown?.base.number, onclick: () => chooseAt(place),
   }, nameAt(collection, place)));
-  const left = found.length - members.length;
   if (size === 1) return element('li', {}, ...members);
   const said = element('span', { className: 'soft' }, `${inFigures(size)} are one:`);
-  return element('li', { className: 'several' }, said, ...members, ...left > 0 ? [`and ${inFigures(left)} more`] : []);
+  return element('li', { className: 'several' }, said, ...members, ...leftOut(found, members));
 }
 
 const chooseAt = (place) => choose({ number: place + 1, name: nameAt(collection, place) });
-
-// Groups are drawn as far as they are seen: the list's last line, once it is seen, draws some more.
-function drawGroups() {
-  write('groups-title', counted(collection.firsts.length, 'different position'));
-  at('find-row').hidden = collection.starts.length < LEAST_SEARCHED;
-  if (at('find-row').hidden) at('find').value = '';
-  drawFound();
-}
 
 // Lists the groups of the records that are looked for by a part of their names.
 export function drawFound() {
@@ -182,10 +177,10 @@ export function chooseFound(event) {
   if (groupsFound.length > 0) chooseAt(membersFound(groupsFound[0])[0]);
 }
 
+// Groups are drawn as far as they are seen: the list's last line, once it is seen, draws some more.
 function drawMoreGroups() {
-  const end = at('groups').lastElementChild;
-  const drawn = at('groups').children.length - 1;
-  const more = groupsFound.slice(drawn, drawn + MOST_SHOWN.groups);
+  const { lastElementChild: end, childElementCount: count } = at('groups');
+  const more = groupsFound.slice(count - 1, count - 1 + MOST_SHOWN.groups);
   end.before(...more.map(groupElement));
   watcher.unobserve(end);
   if (more.length > 0) watcher.observe(end);
@@ -200,7 +195,7 @@ export function drawChosen() {
   for (const button of at('groups').querySelectorAll('button')) {
     const isShown = Number(button.value) === shown?.base.number;
     if (isShown && button.ariaPressed !== 'true') bringInSight(button);
-    button.ariaPressed = String(isShown);
+    button.ariaPressed = isShown;
   }
 }
 
@@ -213,14 +208,12 @@ function bringInSight(button) {
 
 export function drawShare() {
   const { base, lists, exchange } = shown;
-  const { groups } = collection;
   const own = base.number - 1;
-  const group = membersFrom(collection, groups.indexOf(groups[own]));
+  const group = membersFrom(collection, collection.groups.indexOf(collection.groups[own]));
   const others = group.filter((place) => place !== own).slice(0, MOST_SHOWN.members);
-  const isNone = others.length === 0 || lists.length === 0 || exchange !== null;
-  at('share').hidden = isNone;
+  at('share').hidden = others.length === 0 || lists.length === 0 || exchange !== null;
   fill('member', 'option', others.map((place) => nameAt(collection, place)), others);
-  if (!isNone) drawCarried();
+  if (!at('share').hidden) drawCarried();
 }
 
 const chosenMember = () => recordAt(collection, Number(at('member').value));

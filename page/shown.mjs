@@ -1,10 +1,8 @@
 // What is shown of a state: the record, its lists and their boards, and the two boards beside each other.
 
-import { collection } from './collection.mjs';
-import { fcanon, MOVE_SIZE } from './library.mjs';
-import { stepsOf, verdictOf } from './lists.mjs';
+import { collection, nameAt, recordAt } from './collection.mjs';
+import { fcanon, MOVE_SIZE, stepsOf, verdictOf } from './library.mjs';
 import { areEqual, PLACE, stayingPassage } from './passages.mjs';
-import { nameAt, recordAt } from './records.mjs';
 import { AT_FIRST } from './store.mjs';
 
 const MOST_ROWS = { least: 6, most: 9 }; // below the first card of a column; longer columns are squeezed
@@ -52,51 +50,34 @@ export function settled(state) {
 // The record with two cards exchanged on one of its boards, which is a record of its own.
 export function exchangedOf(record, exchange) {
   if (!exchange) return record;
-  return once(exchange, () => {
-    const { board } = exchange;
-    const name = `${record.name.slice(0, 50)}-swapped`;
-    return { ...record, name, lists: [], board, ...fcanon.canon(record.game, board) };
-  });
+  const { board } = exchange;
+  const name = `${record.name.slice(0, 50)}-swapped`;
+  return once(exchange, () => ({ ...record, name, lists: [], board, ...fcanon.canon(record.game, board) }));
 }
 
-function labelledLists(record, carried) {
-  const labelOf = (list, place) => `${place + 1}: ${verdictOf(record.game, record.board, list)}`;
-  const lists = once(record, () => record.lists.map((list, place) => ({ list, label: labelOf(list, place) })));
-  return carried ? [...lists, carried] : lists;
-}
-
-// Works out what a settled state shows.
+// Works out what a settled state shows: among others the board of the record after the moves, what the shuffle makes of
+// it, and the board beside. The boards do not shrink while one record is shown.
 export function derive(state) {
-  const { shuffle, times, exchange, isSorted } = state;
   const base = pick(state);
   if (!base) return shown = null;
+  const { times, exchange, isSorted, list: chosen } = state;
   const record = exchangedOf(base, exchange);
-  const lists = labelledLists(record, exchange ? null : state.carried);
-  const chosen = state.list;
+  const { game } = record;
+  const labelled = (list, place) => ({ list, label: `${place + 1}: ${verdictOf(game, record.board, list)}` });
+  const more = state.carried && !exchange ? [state.carried] : [];
+  const lists = [...once(record, () => record.lists.map(labelled)), ...more];
   const still = { boards: [record.board], images: [record.canonical], isAlike: true, refusal: null };
-  const way = lists.length > 0 ? once(lists[chosen].list, () => stepsOf(record, lists[chosen].list)) : still;
-  const step = Math.max(0, Math.min(state.step, way.boards.length - 1));
-  const passage = shuffle ?? stayingPassage(record.game);
-  const now = { base, record, lists, chosen, steps: way, step, times, exchange, isSorted, shuffle: passage };
-  now.sides = sidesOf(now);
-  now.isCanonical = areEqual(fcanon.canon(record.game, now.sides.left.board).canonical, now.sides.right.board);
-  now.most = mostRows(now);
-  return shown = now;
-}
-
-// The board of the record after the moves, what the shuffle makes of it, and the board beside.
-function sidesOf({ record: { game, passage }, steps: { boards, images }, step, shuffle, isSorted }) {
-  const own = boards[step];
+  const steps = lists.length > 0 ? once(lists[chosen].list, () => stepsOf(record, lists[chosen].list)) : still;
+  const step = Math.max(0, Math.min(state.step, steps.boards.length - 1));
+  const shuffle = state.shuffle ?? stayingPassage(game);
+  const own = steps.boards[step];
+  const left = { board: fcanon.image(game, own, shuffle), passage: shuffle };
   const sorted = fcanon.canon(game, own);
-  const image = { board: images[step], passage };
-  const right = isSorted ? { board: sorted.canonical, passage: sorted.passage } : image;
-  return { own, left: { board: fcanon.image(game, own, shuffle), passage: shuffle }, right };
-}
-
-// How many rows the boards have room for; they do not shrink while one record is shown.
-/** @param {any} state */
-function mostRows({ base, sides }) {
-  const rows = Math.max(...sides.own.subarray(PLACE.lengths, PLACE.cards)) - 1;
+  const [board, passage] = isSorted ? [sorted.canonical, sorted.passage] : [steps.images[step], record.passage];
+  const isCanonical = areEqual(fcanon.canon(game, left.board).canonical, board);
+  const rows = Math.max(...own.subarray(PLACE.lengths, PLACE.cards)) - 1;
   const before = shown?.base.name === base.name ? shown.most : MOST_ROWS.least;
-  return Math.min(MOST_ROWS.most, Math.max(before, rows));
+  const most = Math.min(MOST_ROWS.most, Math.max(before, rows));
+  const sides = { own, left, right: { board, passage } };
+  shown = { base, record, lists, chosen, steps, step, times, exchange, isSorted, shuffle, sides, isCanonical, most };
 }

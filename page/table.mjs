@@ -1,19 +1,14 @@
 // The two boards, and what is said of them.
 
-import { CELL_COUNTS, CELLS, SUITS } from '../bindings/javascript/calls.js';
+import { SUITS } from '../bindings/javascript/calls.js';
 import { BoardView } from './boards.mjs';
 import { at, drawing, element, fill, hide, nameButton, setIdle, write } from './elements.mjs';
-import { fcanon, moveAt, movesIn, TITLES } from './library.mjs';
-import { isWon } from './lists.mjs';
-import { cardsByPile, countEquivalent, keyAfter, keyBefore } from './passages.mjs';
+import { fcanon, isWon, moveAt, movesIn, TITLES } from './library.mjs';
+import { cardsByPile, cellKeys, countEquivalent, keyAfter, keyBefore } from './passages.mjs';
 import { shown } from './shown.mjs';
 import { inFigures, moveWords, pileTitle, pileWords, SUIT_NAMES } from './words.mjs';
 
-export const views = {};
-
-export function layTable() {
-  for (const name of ['left', 'right']) views[name] = new BoardView(at(name));
-}
+export const views = { left: new BoardView(at('left')), right: new BoardView(at('right')) };
 
 // Draws what is shown; cards fly one column after another where a stagger is given.
 export function drawTable(stagger = 0) {
@@ -22,10 +17,6 @@ export function drawTable(stagger = 0) {
   write('ways', inFigures(countEquivalent(record.game, shown.sides.own)));
   drawSide('left', 'right', `Board ${record.name}`, 'becomes', stagger);
   drawSide('right', 'left', `${isCanonical ? 'Canonical board' : 'Image'} of ${record.name}`, 'was', stagger);
-  for (const view of Object.values(views)) {
-    view.mark('moved', movedCards());
-    view.mark('exchanged', new Set(shown.exchange?.cards));
-  }
   drawPassage();
   drawCaption();
   drawLists();
@@ -39,44 +30,40 @@ function drawSide(name, other, label, verb, stagger) {
     return `${title[0].toUpperCase()}${title.slice(1)}: ${pileWords(key, cards)}. It ${verb} ${image}.`;
   };
   views[name].draw({ game, ...side, label, wordsOf, grips: gripsOf(game, side.board), stagger, most });
+  views[name].mark('moved', movedCards());
+  views[name].mark('exchanged', shown.exchange?.cards ?? []);
 }
 
 // How many cards of each pile a move can take at most.
-function gripsOf(game, board) {
-  const grips = new Map();
-  for (const [from, , count] of fcanon.moves(game, board)) {
-    const key = String.fromCharCode(from);
-    grips.set(key, Math.max(grips.get(key) ?? 0, count, 1));
-  }
-  return grips;
+export function gripsOf(game, board) {
+  const all = fcanon.moves(game, board).map(([from, , most]) => ({ key: String.fromCharCode(from), most: most || 1 }));
+  all.sort((one, other) => one.most - other.most); // of a pile the last one counts
+  return new Map(all.map(({ key, most }) => [key, most]));
 }
 
 // The cards that the last move brought to another pile, in their numbers on the record's own board.
 function movedCards() {
   const { record: { game }, steps: { boards }, step } = shown;
-  if (step === 0) return new Set();
-  const before = cardsByPile(game, boards[step - 1]);
+  const before = cardsByPile(game, boards[Math.max(0, step - 1)]);
   const after = [...cardsByPile(game, boards[step])];
-  return new Set(after.flatMap(([key, cards]) => cards.filter((card) => !before.get(key).includes(card))));
+  return after.flatMap(([key, cards]) => cards.filter((card) => !before.get(key).includes(card)));
 }
 
 // What the passage from the left board to the right one does.
 function drawPassage() {
   const { left, right } = shown.sides;
-  const arrow = (before, after, words) => {
-    const said = element('span', { className: 'arrow', title: words, aria: { label: words } }, before, '→', after);
-    said.setAttribute('role', 'img');
-    return said;
-  };
   const pip = (suit) => drawing(suit, `pip ${'DH'.includes(suit) ? 'red' : ''}`);
   const suits = [...SUITS].map((before) => {
     const [, after] = keyAfter(right.passage, keyBefore(left.passage, `h${before}`));
-    return arrow(pip(before), pip(after), `${SUIT_NAMES[before]} become ${SUIT_NAMES[after]}`);
+    const words = `${SUIT_NAMES[before]} become ${SUIT_NAMES[after]}`;
+    const properties = { className: 'arrow', role: 'img', title: words, ariaLabel: words };
+    return element('span', properties, pip(before), '→', pip(after));
   });
-  const orders = (keys) => keys.map((key) => keyAfter(left.passage, keyBefore(right.passage, key))).join(' ');
-  const order = (name, keys) => element('span', { className: 'order' }, `${name} ${orders(keys)}`);
-  const cells = [...CELLS].slice(0, CELL_COUNTS[shown.record.game]);
-  at('passage').replaceChildren(...suits, order('columns', [...'12345678']), order('cells', cells));
+  const orders = [['columns', '12345678'], ['cells', cellKeys(shown.record.game)]].map(([name, keys]) => {
+    const before = [...keys].map((key) => keyAfter(left.passage, keyBefore(right.passage, key)));
+    return element('span', { className: 'order' }, `${name} ${before.join(' ')}`);
+  });
+  at('passage').replaceChildren(...suits, ...orders);
 }
 
 function drawCaption() {
@@ -84,9 +71,9 @@ function drawCaption() {
   write('right-title', isCanonical ? 'Canonical board' : 'Image, not canonical');
   at('right').parentElement.classList.toggle('other', !isCanonical);
   write('sort', isSorted ? 'Follow the moves' : 'Show canonical');
-  hide('sort', isCanonical && !isSorted, 'shuffle');
+  hide('sort', isCanonical && !isSorted);
   write('left-said', times > 0 ? 'shuffled' : '');
-  hide('keep', times === 0 && !exchange, 'shuffle');
+  hide('keep', times === 0 && !exchange);
   nameButton('swap', 'Swap', exchange ? ' them back' : ' two cards');
 }
 
@@ -95,45 +82,42 @@ function drawCaption() {
 function drawLists() {
   const { lists } = shown;
   fill('list', 'option', lists.map(({ label }) => label));
-  hide('play', lists.length === 0, 'shuffle');
-  hide('run', lists.length === 0, 'shuffle');
+  for (const id of ['play', 'run']) hide(id, lists.length === 0);
   if (lists.length > 0) return drawStep();
   for (const id of ['count', 'move', 'expansion']) write(id, '');
 }
 
+// The list, what is said of the move that was made, of the next one, and of the boards.
 function drawStep() {
-  const { steps, step, lists, chosen } = shown;
+  const { record, steps, step, lists, chosen, sides: { left, right } } = shown;
   const last = steps.boards.length - 1;
   const total = movesIn(lists[chosen].list);
   at('list').value = chosen;
-  Object.assign(at('step'), { max: last, value: step });
-  at('step').setAttribute('aria-valuetext', `${step} of ${total} moves`);
+  Object.assign(at('step'), { max: last, value: step, ariaValueText: `${step} of ${total} moves` });
   write('count', `${step} of ${total}`);
   for (const id of ['first', 'back']) setIdle(id, step === 0);
   for (const id of ['on', 'last']) setIdle(id, step === last);
-  drawMove();
+  const isSame = steps.isAlike && fcanon.areSame(record.game, left.board, right.board);
+  const made = step > 0 ? `Made: ${moveNow(step - 1)}. ` : '';
+  write('move', `${made}${nextWords()} ${isSame ? 'Still the same puzzle.' : 'NOT the same puzzle!'}`, !isSame);
   drawExpansion();
 }
 
-// A move of a list in words, as it is on both boards; `step` moves are made before it.
-function moveNow(step) {
-  const { record: { game, passage }, lists, chosen, steps, shuffle, isSorted, sides } = shown;
+// A move of the list on one of the boards, and the board before it; so many moves are made there.
+function moveOn({ passage }, step) {
+  const { record: { game }, lists, chosen, steps } = shown;
   const { list } = lists[chosen];
-  const board = fcanon.image(game, steps.boards[step], shuffle);
-  const here = moveWords(game, board, fcanon.carry(game, shuffle, one(list, step)), 0);
-  const there = isSorted ? sides.right.passage : passage;
-  const beside = fcanon.image(game, steps.boards[step], there);
-  return `${here}; on the right board ${moveWords(game, beside, fcanon.carry(game, there, one(list, step)), 0)}`;
+  const move = fcanon.carry(game, passage, { sign: list.sign, bytes: moveAt(list, step) });
+  return { board: fcanon.image(game, steps.boards[step], passage), move };
 }
 
-const one = (list, place) => ({ sign: list.sign, bytes: moveAt(list, place) });
-
-// What is said of the move that was made, of the next one, and of the boards.
-function drawMove() {
-  const { record, steps, step, sides } = shown;
-  const isSame = steps.isAlike && fcanon.areSame(record.game, sides.left.board, sides.right.board);
-  const made = step > 0 ? `Made: ${moveNow(step - 1)}. ` : '';
-  write('move', `${made}${nextWords()} ${isSame ? 'Still the same puzzle.' : 'NOT the same puzzle!'}`, !isSame);
+// A move of the list in words, as it is on both boards.
+function moveNow(step) {
+  const [here, there] = [shown.sides.left, shown.sides.right].map((side) => {
+    const { board, move } = moveOn(side, step);
+    return moveWords(shown.record.game, board, move);
+  });
+  return `${here}; on the right board ${there}`;
 }
 
 function nextWords() {
@@ -150,14 +134,14 @@ function nextWords() {
 
 // The one-card moves of a move of several cards that was made.
 function drawExpansion() {
-  const { record: { game }, steps, step, lists, chosen, shuffle, isSorted } = shown;
-  const { list } = lists[chosen];
-  const expanded = (board, its) => fcanon.expand(game, board, moveAt(its, step - 1)).join(' ');
-  const isOne = list.sign === '>' || step === 0;
-  const imageBefore = () => fcanon.image(game, steps.boards[step - 1], shuffle);
-  const here = isOne ? '' : expanded(imageBefore(), fcanon.carry(game, shuffle, list));
+  const { record, step, lists, chosen, sides, isSorted } = shown;
+  const expanded = (side) => {
+    const { board, move } = moveOn(side, step - 1);
+    return fcanon.expand(record.game, board, move.bytes).join(' ');
+  };
+  const here = lists[chosen].list.sign === '>' || step === 0 ? '' : expanded(sides.left);
   at('expansion').hidden = !here.includes(' ');
   if (at('expansion').hidden) return;
-  const there = isSorted ? '' : `, ${expanded(steps.images[step - 1], list.image)} there`;
+  const there = isSorted ? '' : `, ${expanded(sides.right)} there`;
   write('expansion', `Card by card: ${here} here${there}.`);
 }

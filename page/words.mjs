@@ -1,6 +1,6 @@
 // Words of players: cards, piles and moves, as they are seen and as they are read out.
 
-import { fcanon, IN_SUIT, moveAt, TITLES } from './library.mjs';
+import { fcanon, IN_SUIT, listOf, TITLES } from './library.mjs';
 import { cardsByPile, cardText, isColumn, renamed, suitOf } from './passages.mjs';
 
 const BUILDING = IN_SUIT.map((it) => (it ? 'by one in the same suit' : 'by one in the other colour'));
@@ -11,22 +11,13 @@ const RANK_NAMES = { A: 'ace', T: '10', J: 'jack', Q: 'queen', K: 'king' };
 export const inFigures = (count) => count.toLocaleString('en');
 export const counted = (count, one, many = `${one}s`) => `${inFigures(count)} ${count === 1 ? one : many}`;
 
-export function cardSign(card) {
-  const [rank, suit] = cardText(card);
-  return `${rank.replace('T', '10')}${GLYPHS[suit]}\ufe0e`;
-}
+const cardIn = (text, ranks, between, suits) => (ranks[text[0]] ?? text[0]) + between + suits[text[1]];
+export const cardSign = (card) => `${cardIn(cardText(card), { T: '10' }, '', GLYPHS)}\ufe0e`;
+const cardWords = (card) => cardIn(cardText(card), RANK_NAMES, ' of ', SUIT_NAMES);
 
-export function cardWords(card) {
-  const [rank, suit] = cardText(card);
-  return `${RANK_NAMES[rank] ?? rank} of ${SUIT_NAMES[suit]}`;
-}
-
-export function pileName(key) {
-  if (key[0] === 'h') return `home ${GLYPHS[key[1]]}`;
-  return `${isColumn(key) ? 'column' : 'cell'} ${key}`;
-}
-
-export const pileTitle = (key) => (key[0] === 'h' ? `home of ${SUIT_NAMES[key[1]]}` : pileName(key));
+const baseName = (key) => `${isColumn(key) ? 'column' : 'cell'} ${key}`;
+export const pileName = (key) => (key[0] === 'h' ? `home ${GLYPHS[key[1]]}` : baseName(key));
+export const pileTitle = (key) => (key[0] === 'h' ? `home of ${SUIT_NAMES[key[1]]}` : baseName(key));
 
 // What lies on a pile, the last card first, since that one can be moved.
 export function pileWords(key, cards) {
@@ -39,19 +30,18 @@ export function pileWords(key, cards) {
 // The cards that a move brings to another pile, as many as the game makes of it; where it is refused, as many as it
 // says.
 function cardsOfMove(game, board, move) {
-  const [from, to, count] = move;
-  const cards = cardsByPile(game, board).get(String.fromCharCode(from)) ?? [];
-  const played = fcanon.play(game, board, { sign: '>>', bytes: move });
-  if (played.answer !== 0 || to === from) return cards.slice(-Math.max(1, count));
-  return cards.slice(cardsByPile(game, played.board).get(String.fromCharCode(from)).length);
+  const [from, to] = String.fromCharCode(...move);
+  const cards = cardsByPile(game, board).get(from) ?? [];
+  const played = fcanon.play(game, board, listOf(move));
+  if (played.answer !== 0 || to === from) return cards.slice(-Math.max(1, move[2]));
+  return cards.slice(cardsByPile(game, played.board).get(from).length);
 }
 
-// A move of a list on a board: its cards, and where they go.
-export function moveWords(game, board, list, place) {
-  const move = moveAt(list, place);
-  const isOne = list.sign === '>' && isColumn(String.fromCharCode(move[0])) && isColumn(String.fromCharCode(move[1]));
-  if (isOne) move[2] = 1;
-  const [from, to] = String.fromCharCode(...move.subarray(0, 2));
+// A move on a board, which is a list of its own: its cards, and where they go.
+export function moveWords(game, board, { sign, bytes }) {
+  const move = bytes.slice();
+  const [from, to] = String.fromCharCode(...move);
+  if (sign === '>' && isColumn(from) && isColumn(to)) move[2] = 1;
   const cards = cardsOfMove(game, board, move).map(cardSign).join(' ') || `no card of ${pileName(from)}`;
   if (to === 'h') return `${cards} home`;
   const [top] = cardsByPile(game, board).get(to).slice(-1);

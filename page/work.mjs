@@ -1,13 +1,19 @@
-// What is done over a whole text by the proved runs: in a worker, or on the page's own thread.
+// What is done over a whole text by the proved runs: on the page's own thread, or in a worker, so that the page stays
+// awake.
 
 import { GAMES } from '../bindings/javascript/calls.js';
 import { Runs } from '../bindings/javascript/runs.js';
 import { asText, AT_SIGN, bytesOf, countLines, headersIn, restOfLine } from './lines.mjs';
 
+let module = null; // its bytes
 let runs = null;
+let worker = null;
+let canWork = true; // whether a worker may be made here
+const unanswered = []; // what was asked of the worker, which answers one after another, each with what takes its answer
 
-export async function startRuns(module) {
-  runs = await Runs.from(module);
+export async function startRuns(bytes) {
+  module = bytes;
+  runs = await Runs.from(bytes);
 }
 
 // What a command prints, by its words, as `table --json`.
@@ -24,12 +30,10 @@ export const placeIn = (places, key) => places.get(key) ?? places.set(key, place
 
 // The refused records: which ones they are, and where each is refused, for what, and in which line.
 function faultsIn(bytes, said) {
-  const refused = [...said.keys()].filter((at) => said[at].reason);
-  const places = refused.map((at) => said[at].place);
+  const faults = said.map(({ place, reason }, at) => ({ at, place, reason })).filter(({ reason }) => reason);
   let line = 1;
-  const lines = places.map((place, at) => (line += countLines(bytes.subarray(places[at - 1] ?? 0, place))));
-  const [at, place, lineOf] = [refused, places, lines].map((numbers) => Uint32Array.from(numbers));
-  return { at, place, line: lineOf, reasons: refused.map((it) => said[it].reason).join('\n') };
+  const countOn = (before, { place }) => (line += countLines(bytes.subarray(before?.place ?? 0, place)));
+  return faults.map((fault, it) => ({ ...fault, line: countOn(faults[it - 1], fault) }));
 }
 
 // The records of a text: where each begins, and what `table` says of it, column by column, which is soon handed over.
@@ -60,9 +64,10 @@ const WORK = {
 };
 
 // What comes of what is asked for: its value, or why there is none.
-export function workAt(asked) {
+/** @returns {{ value?: any, fault?: string }} */
+export function workAt(it) {
   try {
-    return { value: WORK[asked.work](asked) };
+    return { value: WORK[it.work](it) };
   } catch (error) {
     return { fault: error.message };
   }
@@ -72,12 +77,46 @@ export function workAt(asked) {
 // module.
 export function listenInWorker() {
   let started = null;
-  globalThis.onmessage = async ({ data: { number, module, ...asked } }) => {
-    started ??= startRuns(module);
+  globalThis.onmessage = async ({ data }) => {
+    started ??= startRuns(data.bytes);
     await started;
-    if (!asked.work) return;
-    const done = workAt(asked);
+    if (!data.work) return;
+    const done = workAt(data);
     const arrays = Object.values(done.value ?? {}).filter(ArrayBuffer.isView);
-    globalThis.postMessage({ number, ...done }, { transfer: arrays.map(({ buffer }) => buffer) });
+    globalThis.postMessage(done, { transfer: arrays.map(({ buffer }) => buffer) });
   };
+}
+
+// ---- on the page: what is asked of its worker
+
+// Makes the worker, of the script that the page has too; its module goes there first.
+function makeWorker() {
+  const { textContent } = document.getElementById('engine');
+  const script = new Blob([textContent, 'listenInWorker();'], { type: 'text/javascript' });
+  worker = new Worker(URL.createObjectURL(script));
+  worker.onmessage = ({ data }) => unanswered.shift()?.take(data);
+  worker.onerror = (event) => { event.preventDefault(); goWithout(); };
+  worker.postMessage({ bytes: module });
+}
+
+// Where no worker can be made, all is done on the page's own thread.
+function goWithout() {
+  canWork = false;
+  for (const { work, take } of unanswered.splice(0)) take(workAt(work));
+}
+
+// Does some work while the page goes on, and gives a promise of what comes of it.
+export const later = (work) => new Promise((take) => {
+  setTimeout(() => send({ work, take })); // what is to be seen meanwhile is drawn first
+});
+
+function send(one) {
+  unanswered.push(one);
+  try {
+    if (canWork && !worker) makeWorker();
+  } catch {
+    canWork = false;
+  }
+  if (canWork) worker.postMessage(one.work);
+  else goWithout();
 }

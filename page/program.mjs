@@ -1,0 +1,104 @@
+// What the program does with the text, by its proved runs: what it prints under each command, and what it makes of
+// rows, drawings and solutions that keepers have, as `import` reads them. What it says of these is beside the field.
+
+import { COMMANDS } from '../bindings/javascript/runs.js';
+import { replace } from './actions.mjs';
+import { collection, isHeaded, isLarge } from './collection.mjs';
+import { at, download, fill, onceAtATime, say, write } from './elements.mjs';
+import { asText } from './lines.mjs';
+import { amend, store } from './store.mjs';
+import { later, workAt } from './work.mjs';
+
+const OPTIONS = { table: ['', ' --header', ' --json'], count: ['', ' --json'] };
+const PRINTINGS = COMMANDS.flatMap((task) => (OPTIONS[task] ?? ['']).map((option) => task + option));
+const MOST_PRINTED = 100_000;
+const MOST_NOTES = 100;
+const QUESTION = /may be columns or rows($|:)/; // in a note that asks
+const ANSWERS = ', with --columns or --rows'; // how the program is answered
+
+// ---- what is printed
+
+let printed = { command: '', text: new Uint8Array() }; // of a collection
+
+fill('command', 'option', PRINTINGS, PRINTINGS);
+
+// Prints anew where the text or the command is another one, and this is seen.
+export function drawPrinted() {
+  const [of, command] = [collection, at('command').value];
+  if (!at('program').open || of.isBeingRead || (printed.of === of && printed.command === command)) return;
+  const asked = printed = { of, command, text: new Uint8Array(), ready: null };
+  const work = { work: 'print', command, bytes: of.bytes, game: of.game };
+  if (!isLarge()) return takePrinted(asked, workAt(work));
+  write('printed', '');
+  write('copied', 'Printing ..');
+  asked.ready = later(work).then((done) => takePrinted(asked, done));
+}
+
+// Takes what was asked for, if nothing else is asked for now.
+function takePrinted(asked, { value = null, fault = '' }) {
+  if (printed !== asked) return;
+  asked.text = value?.text ?? asked.text;
+  const isCut = asked.text.length > MOST_PRINTED;
+  write('printed', asText.decode(asked.text.subarray(0, MOST_PRINTED)));
+  write('copied', isCut ? 'The beginning is shown; save it to have all.' : fault);
+}
+
+export async function copyPrinted() {
+  try {
+    await navigator.clipboard.writeText(at('printed').textContent);
+    write('copied', 'Copied.');
+  } catch {
+    getSelection().selectAllChildren(at('printed'));
+    write('copied', 'Selected: copy it by Ctrl-C.');
+  }
+}
+
+// Saves all that is printed: what is no table is read again as a collection.
+export const savePrinted = () => onceAtATime('save-printed', async () => {
+  const asked = printed;
+  await asked.ready;
+  if (printed !== asked) return;
+  const isTable = /^(check|table|same|symmetries|count)/.test(asked.command);
+  download([asked.text], `${asked.command.replace(' --', '-')}.${isTable ? 'txt' : 'collection'}`);
+  write('copied', 'Saved.');
+});
+
+// ---- what is imported
+
+// Imports these bytes, where that was asked for or something is said of them; a question is answered by `lines`.
+async function importBytes(bytes, what, { isAsked = true, lines = undefined } = {}) {
+  const before = store.state;
+  const work = { work: 'import', bytes, game: before.game, lines };
+  const { value, fault } = isLarge() ? await later(work) : workAt(work);
+  if (fault) return say(fault, true);
+  if (store.state !== before || !(isAsked || value.said.length > 0)) return;
+  const imported = { bytes, said: asText.decode(value.said) };
+  if (value.text.length > 0) replace(what, value.text, imported);
+  else amend({ imported });
+}
+
+export const importText = () => importBytes(store.state.bytes, 'the import');
+
+export const answerAs = (lines) => () => importBytes(store.state.imported.bytes, `the answer ${lines}`, { lines });
+
+// Imports at once what came from elsewhere, where no record of it is accepted, or where it is one board without a
+// header, whose lines may be rows; and where `import` has something to say of it.
+export async function importAsNeeded() {
+  await store.read;
+  const { starts, faults } = collection;
+  const isBare = starts.length === 1 && !isHeaded(collection, 0);
+  const isNeeded = starts.length > 0 && (isBare || faults.length === starts.length);
+  if (isNeeded && !isLarge()) importBytes(store.state.bytes, 'the import', { isAsked: false });
+}
+
+// A note of the program in the words of the page, which has buttons in the place of options.
+const noteOf = (note) => note.replace(/^fcanon: /, '').replace(ANSWERS, ', by a button');
+
+export function drawImported() {
+  const { imported } = store.state;
+  const notes = imported?.said.split('\n').slice(0, -1).map(noteOf) ?? [];
+  at('imported').hidden = !imported;
+  at('ask').hidden = !notes.some((note) => QUESTION.test(note));
+  fill('notes', 'li', notes.length > MOST_NOTES ? [...notes.slice(0, MOST_NOTES), '..', notes.at(-1)] : notes);
+  if (imported) write('imported-said', notes.length > 0 ? 'Import says of this:' : 'Import reads this as it is.');
+}
