@@ -96,9 +96,8 @@ export class BoardView {
       const squeeze = key < '9' ? Math.min(1, most / Math.max(1, cards.length - 1)) : 0;
       cards.forEach((card, row) => {
         const made = this.cards[card - suitOf(card) + passage.subarray(0, 4).indexOf(suitOf(card)) - 1];
-        const home = key[0] === 'h';
         const left = cards.length - row; // from this card on
-        const classes = { home, last: left === 1 && !home, grip: left <= (grips.get(key) ?? 0) };
+        const classes = { home: key[0] === 'h', last: left === 1 && key[0] !== 'h', grip: left <= grips.get(key) };
         const drawn = [pile.x, pile.y, squeeze * row, key, cardText(card), ...Object.values(classes)].join();
         if (made.drawn === drawn) return;  // it stays as it is
         made.drawn = drawn;

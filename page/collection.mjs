@@ -19,13 +19,16 @@ function placesOf(keys) {
 }
 
 // Records of what is said of a text.
-function recordsOf({ starts, groups, names, keys, faults }) {
+function recordsOf({ starts, groups, names, keys, faults: { columns: [at, place, line], reasons } }) {
+  const reasonList = at.length > 0 ? reasons.split('\n') : [];
+  const faults = reasonList.map((reason, it) => ({ at: at[it], place: place[it], line: line[it], reason }));
   const nameList = starts.length > 0 ? names.split('\n') : [];
   return { starts, groups, names: nameList, places: placesOf(keys), faults, made: new Map() };
 }
 
 const noRecords = () => recordsOf({
-  starts: new Uint32Array(), groups: new Int32Array(), names: '', keys: new Uint8Array(), faults: [],
+  starts: new Uint32Array(), groups: new Int32Array(), names: '', keys: new Uint8Array(),
+  faults: { columns: [[], [], []], reasons: '' },
 });
 
 const endOf = ({ starts, bytes }, place) => starts[place + 1] ?? bytes.length;

@@ -14,8 +14,7 @@ export const AT_FIRST = {
 };
 const EMPTY = { bytes: new Uint8Array(), game: 0, number: 1, name: null, begun: [], imported: null, ...AT_FIRST };
 
-// How it is drawn, and who is called, is put here by others. Undo and redo go through the past and the future, without
-// end.
+// How it is drawn, and who is called, is put here by others. Undo and redo go through the past and the future.
 /** @type {{ [name: string]: any }} */
 export const store = {
   state: EMPTY, past: [], future: [], read: null, draw: (_) => {}, acted: () => {}, touched: () => {},

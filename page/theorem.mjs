@@ -32,9 +32,8 @@ function picture(board, className) {
     bars[suitOf(card)] += `M${x} ${y}h${across}v${down}h-${across}z`;
   }));
   const paths = bars.map((d, suit) => shape('path', { d, class: `suit-${SUITS[suit]}` }));
-  const made = shape('svg', { viewBox: '0 0 64 40', class: `picture ${className}`, 'aria-hidden': true }, ...paths);
-  pictures.set(key, made);
-  return made;
+  const attributes = { viewBox: '0 0 64 40', class: `picture ${className}`, 'aria-hidden': true };
+  return pictures.set(key, shape('svg', attributes, ...paths)).get(key);
 }
 
 // Each board that was seen with its canonical board, in the order in which they were seen first, none twice.

@@ -1,5 +1,4 @@
-// What is done over a whole text by the proved runs: on the page's own thread, or in a worker, so that the page stays
-// awake.
+// What is done over a whole text by the proved runs: on the page's own thread, or in a worker, while the page goes on.
 
 import { GAMES } from '../bindings/javascript/calls.js';
 import { Runs } from '../bindings/javascript/runs.js';
@@ -30,10 +29,12 @@ export const placeIn = (places, key) => places.get(key) ?? places.set(key, place
 
 // The refused records: which ones they are, and where each is refused, for what, and in which line.
 function faultsIn(bytes, said) {
-  const faults = said.map(({ place, reason }, at) => ({ at, place, reason })).filter(({ reason }) => reason);
+  const refused = [...said.keys()].filter((at) => said[at].reason);
+  const places = refused.map((at) => said[at].place);
   let line = 1;
-  const countOn = (before, { place }) => (line += countLines(bytes.subarray(before?.place ?? 0, place)));
-  return faults.map((fault, it) => ({ ...fault, line: countOn(faults[it - 1], fault) }));
+  const lines = places.map((place, at) => (line += countLines(bytes.subarray(places[at - 1] ?? 0, place))));
+  const columns = [refused, places, lines].map((numbers) => Uint32Array.from(numbers));
+  return { columns, reasons: refused.map((at) => said[at].reason).join('\n') };
 }
 
 // The records of a text: where each begins, and what `table` says of it, column by column, which is soon handed over.
