@@ -1,7 +1,31 @@
 -- A row grows by its cards in ascending order, each put where its digit says.
-use Rattle.std.proofs.Common.{◌++◌, ◌+◌, ◌<◌, ◌∙◌, ◌∷◌, ◌≡◌, ◌≤◌, [], ap, arith, Bool, cond, count_by, false}
+use Rattle.std.proofs.Common.{
+  ◌++◌,
+  ◌+◌,
+  ◌<◌,
+  ◌∙◌,
+  ◌∷◌,
+  ◌≡◌,
+  ◌≤◌,
+  [],
+  ap,
+  arith,
+  Bool,
+  cond,
+  count_by,
+  false,
+}
 use Rattle.std.proofs.Common.{inl, inr, length, length-append, List, refl, suc, sym, true, ℕ}
-use Rattle.std.proofs.lemmas.Bool.{both_ways, cases_Bool, cases_order, eq-eqb, le-leb, lt-leb, ne_eqb, or_left}
+use Rattle.std.proofs.lemmas.Bool.{
+  both_ways,
+  cases_Bool,
+  cases_order,
+  eq-eqb,
+  le-leb,
+  lt-leb,
+  ne_eqb,
+  or_left,
+}
 use Rattle.std.proofs.lemmas.List.Elements.{filter-append}
 use Rattle.std.proofs.lemmas.List.Sums.{sum_by-append, sum_by-cons, take_while-cons}
 use Rattle.std.specs.List.{filter, insert, list_any, take_while}
@@ -9,19 +33,24 @@ use Rattle.std.specs.Prelude.{nat_le, not}
 use Rattle.fc_bytes.specs.packing.{is_byte_of}
 
 -- ---- counted
-pub count-cons : {X : Type 0} (p : X → Bool) (x : X) (xs : List X) → count_by p (x ∷ xs) ≡ cond (p x) 1 0 + count_by p xs
+pub count-cons : {X : Type 0} (p : X → Bool) (x : X) (xs : List X) → count_by p (x ∷ xs)
+    ≡ cond (p x) 1 0 + count_by p xs
 count-cons p x xs = sum_by-cons (λ item. cond (p item) 1 0) x xs
 
-pub counts-append : {X : Type 0} (p : X → Bool) (xs ys : List X) → count_by p (xs ++ ys) ≡ count_by p xs + count_by p ys
+pub counts-append : {X : Type 0} (p : X → Bool) (xs ys : List X) → count_by p (xs ++ ys)
+    ≡ count_by p xs + count_by p ys
 counts-append p xs ys = sum_by-append (λ item. cond (p item) 1 0) xs ys
 
-pub count-yes : {X : Type 0} (p : X → Bool) (x : X) (xs : List X) → p x ≡ true → count_by p (x ∷ xs) ≡ suc (count_by p xs)
+pub count-yes : {X : Type 0} (p : X → Bool) (x : X) (xs : List X) → p x ≡ true →
+    count_by p (x ∷ xs) ≡ suc (count_by p xs)
 count-yes p x xs is = count-cons p x xs ∙ ap (λ b. cond b 1 0 + count_by p xs) is ∙ omega arith
 
-pub count-no : {X : Type 0} (p : X → Bool) (x : X) (xs : List X) → p x ≡ false → count_by p (x ∷ xs) ≡ count_by p xs
+pub count-no : {X : Type 0} (p : X → Bool) (x : X) (xs : List X) → p x ≡ false →
+    count_by p (x ∷ xs) ≡ count_by p xs
 count-no p x xs isnt = count-cons p x xs ∙ ap (λ b. cond b 1 0 + count_by p xs) isnt ∙ omega arith
 
-pub none-from_count : {X : Type 0} (p : X → Bool) (xs : List X) → count_by p xs ≡ 0 → list_any p xs ≡ false
+pub none-from_count : {X : Type 0} (p : X → Bool) (xs : List X) → count_by p xs ≡ 0 → list_any p xs
+    ≡ false
 none-from_count p [] none = refl
 none-from_count p (x ∷ xs) none = elim (cases_Bool (p x)) [
   | inl is ↦ absurd (omega (arith, none, count-yes p x xs is))
@@ -47,27 +76,36 @@ module _ (card : ℕ) where
   pub before-here : (item : ℕ) (row : List ℕ) → here item ≡ true → before (item ∷ row) ≡ []
   before-here item row is = rw (take_while-cons (λ item. not (here item)) item row, is)
 
-  pub before-other : (item : ℕ) (row : List ℕ) → here item ≡ false → before (item ∷ row) ≡ item ∷ before row
+  pub before-other : (item : ℕ) (row : List ℕ) → here item ≡ false → before (item ∷ row)
+      ≡ item ∷ before row
   before-other item row isnt = rw (take_while-cons (λ item. not (here item)) item row, isnt)
 
   pub rank-low : (item : ℕ) (row : List ℕ) → item ≤ card → rank (item ∷ row) ≡ suc (rank row)
   rank-low item row less =
-      ap (count_by low) (before-other item row (ne_eqb item (card + 1) (λ e. omega (arith, e, less))))
+      ap (count_by low) (before-other item row
+      (ne_eqb item (card + 1) (λ e. omega (arith, e, less))))
       ∙ count-yes low item (before row) (le-leb item card less)
 
   pub rank-high : (item : ℕ) (row : List ℕ) → card + 1 < item → rank (item ∷ row) ≡ rank row
   rank-high item row more =
-      ap (count_by low) (before-other item row (ne_eqb item (card + 1) (λ e. omega (arith, e, more))))
+      ap (count_by low) (before-other item row
+      (ne_eqb item (card + 1) (λ e. omega (arith, e, more))))
       ∙ count-no low item (before row) (lt-leb item card (omega (arith, more)))
 
   -- without the card nothing changes
   pub absent : (row : List ℕ) → list_any here row ≡ false → filter low_or_here row ≡ filter low row
   absent [] none = refl
   absent (item ∷ row) none = elim (cases_order item (card + 1)) [
-    | inl same ↦ absurd (both_ways (list_any here (item ∷ row)) none (or_left (here item) (list_any here row) (eq-eqb item (card + 1) same)))
+    | inl same ↦ absurd (both_ways (list_any here (item ∷ row)) none
+        (or_left (here item) (list_any here row) (eq-eqb item (card + 1) same)))
     | inr (inl less) ↦
-        let rest = absent row (ap (λ b. b) (rw (ne_eqb item (card + 1) (λ e. omega (arith, e, less))) at none)) in
-        rw (le-leb item (card + 1) (omega (arith, less)), le-leb item card (omega (arith, less)), rest)
+        let rest = absent row (ap (λ b. b) (rw
+        (ne_eqb item (card + 1) (λ e. omega (arith, e, less))) at none)) in
+        rw (
+          le-leb item (card + 1) (omega (arith, less)),
+          le-leb item card (omega (arith, less)),
+          rest,
+        )
     | inr (inr more) ↦
         let rest = absent row (rw (ne_eqb item (card + 1) (λ e. omega (arith, e, more))) at none) in
         rw (lt-leb item (card + 1) more, lt-leb item card (omega (arith, more)), rest)
@@ -82,15 +120,33 @@ module _ (card : ℕ) where
         let is = eq-eqb item (card + 1) same in
         let gone = none-from_count here row (omega (arith, once, count-yes here item row is)) in
         let first : rank (item ∷ row) ≡ 0 = ap (count_by low) (before-here item row is) in
-        rw (first, le-leb item (card + 1) (omega (arith, same)), lt-leb item card (omega (arith, same)), absent row gone, same)
+        rw (
+          first,
+          le-leb item (card + 1) (omega (arith, same)),
+          lt-leb item card (omega (arith, same)),
+          absent row gone,
+          same,
+        )
     | inr (inl less) ↦
         let isnt = ne_eqb item (card + 1) (λ e. omega (arith, e, less)) in
-        let rest = present row (rw isnt at there) (omega (arith, once, count-no here item row isnt)) in
-        rw (rank-low item row (omega (arith, less)), le-leb item (card + 1) (omega (arith, less)), le-leb item card (omega (arith, less)), rest)
+        let rest = present row (rw isnt at there)
+        (omega (arith, once, count-no here item row isnt)) in
+        rw (
+          rank-low item row (omega (arith, less)),
+          le-leb item (card + 1) (omega (arith, less)),
+          le-leb item card (omega (arith, less)),
+          rest,
+        )
     | inr (inr more) ↦
         let isnt = ne_eqb item (card + 1) (λ e. omega (arith, e, more)) in
-        let rest = present row (rw isnt at there) (omega (arith, once, count-no here item row isnt)) in
-        rw (rank-high item row more, lt-leb item (card + 1) more, lt-leb item card (omega (arith, more)), rest)
+        let rest = present row (rw isnt at there)
+        (omega (arith, once, count-no here item row isnt)) in
+        rw (
+          rank-high item row more,
+          lt-leb item (card + 1) more,
+          lt-leb item card (omega (arith, more)),
+          rest,
+        )
   ]
 
   -- and there is room there
@@ -98,28 +154,39 @@ module _ (card : ℕ) where
   rank-inside [] = omega arith
   rank-inside (item ∷ row) = elim (cases_order item (card + 1)) [
     | inl same ↦
-        let first : rank (item ∷ row) ≡ 0 = ap (count_by low) (before-here item row (eq-eqb item (card + 1) same)) in
+        let first : rank (item ∷ row) ≡ 0 = ap (count_by low)
+        (before-here item row (eq-eqb item (card + 1) same)) in
         omega (arith, first)
     | inr (inl less) ↦
         rw (le-leb item card (omega (arith, less)))
         (omega (arith, rank-low item row (omega (arith, less)), rank-inside row))
     | inr (inr more) ↦
-        rw (lt-leb item card (omega (arith, more))) (omega (arith, rank-high item row more, rank-inside row))
+        rw (lt-leb item card (omega (arith, more)))
+        (omega (arith, rank-high item row more, rank-inside row))
   ]
 
   -- a 0 at the end of the row is after the card, and counted with it
-  pub rank-ended : (row : List ℕ) → list_any here row ≡ true → rank (row ++ 0 ∷ []) < length (filter low (row ++ 0 ∷ []))
+  pub rank-ended : (row : List ℕ) → list_any here row ≡ true → rank (row ++ 0 ∷ [])
+      < length (filter low (row ++ 0 ∷ []))
   rank-ended [] there = absurd (cc)
   rank-ended (item ∷ row) there = elim (cases_order item (card + 1)) [
     | inl same ↦
         let first : rank (item ∷ row ++ 0 ∷ []) ≡ 0 =
         ap (count_by low) (before-here item (row ++ 0 ∷ []) (eq-eqb item (card + 1) same)) in
-        let last : length (filter low (row ++ 0 ∷ [])) ≡ length (filter low row ++ 0 ∷ []) = ap length (filter-append low row (0 ∷ []) ∙ ap (λ b. filter low row ++ cond b (0 ∷ []) []) (le-leb 0 card (omega arith))) in
-        rw (lt-leb item card (omega (arith, same))) (omega (arith, first, last, length-append (filter low row) (0 ∷ [])))
+        let last : length (filter low (row ++ 0 ∷ []))
+        ≡ length (filter low row ++ 0 ∷ []) = ap length
+        (filter-append low row (0 ∷ []) ∙ ap (λ b. filter low row ++ cond b (0 ∷ []) [])
+        (le-leb 0 card (omega arith))) in
+        rw (lt-leb item card (omega (arith, same)))
+        (omega (arith, first, last, length-append (filter low row) (0 ∷ [])))
     | inr (inl less) ↦
         let isnt = ne_eqb item (card + 1) (λ e. omega (arith, e, less)) in
         rw (le-leb item card (omega (arith, less)))
-        (omega (arith, rank-low item (row ++ 0 ∷ []) (omega (arith, less)), rank-ended row (rw isnt at there)))
+        (omega (
+          arith,
+          rank-low item (row ++ 0 ∷ []) (omega (arith, less)),
+          rank-ended row (rw isnt at there),
+        ))
     | inr (inr more) ↦
         let isnt = ne_eqb item (card + 1) (λ e. omega (arith, e, more)) in
         rw (lt-leb item card (omega (arith, more)))

@@ -1,5 +1,6 @@
 -- How boards are packed, and found again.
-use Rattle.std.specs.{List.{count_by, filter}, Prelude.{◌%◌, ◌*◌, ◌+◌, ◌/◌, ◌<◌, ◌==◌, ◌^◌, ◌∷◌, ◌≡◌, ◌≤◌, [], All, Bool, List, not, ℕ}}
+use Rattle.std.specs.{List.{count_by, filter}, Prelude.{◌%◌, ◌*◌, ◌+◌, ◌/◌, ◌<◌, ◌==◌, ◌^◌, ◌∷◌}}
+use Rattle.std.specs.Prelude.{◌≡◌, ◌≤◌, [], All, Bool, List, not, ℕ}
 use Rattle.fc_bytes.specs.packed.{digit_count}
 
 -- the number that these words of 32 bits make, the lowest first, with this one above them

@@ -7,7 +7,8 @@ use Rattle.fc_bytes.proofs.packed.digits.digits_of.Goals as goal
 
 pub loop-place-preserved : goal.loop-place-preserved
 loop-place-preserved c =
-    digits-next c.args.row.now c.loop-place.place c.loop-place.digits c.put_digit.new.digits c.loop-place-test.true c.requires.once c.requires.bytes
+    digits-next c.args.row.now c.loop-place.place c.loop-place.digits c.put_digit.new.digits
+    c.loop-place-test.true c.requires.once c.requires.bytes
     c.loop-place.invariant c.put_digit.ensures
 
 pub returns : goal.returns

@@ -8,6 +8,8 @@ abbrev pub invariant-loop-card : goal.invariant-loop-card
 invariant-loop-card l = record {
   long : length l.heights ≡ 4;
   few : (suit : ℕ) → slice_index l.heights suit ≤ l.card;
-  so_far : (game : Game) (board : Board) → IsWellFormed game board → l.digits ≡ map (row_digit (row (in_order board))) (places 52) →
-      (suit : ℕ) → suit < 4 → slice_index l.heights suit ≡ min (slice_index board.heights suit) ((l.card + 3 - suit) / 4);
+  so_far : (game : Game) (board : Board) → IsWellFormed game board → l.digits
+      ≡ map (row_digit (row (in_order board))) (places 52) →
+      (suit : ℕ) → suit < 4 → slice_index l.heights suit
+      ≡ min (slice_index board.heights suit) ((l.card + 3 - suit) / 4);
 }

@@ -12,11 +12,14 @@ loop-place-preserved c =
       long = c.put.ensures.size ∙ c.loop-place.invariant.long;
       so_far =
           bytes-more place c.args.number.now c.loop-place.bytes now c.to_le_bytes.result
-          (omega (arith, c.loop-place-test.true, c.told-number)) c.to_le_bytes.ensures c.loop-place.invariant.so_far
+          (omega (arith, c.loop-place-test.true, c.told-number)) c.to_le_bytes.ensures
+          c.loop-place.invariant.so_far
           (ap (λ end. take end now) end ∙ c.put.ensures.text);
     }
 
 pub returns : goal.returns
 returns c =
-    bytes-done c.args.number.now c.loop-place.bytes c.loop-place.place c.told-number c.loop-place.invariant.long
-    (omega (arith, c.loop-place-test.false, c.loop-place.auto.place-end)) c.fits-number c.loop-place.invariant.so_far
+    bytes-done c.args.number.now c.loop-place.bytes c.loop-place.place c.told-number
+    c.loop-place.invariant.long
+    (omega (arith, c.loop-place-test.false, c.loop-place.auto.place-end)) c.fits-number
+    c.loop-place.invariant.so_far

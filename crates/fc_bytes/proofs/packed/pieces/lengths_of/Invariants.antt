@@ -8,5 +8,6 @@ invariant-loop-column l = record {
   inside : l.start ≤ length l.items;
   long : length l.lengths ≡ 8;
   found : (columns : List (List ℕ)) → length columns ≡ 8 → l.items ≡ flat_map ended columns →
-      (drop l.start l.items ≡ flat_map ended (drop l.column columns)) × (take l.column l.lengths ≡ map length (take l.column columns));
+      (drop l.start l.items ≡ flat_map ended (drop l.column columns))
+      × (take l.column l.lengths ≡ map length (take l.column columns));
 }
