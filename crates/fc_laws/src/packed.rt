@@ -1,10 +1,9 @@
 //! Laws of boards in 32 bytes.
 ghost use Rattle.std.specs.Prelude.{◌↔◌, ◌∷◌, ◌≡◌, []};
-ghost use Rattle.fc_card.specs.{places};
+ghost use Rattle.{fc_canon.specs.{Chosen, Equivalent}, fc_card.specs.{places}};
 ghost use Rattle.fc_board.specs.Boards.{Board, IsWellFormed};
 ghost use Rattle.fc_board.specs.Passages.{carried, Carries, Passage};
 ghost use Rattle.fc_bytes.specs.packed.{in_order, packed};
-ghost use Rattle.fc_canon.specs.{Chosen, Equivalent};
 ghost use Rattle.fc_laws.specs.BoardExamples.{two_spades_left};
 ghost use Rattle.fc_laws.specs.CanonicalExamples.{clubs_king_left};
 

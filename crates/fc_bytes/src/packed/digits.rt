@@ -1,13 +1,10 @@
 //! The digits of a row, and the row that has them.
-ghost use Rattle.arrayvec.specs.ArrayVec.{array_vec_len};
-ghost use Rattle.std.specs.{List.{count_by, insert}, Prelude.{◌+◌, ◌-◌, ◌<◌, ◌==◌, ◌↔◌, ◌≡◌, ◌≤◌, All}};
-ghost use Rattle.std.specs.Prelude.{if◌then◌else◌, IfSome, IsTrue, length, List, map, nat_lt, set};
-ghost use Rattle.std.specs.Prelude.{slice_index, Some, take, ℕ};
-ghost use Rattle.fc_card.specs.{places};
-ghost use Rattle.fc_board.specs.Boards.{Board as Layout, IsWellFormed};
-ghost use Rattle.fc_board.specs.Games.{Game};
-ghost use Rattle.fc_bytes.specs.{packed.{in_order, row, row_digit}, packing.{is_byte_of}};
-ghost use Rattle.fc_bytes.specs.packing.{IsRow};
+ghost use Rattle.{arrayvec.specs.ArrayVec.{array_vec_len}, fc_card.specs.{places}};
+ghost use Rattle.std.specs.{List.{count_by, insert}, Prelude.{◌+◌, ◌-◌, ◌<◌, ◌==◌, ◌↔◌, ◌≡◌, ◌≤◌}};
+ghost use Rattle.std.specs.Prelude.{All, IfSome, if◌then◌else◌, IsTrue, length, List, map, nat_lt};
+ghost use Rattle.std.specs.Prelude.{set, slice_index, Some, take, ℕ};
+ghost use Rattle.fc_board.specs.{Boards.{Board as Layout, IsWellFormed}, Games.{Game}};
+ghost use Rattle.fc_bytes.specs.{packed.{in_order, row, row_digit}, packing.{is_byte_of, IsRow}};
 
 use arrayvec::ArrayVec;
 

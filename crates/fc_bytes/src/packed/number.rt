@@ -1,7 +1,6 @@
 //! Numbers of 256 bits, in words of 32 bits, the lowest first.
-ghost use Rattle.std.specs.Int.{bytes_low_first, from_le_bytes, w32};
-ghost use Rattle.std.specs.Prelude.{◌%◌, ◌*◌, ◌+◌, ◌/◌, ◌<◌, ◌^◌, ◌≡◌, ◌≤◌, drop, length, List, take};
-ghost use Rattle.std.specs.Prelude.{ℕ};
+ghost use Rattle.std.specs.{Int.{bytes_low_first, from_le_bytes, w32}, Prelude.{◌%◌, ◌*◌, ◌+◌}};
+ghost use Rattle.std.specs.Prelude.{◌/◌, ◌<◌, ◌^◌, ◌≡◌, ◌≤◌, drop, length, List, take, ℕ};
 ghost use Rattle.fc_bytes.specs.packed.{digit_count, mixed_number};
 ghost use Rattle.fc_bytes.specs.packing.{AreDigits, divided, left_of, word_number};
 

@@ -1,10 +1,9 @@
 //! The bytes of the board whose piles a row has end to end.
-ghost use Rattle.std.specs.{List.{flat_map, position_or_len}};
+ghost use Rattle.std.specs.List.{flat_map, position_or_len};
 ghost use Rattle.std.specs.Prelude.{◌+◌, ◌<◌, ◌≡◌, ◌≤◌, length, List, map, set, Some, ℕ};
-ghost use Rattle.fc_board.specs.Boards.{Board as Layout, IsWellFormed};
-ghost use Rattle.fc_board.specs.Games.{Game};
-ghost use Rattle.fc_bytes.specs.{board_bytes, packed.{ended, in_order, row}, padded};
-ghost use Rattle.fc_bytes.specs.packing.{is_end, without_ends};
+ghost use Rattle.fc_board.specs.{Boards.{Board as Layout, IsWellFormed}, Games.{Game}};
+ghost use Rattle.fc_bytes.specs.{board_bytes, packed.{ended, in_order, row}};
+ghost use Rattle.fc_bytes.specs.{packing.{is_end, without_ends}, padded};
 
 use crate::BoardBytes;
 
