@@ -30,3 +30,4 @@ pub mod TableLawLemmas
 pub mod UniqueAgainLemmas
 pub mod VerdictLineLemmas
 pub mod PackedLemmas
+pub mod PackedOrderLemmas

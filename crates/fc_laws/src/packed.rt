@@ -2,7 +2,7 @@
 ghost use Rattle.std.specs.Prelude.{◌↔◌, ◌∷◌, ◌≡◌, []};
 ghost use Rattle.{fc_canon.specs.{Chosen, Equivalent}, fc_card.specs.{places}};
 ghost use Rattle.fc_board.specs.Boards.{Board, IsWellFormed};
-ghost use Rattle.fc_board.specs.Passages.{carried, Carries, Passage};
+ghost use Rattle.fc_board.specs.Passages.{carried, Carries, IsPassage, Passage};
 ghost use Rattle.fc_bytes.specs.packed.{in_order, packed};
 ghost use Rattle.fc_laws.specs.BoardExamples.{two_spades_left};
 ghost use Rattle.fc_laws.specs.CanonicalExamples.{clubs_king_left};
@@ -10,11 +10,15 @@ ghost use Rattle.fc_laws.specs.CanonicalExamples.{clubs_king_left};
 use fc_board::Rule;
 
 /// A board is put in order by orders of its columns and its cells alone, and then has the same 32
-/// bytes. Boards with the same bytes are one board in order: so they differ in these orders alone.
+/// bytes, as it has in any other order. Boards with the same bytes are one board in order: so they
+/// differ in these orders alone.
 pub fn packed_boards_are_boards_in_order<R: Rule>()
     ensures orders { (board : Board) → IsWellFormed R.game board
         → (passage : Passage) × (passage.renaming ≡ places 4)
         × Carries R.game passage board (in_order board) }
+    ensures any_order { (board : Board) (passage : Passage) → IsWellFormed R.game board
+        → IsPassage R.game passage → passage.renaming ≡ places 4
+        → packed (carried passage board) ≡ packed board }
     ensures again { (board : Board) → IsWellFormed R.game board
         → packed (in_order board) ≡ packed board }
     ensures one_board { (board other : Board) → IsWellFormed R.game board
