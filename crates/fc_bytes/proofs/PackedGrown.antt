@@ -26,18 +26,9 @@ use Rattle.std.proofs.Common.{
   min,
 }
 use Rattle.std.proofs.Common.{List, map, refl, replicate, set, suc, sym, take, true, ℕ}
-use Rattle.std.proofs.lemmas.Bool.{
-  cases_Bool,
-  cases_eq,
-  cases_lt,
-  eq-eqb,
-  le-leb,
-  le-ltb,
-  lt-leb,
-  lt-ltb,
-  ne_eqb,
-  or_left,
-}
+use Rattle.std.proofs.Common.{slice_index}
+use Rattle.fc_bytes.proofs.PackedRow.{count-cons}
+use Rattle.std.proofs.lemmas.Bool.{cases_Bool, cases_eq, eq-eqb, le-leb, ne_eqb, or_left}
 use Rattle.std.proofs.Math.Seq.{drop-cons, set-append_seam}
 use Rattle.std.proofs.lemmas.List.Elements.{filter_more}
 use Rattle.std.proofs.lemmas.List.Sums.{
@@ -62,7 +53,7 @@ use Rattle.std.proofs.lemmas.List.{
 }
 use Rattle.std.proofs.lemmas.List.FromFn.{get_or-map-range_with_len}
 use Rattle.std.specs.List.{filter, flat_map, insert, position_or_len, list_any}
-use Rattle.std.specs.Prelude.{nat_le, nat_lt, not}
+use Rattle.std.specs.Prelude.{nat_le, not}
 use Rattle.fc_card.specs.{places}
 use Rattle.fc_bytes.proofs.PackedBound.{any-append, before-later, before-there, zeros-first}
 use Rattle.fc_bytes.proofs.PackedRow.{
@@ -81,16 +72,16 @@ use Rattle.fc_bytes.specs.packed.{ended, row_digit}
 use Rattle.fc_bytes.specs.{padded}
 use Rattle.fc_bytes.specs.packing.{is_byte_of, is_end, IsRow, without_ends}
 
--- to be less than a byte is to be at most the card
-lower : (card item : ℕ) → nat_lt item (card + 1) ≡ nat_le item card
-lower card item = elim (cases_lt item (card + 1)) [
-  | inl less ↦ lt-ltb item (card + 1) less ∙ sym (le-leb item card (omega (arith, less)))
-  | inr more ↦ le-ltb item (card + 1) more ∙ sym (lt-leb item card (omega (arith, more)))
-]
-
-pub count-lower : (card : ℕ) (items : List ℕ) → count_by (λ item. nat_lt item (card + 1)) items
-    ≡ count_by (λ item. nat_le item card) items
-count-lower card items = λ i. count_by (λ item. lower card item i) items
+-- one item more is counted
+pub count-next : (card place : ℕ) (row : List ℕ) → place < length row →
+    count_by (λ item. nat_le item card) (take (place + 1) row)
+    ≡ count_by (λ item. nat_le item card) (take place row)
+    + cond (nat_le (get_or row place 0) card) 1 0
+count-next card place row inside =
+    let item = get_or row place 0 in
+    let one = count-cons (low card) item [] in
+    ap (count_by (low card)) (take_more row place 0 inside)
+    ∙ counts-append (low card) (take place row) (item ∷ []) ∙ omega (arith, one)
 
 -- a digit where the card is, and where it is not
 pub digit-there : (row : List ℕ) (card : ℕ) → list_any (here card) row ≡ true → row_digit row card
@@ -174,10 +165,10 @@ module _ (row : List ℕ) (place : ℕ) (inside : place < length row)
   -- a card gets its digit, and the others keep theirs
   one_card : (digits now : List ℕ) (own : ℕ) → digits ≡ map (row_digit front) (places 52) → own
       < 52 → byte ≡ own + 1 →
-      now ≡ set digits own (1 + count_by (λ item. nat_lt item byte) front) →
+      now ≡ set digits own (1 + count_by (λ item. nat_le item own) front) →
       now ≡ map (row_digit (take (place + 1) row)) (places 52)
   one_card digits now own so_far small is put =
-      let value = 1 + count_by (λ item. nat_lt item byte) front in
+      let value = 1 + count_by (λ item. nat_le item own) front in
       let old = map (row_digit front) (places 52) in
       let new = map (row_digit (front ++ byte ∷ [])) (places 52) in
       let long : length now ≡ 52 = ap length put ∙ length-set digits own value ∙ ap length so_far in
@@ -186,8 +177,6 @@ module _ (row : List ℕ) (place : ℕ) (inside : place < length row)
             ap (λ now. get_or now k d) (put ∙ ap (λ digits. set digits own value) so_far)
             ∙ ap (λ k. get_or (set old own value) k d) same
             ∙ get_or-set_same old own value d small
-            ∙ ap (λ byte. 1 + count_by (λ item. nat_lt item byte) front) is
-            ∙ ap (λ n. 1 + n) (count-lower own front)
             ∙ sym (ap (λ byte. row_digit (front ++ byte ∷ []) own) is
             ∙ new_digit front own (unseen own is))
             ∙ sym (get_or-map-range_with_len (row_digit (front ++ byte ∷ [])) 0 52 own own d small
@@ -204,25 +193,28 @@ module _ (row : List ℕ) (place : ℕ) (inside : place < length row)
       ]) in
       whole ∙ ap (λ row. map (row_digit row) (places 52)) (sym more)
 
-pub digits-next : (row : List ℕ) (place : ℕ) (digits now : List ℕ) → place < length row →
-    ((card : ℕ) → count_by (is_byte_of card) row ≤ 1) →
-    All (λ item. item ≤ 52) row → digits ≡ map (row_digit (take place row)) (places 52) →
-    now ≡ (cond (eqb (get_or row place 0) 0) digits
-    (set digits (get_or row place 0 - 1) (1 + count_by (λ item. nat_lt item (get_or row place 0))
-    (take place row)))) →
-    now ≡ map (row_digit (take (place + 1) row)) (places 52)
-digits-next row place digits now inside once bytes so_far put =
+pub digits-next : (row : List ℕ) (place : ℕ) (counts digits now : List ℕ) → place < length row
+    → ((card : ℕ) → count_by (is_byte_of card) row ≤ 1) → All (λ item. item ≤ 52) row
+    → ((card : ℕ) → card < 52
+    → slice_index counts card ≡ count_by (λ item. nat_le item card) (take place row))
+    → digits ≡ map (row_digit (take place row)) (places 52)
+    → now ≡ cond (eqb (get_or row place 0) 0) digits
+    (set digits (get_or row place 0 - 1) (1 + slice_index counts (get_or row place 0 - 1)))
+    → now ≡ map (row_digit (take (place + 1) row)) (places 52)
+digits-next row place counts digits now inside once bytes counted so_far put =
     let byte = get_or row place 0 in
-    let changed = set digits (byte - 1) (1 + count_by (λ item. nat_lt item byte) (take place row))
-    in
+    let within = bytes place 0 inside in
+    let value = λ (count : ℕ). set digits (byte - 1) (1 + count) in
+    let same = counted (byte - 1) (omega (arith, within)) in
+    let changed = value (count_by (λ item. nat_le item (byte - 1)) (take place row)) in
+    let put' = put ∙ ap (λ count. cond (eqb byte 0) digits (value count)) same in
     elim (cases_eq byte 0) [
-      | inl none ↦ no_card row place inside once digits now so_far none
-          (put ∙ ap (λ b. cond b digits changed) (eq-eqb byte 0 none))
+      | inl none ↦
+          no_card row place inside once digits now so_far none
+          (put' ∙ ap (λ b. cond b digits changed) (eq-eqb byte 0 none))
       | inr some ↦
-          let within = bytes place 0 inside in
           one_card row place inside once digits now (byte - 1) so_far (omega (arith, within, some))
-          (omega (arith, some))
-          (put ∙ ap (λ b. cond b digits changed) (ne_eqb byte 0 some))
+          (omega (arith, some)) (put' ∙ ap (λ b. cond b digits changed) (ne_eqb byte 0 some))
     ]
 
 -- ---- the row is found again
@@ -237,7 +229,8 @@ grow-next row is card digit items now here_is so_far put
           let own : digit - 1 ≡ rank card row = omega (arith, one) in
           put ∙ ap (λ b. cond b items (insert items (digit - 1) (card + 1)))
           (ne_eqb digit 0 (λ e. omega (arith, e, one)))
-          ∙ (λ i. insert (so_far i) (own i) (card + 1)) ∙ sym (present card row there (is.once card))
+          ∙ (λ i. insert (so_far i) (own i) (card + 1))
+          ∙ sym (present card row there (is.once card))
       | inr gone ↦
           let none = here_is ∙ digit-none row card gone in
           put ∙ ap (λ b. cond b items (insert items (digit - 1) (card + 1))) (eq-eqb digit 0 none)

@@ -243,7 +243,7 @@ fn are_laid(bytes: &[u8; 52], total: u8) -> bool
 
 /// The place as a byte, from a table. The compiler compares a place that is counted as a wide
 /// number, and so fewer places at once.
-fn place_as_byte(place: usize) -> u8
+pub(crate) fn place_as_byte(place: usize) -> u8
     requires { place < 52 }
     ensures { result ≡ place }
 {

@@ -1,14 +1,16 @@
 //! The digits of a row, and the row that has them.
 ghost use Rattle.{arrayvec.specs.ArrayVec.{array_vec_len}, fc_card.specs.{places}};
 ghost use Rattle.std.specs.{List.{count_by, insert}, Prelude.{◌+◌, ◌-◌, ◌<◌, ◌==◌, ◌↔◌, ◌≡◌, ◌≤◌}};
-ghost use Rattle.std.specs.Prelude.{All, IfSome, if◌then◌else◌, IsTrue, length, List, map, nat_lt};
+ghost use Rattle.std.specs.Prelude.{All, IfSome, if◌then◌else◌, IsTrue, length, List, map, nat_le};
 ghost use Rattle.std.specs.Prelude.{set, slice_index, Some, take, ℕ};
 ghost use Rattle.fc_board.specs.{Boards.{Board as Layout, IsWellFormed}, Games.{Game}};
 ghost use Rattle.fc_bytes.specs.{packed.{in_order, row, row_digit}, packing.{is_byte_of, IsRow}};
 
+use crate::board::place_as_byte;
 use arrayvec::ArrayVec;
 
-/// The digits of the cards of the row.
+/// The digits of the cards of the row. For each card it is kept how many of the items so far are
+/// less than its byte: so a digit is there when its card comes.
 pub(crate) fn digits_of(row: &[u8]) -> [u8; 52]
     requires few { length row.now ≤ 61 }
     requires once { (card : ℕ) → count_by (is_byte_of card) row.now ≤ 1 }
@@ -16,39 +18,38 @@ pub(crate) fn digits_of(row: &[u8]) -> [u8; 52]
     ensures { result ≡ map (row_digit row.now) (places 52) }
 {
     let mut digits = [0; 52];
+    let mut counts = [0; 52];
     for place in 0..row.len() {
-        put_digit(&mut digits, row, place);
+        put_digit(&mut digits, &counts, row[place]);
+        count_item(&mut counts, row[place]);
     }
     digits
 }
 
-/// Puts the digit of the card that is at this place of the row, if one is.
-fn put_digit(digits: &mut [u8; 52], row: &[u8], place: usize)
-    requires few { length row.now ≤ 61 }
-    requires inside { place < length row.now }
-    requires bytes { All (λ item. item ≤ 52) row.now }
-    ensures { digits.new ≡ (if slice_index row.now place == 0 then digits.old
-        else set digits.old (slice_index row.now place - 1)
-        (1 + count_by (λ item. nat_lt item (slice_index row.now place)) (take place row.now))) }
+/// Puts the digit of the card with this byte, if it is that of one.
+fn put_digit(digits: &mut [u8; 52], counts: &[u8; 52], byte: u8)
+    requires byte { byte ≤ 52 }
+    requires room { (card : ℕ) → slice_index counts.now card ≤ 61 }
+    ensures { digits.new ≡ (if byte == 0 then digits.old
+        else set digits.old (byte - 1) (1 + slice_index counts.now (byte - 1))) }
 {
-    let byte = row[place];
     if byte != 0 {
-        digits[usize::from(byte) - 1] = 1 + count_below(row, place, byte);
+        let card = usize::from(byte) - 1;
+        digits[card] = 1 + counts[card];
     }
 }
 
-/// How many of the items before this place are less than the byte.
-fn count_below(row: &[u8], place: usize, byte: u8) -> u8
-    requires few { place ≤ 61 }
-    requires inside { place ≤ length row.now }
-    ensures count { result ≡ count_by (λ item. nat_lt item byte) (take place row.now) }
-    ensures within { result ≤ place }
+/// Counts an item more for each card that it is less than the byte of. All cards are looked at, so
+/// that many are counted at once.
+fn count_item(counts: &mut [u8; 52], item: u8)
+    requires { (card : ℕ) → slice_index counts.old card ≤ 61 }
+    ensures counts { (card : ℕ) → card < 52 → slice_index counts.new card
+        ≡ slice_index counts.old card + (if nat_le item card then 1 else 0) }
+    ensures size { length counts.new ≡ 52 }
 {
-    let mut count = 0;
-    for at in 0..place {
-        count += u8::from(row[at] < byte);
+    for card in 0..52 {
+        counts[card] += u8::from(item <= place_as_byte(card));
     }
-    count
 }
 
 /// The row whose cards have these digits, or `None` where a digit is too great. The cards are put
