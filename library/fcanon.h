@@ -20,7 +20,8 @@
  *
  * What is stable. A later version may add calls and answers, and then FCANON_VERSION is greater.
  * As long as the SONAME is the same, no call, type or number of this header changes its meaning.
- * Nor do the bytes of boards, keys, hashes of both kinds, passages and moves: they may be kept in files.
+ * Nor do the bytes of boards, keys, packed boards, hashes of both kinds, passages and moves: they may be
+ * kept in files.
  * The words of answers may change.
  */
 #ifndef FCANON_H
@@ -115,6 +116,12 @@ typedef struct fcanon_run_move {
 typedef struct fcanon_class_sums {
     uint64_t sums[24][2];
 } fcanon_class_sums;
+
+/* A board in 32 bytes: the same for boards that differ in the order of their columns and of their cells
+ * alone. */
+typedef struct fcanon_packed {
+    uint8_t bytes[32]; /* one number, its lowest byte first */
+} fcanon_packed;
 
 /* What a card lies on, in place of the byte of a card: 1 to 52 is that card. */
 #define FCANON_ON_FOOT 0  /* the foot of a column */
@@ -223,6 +230,19 @@ FCANON_CALL uint32_t fcanon_move_sums(uint32_t game, uint8_t card, uint8_t from,
  * SipHash each. So take it for no more than 64 good bits, by which two of n classes meet with a chance of
  * n * n / 2^65; and where a wrong match would do harm, compare the keys. */
 FCANON_CALL uint32_t fcanon_class_hash(uint32_t game, const fcanon_class_sums *sums, uint8_t hash[16]);
+
+/* Packs a board into 32 bytes. Two boards of a game have the same exactly if orders of columns and cells
+ * lead from the one to the other; so two boards have one key exactly if their keys are packed into the
+ * same bytes. These are a number, its lowest byte first, which has a digit for each card, that of card 1
+ * the lowest. The digit of card c is 0 to c + 8, and at most 2 * c: 0 where the card is home, else one more
+ * than the bytes less than c before it in this row: the cards in cells, the least first, and 0; then of each
+ * column its cards, and 0. The columns come in the order of their least cards, empty ones last. */
+FCANON_CALL uint32_t fcanon_pack(uint32_t game, const fcanon_board *board, fcanon_packed *packed);
+
+/* The board that was packed, with its columns in the order of their least cards and its cells in that of
+ * their cards, empty ones last. Its key is that of the board that was packed. Where no board of the game
+ * is packed into these bytes, the answer is FCANON_NO_BOARD. */
+FCANON_CALL uint32_t fcanon_unpack(uint32_t game, const fcanon_packed *packed, fcanon_board *board);
 
 /* The canonical board of the board after a move, and the passage to it from the board after the
  * move: fcanon_play, and then fcanon_canon. The board stays. */

@@ -13,6 +13,7 @@ ASSERT(passage_cells, offsetof(fcanon_passage, cells) == 12);
 ASSERT(move_size, sizeof(fcanon_move) == 2);
 ASSERT(run_size, sizeof(fcanon_run_move) == 3);
 ASSERT(run_count, offsetof(fcanon_run_move, count) == 2);
+ASSERT(packed_size, sizeof(fcanon_packed) == 32);
 ASSERT(class_sums_size, sizeof(fcanon_class_sums) == 384);
 ASSERT(further_answers, FCANON_NO_COLUMN == 8 && FCANON_NO_ROOM == 9 && FCANON_WRONG_COUNT == 40 && FCANON_REPEATED_LINE == 64);
 ASSERT(answers, FCANON_NO_DEAL == 7 && FCANON_NOT_NEXT == 37 && FCANON_REPEATED_CARD == 69);

@@ -71,6 +71,14 @@ static void try_keys(uint32_t game, const fcanon_board *board) {
     add_number(place);
 }
 
+static void try_packed(uint32_t game, const fcanon_board *board) {
+    fcanon_packed packed = {{0}};
+    fcanon_board again = {{0}, {0}, {0}, {0}};
+    did(fcanon_pack(game, board, &packed), &packed, sizeof packed);
+    if (chance(5) == 0) packed.bytes[chance(32)] ^= (uint8_t)(1 << chance(8));
+    did(fcanon_unpack(game, &packed, &again), &again, sizeof again);
+}
+
 static void try_sums(uint32_t game, const fcanon_board *board) {
     fcanon_class_sums sums = {{{0}}};
     uint8_t hash[16] = {0}, card = (uint8_t)chance(55), from = (uint8_t)chance(56), onto = (uint8_t)chance(57);
@@ -144,6 +152,7 @@ int main(int argc, char **argv) {
         fcanon_board board = any_board(game);
         try_texts(game, &board);
         try_keys(game, &board);
+        try_packed(game, &board);
         try_sums(game, &board);
         try_children(game, &board);
         try_lists(game, &board);

@@ -35,6 +35,7 @@ static void call_each(uint32_t deal, const fcanon_board *board, const fcanon_mov
     char text[256];
     uint8_t hash[16], suits[24][4];
     fcanon_class_sums sums;
+    fcanon_packed packed;
     uint32_t cards;
     const char *words;
     size_t place;
@@ -55,6 +56,8 @@ static void call_each(uint32_t deal, const fcanon_board *board, const fcanon_mov
     fcanon_sums(GAME, board, &sums);
     fcanon_move_sums(GAME, 7, 30, FCANON_ON_CELL, &sums);
     fcanon_class_hash(GAME, &sums, hash);
+    fcanon_pack(GAME, board, &packed);
+    fcanon_unpack(GAME, &packed, &other);
     fcanon_child(GAME, board, move, &other, &back);
     fcanon_carry(GAME, &passage, &image);
     fcanon_carry_run(GAME, &passage, &carried);
