@@ -68,6 +68,9 @@ export class Board {
   static deal(number: number, game?: Game): Board;
   /** The board of these 72 bytes, which fcanon.h describes. */
   static fromBytes(bytes: Uint8Array, game?: Game): Board;
+  /** The board of these 32 bytes, which `packed` gives, with its columns in the order of their least cards and its cells in
+   * that of their cards, empty ones last. */
+  static fromPacked(bytes: Uint8Array, game?: Game): Board;
   readonly game: Game;
   /** A copy of the 72 bytes. */
   readonly bytes: Uint8Array;
@@ -77,6 +80,9 @@ export class Board {
   readonly isWon: boolean;
   /** Whether the boards are one, card for card. */
   equals(other: Board): boolean;
+  /** The board in 32 bytes, the same for boards that differ in the order of their columns and of their cells alone: those of
+   * canonical boards are short keys. */
+  packed(): Uint8Array;
   /** The canonical board of all that are equivalent to this one. */
   canonical(): Board;
   /** The canonical board, and the passage to it. */

@@ -187,6 +187,13 @@ export class Board {
     return new Board(new Made(board), game);
   }
 
+  static fromPacked(bytes, game = 'freecell') {
+    if (bytes.length !== 32) throw new FcanonError(4);
+    const board = new Uint8Array(72);
+    call('unpack', game, Uint8Array.from(bytes), board);
+    return new Board(new Made(board), game);
+  }
+
   get bytes() {
     return this.#bytes.slice();
   }
@@ -209,6 +216,12 @@ export class Board {
 
   equals(other) {
     return this.game === other.game && this.#bytes.every((byte, at) => byte === other.#bytes[at]);
+  }
+
+  packed() {
+    const packed = new Uint8Array(32);
+    call('pack', this.game, this.bytes, packed);
+    return packed;
   }
 
   canonical() {

@@ -359,6 +359,28 @@ static PyObject *board_from_bytes(PyObject *type, PyObject *words, PyObject *nam
     return (PyObject *)made;
 }
 
+static PyObject *board_from_packed(PyObject *type, PyObject *words, PyObject *names) {
+    int game;
+    PyObject *data = bytes_of(argument(words, names, "bytes_", &game));
+    if (!data) return NULL;
+    Board *made = NULL;
+    fcanon_packed packed;
+    if (PyBytes_Size(data) != sizeof packed) {
+        refuse(FCANON_NO_BOARD, -1);
+    } else if ((made = new_board(game))) {
+        memcpy(&packed, PyBytes_AsString(data), sizeof packed);
+        made = (Board *)given(made, fcanon_unpack(game, &packed, &made->board));
+    }
+    Py_DECREF(data);
+    return (PyObject *)made;
+}
+
+static PyObject *board_packed(Board *self, PyObject *unused) {
+    fcanon_packed packed;
+    uint32_t answer = fcanon_pack(self->game, &self->board, &packed);
+    return answer ? refuse(answer, -1) : PyBytes_FromStringAndSize((const char *)&packed, sizeof packed);
+}
+
 static PyObject *board_canonical(Board *self, PyObject *unused) {
     Board *made = new_board(self->game);
     return made ? given(made, fcanon_key(self->game, &self->board, &made->board)) : NULL;
@@ -689,6 +711,11 @@ static PyMethodDef board_methods[] = {
            "One of Microsoft's numbered deals, of FreeCell or Baker's Game."),
     METHOD("from_bytes", board_from_bytes, BY_NAME | METH_CLASS,
            "The board of these 72 bytes, which fcanon.h describes."),
+    METHOD("from_packed", board_from_packed, BY_NAME | METH_CLASS,
+           "The board of these 32 bytes, which packed gives, with its columns and its cells in order."),
+    METHOD("packed", board_packed, METH_NOARGS,
+           "The board in 32 bytes, the same for boards that differ in the order of their columns and\n"
+           "of their cells alone: those of canonical boards are short keys."),
     METHOD("canonical", board_canonical, METH_NOARGS,
            "The canonical board of all that are equivalent to this one."),
     METHOD("canonical_hash", board_canonical_hash, METH_NOARGS,

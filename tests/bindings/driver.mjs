@@ -27,6 +27,9 @@ function tellBoard(board) {
   said.push(`key ${hexOf(canonical.bytes)} ${hexOf(board.canonicalHash())}`);
   said.push(`class ${hexOf(board.classSums().classHash())}`);
   assert.deepEqual(board.classSums().classHash(), canonical.classSums().classHash());
+  said.push(`packed ${hexOf(board.packed())} ${hexOf(canonical.packed())}`);
+  const ordered = Board.fromPacked(board.packed(), board.game);
+  assert.deepEqual([ordered.packed(), ordered.canonical().bytes], [board.packed(), canonical.bytes]);
   said.push(`symmetries ${board.symmetries().join(' ')}`);
   assert(passage.image(board).equals(canonical) && passage.inverse().image(canonical).equals(board));
   assert(passage.followedBy(passage.inverse()).image(board).equals(board));
@@ -115,9 +118,10 @@ function tellAnswers(seed, rounds) {
     const board = Board.deal(draw() % 1000 + 1);
     const bytes = damaged(draw, board.bytes);
     const passage = damaged(draw, board.canonicalize().passage.bytes);
+    const packed = damaged(draw, board.packed());
     const move = signs[draw() % signs.length] + signs[draw() % signs.length];
     const asked = [() => Board.fromBytes(bytes, game), () => new Passage(passage, game),
-      () => board.play(move), () => board.playRun(`${move}v3`)];
+      () => Board.fromPacked(packed, game), () => board.play(move), () => board.playRun(`${move}v3`)];
     for (const call of asked) total = (Math.imul(31, total) + answerTo(call)) >>> 0;
   }
   said.push(`answers ${total}`);

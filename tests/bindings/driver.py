@@ -36,6 +36,9 @@ def tell_board(board):
     print("key", bytes(canonical).hex(), board.canonical_hash().hex())
     print("class", board.class_sums().class_hash().hex())
     assert board.class_sums().class_hash() == canonical.class_sums().class_hash()
+    print("packed", board.packed().hex(), canonical.packed().hex())
+    ordered = Board.from_packed(board.packed(), board.game)
+    assert (ordered.packed(), ordered.canonical()) == (board.packed(), canonical)
     print("symmetries", *board.symmetries())
     assert passage.image(board) == canonical and passage.inverse().image(canonical) == board
     assert passage.then(passage.inverse()).image(board) == board
@@ -111,6 +114,7 @@ def tell_answers(seed, rounds):
         board = Board.deal(next(draw) % 1000 + 1)
         asked = [(Board.from_bytes, damaged(draw, bytes(board)), game)]
         asked += [(Passage.from_bytes, damaged(draw, bytes(board.canonicalize()[1])), game)]
+        asked += [(Board.from_packed, damaged(draw, board.packed()), game)]
         move = signs[next(draw) % len(signs)] + signs[next(draw) % len(signs)]
         asked += [(board.play, move), (board.play_run, move + "v3")]
         for it in asked:

@@ -14,6 +14,13 @@ a renaming of suits that keeps the building rule lead from the one to the other.
 never change, are equal, hashed and ordered by their games and bytes, and so are keys of sets and
 dicts.
 
+packed gives a board in 32 bytes, the same in whichever order its columns and its cells are. So the
+packed bytes of canonical boards are their keys in files and tables.
+
+>>> key = canonical.packed()
+>>> len(key), Board.from_packed(key).canonical() == canonical
+(32, True)
+
 The class_sums of a board are kept up to date by the one card that a move touches, and their class_hash
 is one for equivalent boards: a search hashes classes by it, and no canonical board is made.
 

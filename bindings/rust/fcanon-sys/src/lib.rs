@@ -51,6 +51,14 @@ pub struct fcanon_run_move {
     pub count: u8,
 }
 
+/// A board in 32 bytes, the same in whichever order its columns and its cells are.
+#[repr(C)]
+#[derive(Clone, Copy, PartialEq, Eq, PartialOrd, Ord, Hash, Debug)]
+pub struct fcanon_packed {
+    /// One number, its lowest byte first.
+    pub bytes: [u8; 32],
+}
+
 /// The sums of a board: 384 bytes, one sum for each renaming, in two words of which the lower is first.
 #[repr(C)]
 #[derive(Clone, Copy, PartialEq, Eq, PartialOrd, Ord, Hash, Debug)]
@@ -103,11 +111,7 @@ extern "C" {
         place: *mut usize,
     ) -> u32;
     pub fn fcanon_hash(game: u32, board: *const fcanon_board, hash: *mut [u8; 16]) -> u32;
-    pub fn fcanon_sums(
-        game: u32,
-        board: *const fcanon_board,
-        sums: *mut fcanon_class_sums,
-    ) -> u32;
+    pub fn fcanon_sums(game: u32, board: *const fcanon_board, sums: *mut fcanon_class_sums) -> u32;
     pub fn fcanon_move_sums(
         game: u32,
         card: u8,
@@ -115,11 +119,10 @@ extern "C" {
         onto: u8,
         sums: *mut fcanon_class_sums,
     ) -> u32;
-    pub fn fcanon_class_hash(
-        game: u32,
-        sums: *const fcanon_class_sums,
-        hash: *mut [u8; 16],
-    ) -> u32;
+    pub fn fcanon_class_hash(game: u32, sums: *const fcanon_class_sums, hash: *mut [u8; 16])
+        -> u32;
+    pub fn fcanon_pack(game: u32, board: *const fcanon_board, packed: *mut fcanon_packed) -> u32;
+    pub fn fcanon_unpack(game: u32, packed: *const fcanon_packed, board: *mut fcanon_board) -> u32;
     pub fn fcanon_child(
         game: u32,
         board: *const fcanon_board,

@@ -26,6 +26,9 @@ fn tell_board(board: &Board) {
     println!("key {} {}", hex_of(&packed(canonical.bytes())), hex_of(&board.canonical_hash()));
     println!("class {}", hex_of(&board.class_sums().class_hash()));
     assert_eq!(board.class_sums().class_hash(), canonical.class_sums().class_hash());
+    println!("packed {} {}", hex_of(&board.packed()), hex_of(&canonical.packed()));
+    let ordered = Board::from_packed(board.game(), board.packed()).unwrap();
+    assert_eq!((ordered.packed(), ordered.canonical()), (board.packed(), canonical));
     let letters = |suits: [u8; 4]| suits.map(|it| char::from(b"CDHS"[usize::from(it)]));
     let names = board.symmetries().flat_map(|suits| [' '].into_iter().chain(letters(suits)));
     println!("symmetries{}", names.collect::<String>());
@@ -168,11 +171,13 @@ fn tell_answers(seed: u32, rounds: u32) {
         let board = Board::deal(Game::FreeCell, draw.below(1000) as u32 + 1).unwrap();
         let bytes = draw.damaged((*board.bytes()).into());
         let passage = draw.damaged((*board.canonicalize().1.bytes()).into());
+        let short = draw.damaged(board.packed());
         let mv: String = (0..2).map(|_| signs[draw.below(signs.len())]).collect();
         let (mut one, mut other) = (board, board);
         let answers = [
             answer_to(Board::from_bytes(game, bytes)),
             answer_to(Passage::from_bytes(game, passage)),
+            answer_to(Board::from_packed(game, short)),
             answer_to(mv.parse().and_then(|it| one.play(it))),
             answer_to(format!("{mv}v3").parse().and_then(|it| other.play_run(it))),
         ];
