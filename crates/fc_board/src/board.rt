@@ -5,7 +5,8 @@ ghost use Rattle.std.specs.Prelude.{slice_index, take};
 ghost use Rattle.fc_card.specs.{AreCountsOf, suit_number};
 ghost use Rattle.fc_board.specs.Boards.{board_of_parts, empty_cells_of, empty_columns_of};
 ghost use Rattle.fc_board.specs.Boards.{HasEachCardOnce, IsDeckFault, IsWellFormed};
-ghost use Rattle.fc_board.specs.{inside.{AscendTo, board_of_laid, columns_from}, Play.{IsWon}};
+ghost use Rattle.fc_board.specs.inside.{AreBounds, AscendTo, board_of_laid, columns_between};
+ghost use Rattle.fc_board.specs.{inside.{columns_from}, Play.{IsWon}};
 ghost use Rattle.fc_board.specs.Steps.{cell_at, column_at, height_of};
 
 use crate::{Columns, DeckFault, Height, Rule, cards_of_columns, deck_fault};
@@ -146,6 +147,16 @@ impl<R: Rule> Board<R> {
         ensures well_formed { IsWellFormed R.game self.now }
     {
         self.columns.column(i)
+    }
+
+    /// The cards of the columns end to end, and where each column begins among them, and where the
+    /// last one ends.
+    pub fn laid(&self) -> (&[Card; 52], &[u8; 9])
+        ensures columns { columns_between result.0.now result.1.now ≡ self.now.columns }
+        ensures bounds { AreBounds result.1.now 52 }
+        ensures well_formed { IsWellFormed R.game self.now }
+    {
+        self.columns.laid()
     }
 
     /// The card in the cell with this index from 0, or `None` where the cell is empty.

@@ -67,6 +67,14 @@ impl Columns {
         column_at(&self.cards, &self.bounds, i)
     }
 
+    /// The cards end to end, and where each column begins among them, and where the last one ends.
+    pub fn laid(&self) -> (&[Card; 52], &[u8; 9])
+        ensures columns { columns_between result.0.now result.1.now ≡ self.now }
+        ensures bounds { AreBounds result.1.now 52 }
+    {
+        (&self.cards, &self.bounds)
+    }
+
     /// The same columns once more.
     pub fn copy(&self) -> Columns
         ensures { result ≡ self.now }

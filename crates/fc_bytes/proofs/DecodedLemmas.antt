@@ -19,7 +19,7 @@ use Rattle.std.specs.Prelude.{min}
 use Rattle.fc_card.specs.{IsCard, places}
 use Rattle.fc_board.proofs.BoardLemmas.{in_cells, in_columns, parts_same}
 use Rattle.fc_board.specs.{Boards.{Board, IsWellFormed}, Games.{Game}}
-use Rattle.fc_board.specs.Steps.{cell_at, column_at, height_of}
+use Rattle.fc_board.specs.Steps.{cell_at, height_of}
 use Rattle.fc_board.specs.inside.{board_of_laid, columns_from}
 use Rattle.fc_board.specs.laws.ListWords.{IsCell}
 use Rattle.fc_bytes.specs.{board_bytes, cell_byte, HoldsBoard, padded}
@@ -111,10 +111,6 @@ columns_back (column ∷ columns) left deck =
 module _ (game : Game) (board : Board) (well : IsWellFormed game board) (few : game.cells ≤ 8) where
   pub heights_back : map (height_of board) (places 4) ≡ board.heights
   heights_back = all_places (height_of board) board.heights 0 4 well.piles.four_foundations (λ i h. refl)
-
-  pub lengths_back : map (λ column. length (column_at board column)) (places 8) ≡ map length board.columns
-  lengths_back = all_places (λ column. length (column_at board column)) (map length board.columns) 0 8 (length-map board.columns length ∙ well.piles.eight_columns)
-      (λ i h. sym (get_or-map length board.columns i [] 0 (omega (arith, well.piles.eight_columns))))
 
   is_cell : (place : ℕ) → IsCell (cell_at board place)
   is_cell place = elim (cases_lt place (length board.cells)) [

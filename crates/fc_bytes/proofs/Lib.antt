@@ -1,5 +1,6 @@
 mod CarriedBytes
 mod ExactBytes
+mod LaidBytes
 pub mod DecodedLemmas
 pub mod MovesDecoded
 pub mod PassageDecoded

@@ -114,7 +114,9 @@ use Rattle.fc_bytes.proofs.PackedNumber.{number-fits}
 use Rattle.fc_bytes.proofs.PutCards.{cards_fit}
 use Rattle.std.proofs.Math.Seq.{take-append_seam}
 use Rattle.std.proofs.lemmas.List.{length-replicate}
+use Rattle.std.proofs.lemmas.Simd.{map-map}
 use Rattle.std.specs.List.{position_or_len}
+use lib.LanesLaws.{map-replicate}
 use lib.Pointwise.{pointwise}
 use Rattle.std.specs.Prelude.{not}
 use Rattle.fc_bytes.proofs.PackedGrown.{
@@ -533,39 +535,51 @@ cells-more cells place inside =
     (get_or cells place None ∷ []) ∙ ap (λ back. front ++ back) (append-nil next))
     ∙ map-append (λ card. card + 1) front next
 
--- ---- the bytes of a board in order
-nones-last : (cells : List (Option ℕ)) → AllByRecursion (λ other. 52 ≤ least_of_cell other) cells →
+-- ---- cells in order are known by their cards
+nones-all : (cells : List (Option ℕ)) → AllByRecursion (λ other. 52 ≤ least_of_cell other) cells →
     ((k : ℕ) (d : Option ℕ) → k < length cells → IsCell (get_or cells k d)) →
-    (flat_map option_to_list cells ≡ []) × (map cell_byte cells ≡ replicate (length cells) 0)
-nones-last [] above are = (refl, refl)
-nones-last (None ∷ cells) above are =
-    let (none, zeros) = nones-last cells above.1
+    (flat_map option_to_list cells ≡ []) × (cells ≡ replicate (length cells) None)
+nones-all [] above are = (refl, refl)
+nones-all (None ∷ cells) above are =
+    let (none, rest) = nones-all cells above.1
     (λ k d inside. are (suc k) d (omega (arith, inside))) in
-    (none, ap (λ rest. 0 ∷ rest) zeros)
-nones-last (Some card ∷ cells) above are =
+    (none, ap (λ rest. None ∷ rest) rest)
+nones-all (Some card ∷ cells) above are =
     let small : card < 52 = are 0 None (omega arith) in
     absurd (omega (arith, above.0, small))
 
+pub cells-form : (cells : List (Option ℕ)) → AscendBy least_of_cell cells →
+    ((k : ℕ) (d : Option ℕ) → k < length cells → IsCell (get_or cells k d)) →
+    cells ≡ map (λ card. Some card) (flat_map option_to_list cells)
+    ++ replicate (length cells - length (flat_map option_to_list cells)) None
+cells-form [] up are = refl
+cells-form (None ∷ cells) up are =
+    let (none, all) = nones-all (None ∷ cells) (omega arith, up.0) are in
+    let count = length (None ∷ cells) in
+    let same : count ≡ count - length (flat_map option_to_list (None ∷ cells)) = omega
+    (arith, ap length none) in
+    all ∙ ap (λ n. replicate n None) same
+    ∙ ap (λ cards. map (λ card. Some card) cards
+    ++ replicate (count - length (flat_map option_to_list (None ∷ cells))) None) (sym none)
+cells-form (Some card ∷ cells) up are =
+    let rest = cells-form cells up.1 (λ k d inside. are (suc k) d (omega (arith, inside))) in
+    let fewer : length cells - length (flat_map option_to_list cells)
+    ≡ length (Some card ∷ cells) - length (flat_map option_to_list (Some card ∷ cells)) = omega
+    arith in
+    ap (λ rest. Some card ∷ rest) (rest ∙ ap (λ n. map (λ card. Some card)
+    (flat_map option_to_list cells) ++ replicate n None) fewer)
+
+-- ---- the bytes of a board in order
 cells-bytes : (cells : List (Option ℕ)) → AscendBy least_of_cell cells →
     ((k : ℕ) (d : Option ℕ) → k < length cells → IsCell (get_or cells k d)) →
     map cell_byte cells ≡ map (λ card. card + 1) (flat_map option_to_list cells)
     ++ replicate (length cells - length (flat_map option_to_list cells)) 0
-cells-bytes [] up are = refl
-cells-bytes (None ∷ cells) up are =
-    let (none, zeros) = nones-last (None ∷ cells) (omega arith, up.0) are in
-    let count = length (None ∷ cells) in
-    let same : count ≡ count - length (flat_map option_to_list (None ∷ cells)) = omega
-    (arith, ap length none) in
-    zeros ∙ ap (λ n. replicate n 0) same
-    ∙ ap (λ cards. map (λ card. card + 1) cards
-    ++ replicate (count - length (flat_map option_to_list (None ∷ cells))) 0) (sym none)
-cells-bytes (Some card ∷ cells) up are =
-    let rest = cells-bytes cells up.1 (λ k d inside. are (suc k) d (omega (arith, inside))) in
-    let fewer : length cells - length (flat_map option_to_list cells)
-    ≡ length (Some card ∷ cells) - length (flat_map option_to_list (Some card ∷ cells)) = omega
-    arith in
-    ap (λ rest. (card + 1) ∷ rest) (rest ∙ ap
-    (λ n. map (λ card. card + 1) (flat_map option_to_list cells) ++ replicate n 0) fewer)
+cells-bytes cells up are =
+    let cards = flat_map option_to_list cells in
+    let more = length cells - length cards in
+    ap (map cell_byte) (cells-form cells up are)
+    ∙ map-append cell_byte (map (λ card. Some card) cards) (replicate more None)
+    ∙ (λ i. map-map cell_byte (λ card. Some card) cards i ++ map-replicate cell_byte more None i)
 
 -- zeros at the end are among those that fill up
 padded-zeros : (items : List ℕ) (more : ℕ) → length items + more ≤ 8 →

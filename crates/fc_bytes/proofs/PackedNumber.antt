@@ -20,7 +20,6 @@ use Rattle.std.proofs.Common.{
   length-drop,
   List,
   mod-lt,
-  set,
   take,
   refl,
   subst,
@@ -40,14 +39,15 @@ use Rattle.std.proofs.Math.Nat.{
   mul_comm,
   pow-suc,
 }
-use Rattle.std.proofs.Math.Seq.{drop-cons}
+use Rattle.std.proofs.Math.Seq.{take-add}
 use Rattle.std.proofs.lemmas.Bool.{ltb-true}
 use Rattle.std.proofs.lemmas.Grind.{flat_map-append}
 use Rattle.std.proofs.lemmas.List.{
   append-nil,
-  get_or-set_same,
-  length-set,
-  take-set,
+  drop-drop,
+  drop_more,
+  length-take-le,
+  take-append-drop,
   take_all,
   take_more,
 }
@@ -57,7 +57,7 @@ use Rattle.std.specs.{
   Int.{byte_at, bytes_low_first, to_le_bytes, w32},
 }
 use Rattle.fc_bytes.specs.packed.{digit_count, mixed_number}
-use Rattle.fc_bytes.specs.packing.{AreDigits, divided, left_of, word_number, words_below}
+use Rattle.fc_bytes.specs.packing.{AreDigits, choices, divided, left_of, word_number, words_below}
 
 -- ---- the digits are found again
 turned : (card digit rest : ℕ) → digit + digit_count card * rest ≡ rest * digit_count card + digit
@@ -78,10 +78,6 @@ same_digits card (digit ∷ digits) (other ∷ others) are are' long same =
     λ i. here i ∷ later i
 
 -- ---- the number is below the product of how many digits there can be
-abbrev pub choices : ℕ → ℕ → ℕ
-choices card zero = 1
-choices card (suc count) = choices (card + 1) count * digit_count card
-
 pub number-bound : (card : ℕ) (digits : List ℕ) → AreDigits card digits → mixed_number card digits
     < choices card (length digits)
 number-bound card [] are = omega arith
@@ -340,54 +336,132 @@ digits-fit place digits are all few =
     (digits-from 0 place digits are))
     (omega (arith, length-drop place digits, all, few))
 
-pub number-next : (place : ℕ) (digits : List ℕ) → place < length digits →
-    mixed_number place (drop place digits) ≡ get_or digits place 0 + digit_count place *
-    mixed_number (place + 1) (drop (place + 1) digits)
-number-next place digits inside =
-    let next : suc place ≡ place + 1 = omega arith in
-    ap (mixed_number place) (drop-cons digits place 0 inside)
-    ∙ ap (λ count. get_or digits place 0 + digit_count place * mixed_number (place + 1)
-    (drop count digits)) next
+-- the digit of this card, and those of the cards after it
+pub digits-next : (card next count : ℕ) (digits : List ℕ) → next ≡ card + 1 → card < length digits →
+    get_or digits card 0 + digit_count card * mixed_number next (take count (drop next digits))
+    ≡ mixed_number card (take (suc count) (drop card digits))
+digits-next card next count digits is inside =
+    ap (λ next. get_or digits card 0
+    + digit_count card * mixed_number next (take count (drop next digits))) is
+    ∙ ap (λ rest. mixed_number card (take (suc count) rest)) (sym (drop_more digits card 0 inside))
 
--- each digit is one of those of its card
-digit-there : (place : ℕ) (digits : List ℕ) → AreDigits 0 digits → place < length digits →
-    get_or digits place 0 < digit_count place
-digit-there place digits are inside =
-    let same : 0 + place ≡ place = omega arith in
-    let here = subst (λ card. AreDigits card (drop place digits)) same
-    (digits-from 0 place digits are) in
-    (subst (AreDigits place) (drop-cons digits place 0 inside) here).0
+-- digits below others
+digits-below : (card : ℕ) (low high : List ℕ) → mixed_number card (low ++ high)
+    ≡ mixed_number card low + choices card (length low) * mixed_number (card + length low) high
+digits-below card [] high =
+    let same : card ≡ card + 0 = omega arith in
+    ap (λ card. mixed_number card high) same ∙ omega arith
+digits-below card (digit ∷ low) high =
+    let count = digit_count card in
+    let fewer = choices (card + 1) (length low) in
+    let above = mixed_number (card + 1 + length low) high in
+    let same : card + 1 + length low ≡ card + suc (length low) = omega arith in
+    ap (λ rest. digit + count * rest) (digits-below (card + 1) low high)
+    ∙ omega (
+      arith,
+      mul-add count (mixed_number (card + 1) low) (fewer * above),
+      sym (mul_assoc count fewer above),
+      ap (λ product. product * above) (mul_comm count fewer),
+    )
+    ∙ ap (λ card'. mixed_number card (digit ∷ low) + fewer * count * mixed_number card' high) same
+
+-- the four digits from this card on
+abbrev pub four_from : ℕ → List ℕ → List ℕ
+four_from card digits = take 4 (drop card digits)
+
+pub four-long : (card : ℕ) (digits : List ℕ) → card + 4 ≤ length digits →
+    length (four_from card digits) ≡ 4
+four-long card digits inside =
+    length-take-le 4 (drop card digits) (omega (arith, length-drop card digits, inside))
+
+-- they are the lowest of the number that all digits from this card on make
+four-below : (card : ℕ) (digits : List ℕ) → card + 4 ≤ length digits →
+    choices card 4 * mixed_number (card + 4) (drop (card + 4) digits)
+    + mixed_number card (four_from card digits) ≡ mixed_number card (drop card digits)
+four-below card digits inside =
+    let four = four_from card digits in
+    let rest = drop 4 (drop card digits) in
+    let long = four-long card digits inside in
+    let whole = ap (mixed_number card) (sym (take-append-drop 4 (drop card digits)))
+    ∙ digits-below card four rest
+    ∙ (λ i. mixed_number card four + choices card (long i)
+    * mixed_number (card + long i) (drop-drop 4 card digits i)) in
+    omega (arith, whole)
+
+pub four-added : (card above factor low rest : ℕ) (digits : List ℕ) → above ≡ card + 4 →
+    card + 4 ≤ length digits → factor ≡ choices card 4 →
+    low ≡ mixed_number card (four_from card digits) →
+    rest ≡ mixed_number above (drop above digits) →
+    factor * rest + low ≡ mixed_number card (drop card digits)
+four-added card above factor low rest digits is inside count four more =
+    let higher = more ∙ ap (λ above. mixed_number above (drop above digits)) is in
+    (λ i. count i * higher i + four i) ∙ four-below card digits inside
+
+digits-before : (card count : ℕ) (digits : List ℕ) → AreDigits card digits →
+    AreDigits card (take count digits)
+digits-before card zero digits are = tt
+digits-before card (suc count) [] are = tt
+digits-before card (suc count) (digit ∷ digits) are =
+    (are.0, digits-before (card + 1) count digits are.1)
+
+pub four-digits : (card : ℕ) (digits : List ℕ) → AreDigits 0 digits →
+    AreDigits card (four_from card digits)
+four-digits card digits are =
+    let same : 0 + card ≡ card = omega arith in
+    digits-before card 4 (drop card digits)
+    (subst (λ card'. AreDigits card' (drop card digits)) same (digits-from 0 card digits are))
 
 -- what is left is less than the divisor
 left-less : (divisor : ℕ) (words : List ℕ) → 0 < divisor → left_of divisor words < divisor
 left-less divisor [] some = some
 left-less divisor (word ∷ words) some = mod-lt (left_of divisor words * 2 ^ 32 + word) some
 
--- the lowest digit is what is left
-pub digit-next : (place divisor : ℕ) (words digits : List ℕ) → divisor ≡ digit_count place → 0
-    < divisor → AreDigits 0 digits → place < length digits →
-    word_number words ≡ mixed_number place (drop place digits) →
-    (word_number (divided divisor words) ≡ mixed_number (place + 1) (drop (place + 1) digits))
-    × (left_of divisor words ≡ get_or digits place 0)
-digit-next place divisor words digits is some are inside same =
-    let rest = mixed_number (place + 1) (drop (place + 1) digits) in
-    let digit = get_or digits place 0 in
+-- what is left is the number of the lowest four digits
+pub four-next : (card divisor : ℕ) (words digits : List ℕ) → divisor ≡ choices card 4 → 0
+    < divisor → AreDigits 0 digits → card + 4 ≤ length digits →
+    word_number words ≡ mixed_number card (drop card digits) →
+    (word_number (divided divisor words) ≡ mixed_number (card + 4) (drop (card + 4) digits))
+    × (left_of divisor words ≡ mixed_number card (four_from card digits))
+four-next card divisor words digits is some are inside same =
+    let four = four_from card digits in
+    let rest = mixed_number (card + 4) (drop (card + 4) digits) in
+    let less = subst (λ count. mixed_number card four < choices card count)
+    (four-long card digits inside) (number-bound card four (four-digits card digits are)) in
     same_from_place (word_number (divided divisor words))
-    (left_of divisor words) rest digit divisor (left-less divisor words some)
-    (omega (arith, is, digit-there place digits are inside))
-    (sym (divided-all divisor words) ∙ same ∙ number-next place digits inside
-    ∙ turned place digit rest ∙ ap (λ count. rest * count + digit) (sym is))
+    (left_of divisor words) rest (mixed_number card four) divisor (left-less divisor words some)
+    (omega (arith, is, less))
+    (sym (divided-all divisor words) ∙ same ∙ sym (four-below card digits inside) ∙ omega
+    (arith, mul_comm (choices card 4) rest, ap (λ count. rest * count) is))
 
-pub digits-more : (place : ℕ) (digits found : List ℕ) (digit : ℕ) → length digits ≡ length found →
-    place < length digits → digit ≡ get_or digits place 0 →
-    take place found ≡ take place digits → take (place + 1) (set found place digit)
-    ≡ take (place + 1) digits
-digits-more place digits found digit long inside is so_far =
-    take_more (set found place digit) place 0
-    (omega (arith, length-set found place digit, long, inside))
-    ∙ (λ i. take-set found place digit i ++ get_or-set_same found place digit 0
-    (omega (arith, long, inside)) i ∷ [])
-    ∙ (λ i. so_far i ++ is i ∷ []) ∙ sym (take_more digits place 0 inside)
+-- ---- the digits of a number
+abbrev pub lowest_digits : ℕ → ℕ → ℕ → List ℕ
+lowest_digits card zero number = []
+lowest_digits card (suc count) number =
+    number % digit_count card ∷ lowest_digits (card + 1) count (number / digit_count card)
+
+pub digits-again : (card number : ℕ) (digits : List ℕ) → AreDigits card digits → number
+    ≡ mixed_number card digits → lowest_digits card (length digits) number ≡ digits
+digits-again card number [] are is = refl
+digits-again card number (digit ∷ digits) are is =
+    let count = digit_count card in
+    let rest = mixed_number (card + 1) digits in
+    let (above, lowest) = same_from_place (number / count) (number % count) rest digit count
+    (mod-lt number (omega (arith, are.0))) are.0
+    (div-add-mod' number count ∙ is ∙ turned card digit rest) in
+    let more = digits-again (card + 1) (number / count) digits are.1 above in
+    λ i. lowest i ∷ more i
+
+pub four-again : (card number : ℕ) (digits : List ℕ) → length digits ≡ 4 → AreDigits card digits →
+    number ≡ mixed_number card digits → lowest_digits card 4 number ≡ digits
+four-again card number digits long are is =
+    ap (λ count. lowest_digits card count number) (sym long) ∙ digits-again card number digits are is
+
+-- four digits more are put
+pub four-more : (card : ℕ) (digits found now : List ℕ) → take card found ≡ take card digits →
+    take (card + 4) now ≡ take card found ++ four_from card digits →
+    take (card + 4) now ≡ take (card + 4) digits
+four-more card digits found now so_far put =
+    put ∙ ap (λ before. before ++ four_from card digits) so_far ∙ sym (take-add card 4 digits)
 
 pub words-fit : (words : List ℕ) → ((place : ℕ) → get_or words place 0 < 2 ^ 32) →
     AllByRecursion (λ word. word < 2 ^ 32) words

@@ -15,7 +15,7 @@ use Rattle.std.proofs.Common.{
   count_by,
   false,
 }
-use Rattle.std.proofs.Common.{inl, inr, length, length-append, List, refl, suc, sym, true, ℕ}
+use Rattle.std.proofs.Common.{inl, inr, length, List, refl, suc, sym, true, ℕ}
 use Rattle.std.proofs.lemmas.Bool.{
   both_ways,
   cases_Bool,
@@ -26,7 +26,6 @@ use Rattle.std.proofs.lemmas.Bool.{
   ne_eqb,
   or_left,
 }
-use Rattle.std.proofs.lemmas.List.Elements.{filter-append}
 use Rattle.std.proofs.lemmas.List.Sums.{sum_by-append, sum_by-cons, take_while-cons}
 use Rattle.std.specs.List.{filter, insert, list_any, take_while}
 use Rattle.std.specs.Prelude.{nat_le, not}
@@ -163,32 +162,4 @@ module _ (card : ℕ) where
     | inr (inr more) ↦
         rw (lt-leb item card (omega (arith, more)))
         (omega (arith, rank-high item row more, rank-inside row))
-  ]
-
-  -- a 0 at the end of the row is after the card, and counted with it
-  pub rank-ended : (row : List ℕ) → list_any here row ≡ true → rank (row ++ 0 ∷ [])
-      < length (filter low (row ++ 0 ∷ []))
-  rank-ended [] there = absurd (cc)
-  rank-ended (item ∷ row) there = elim (cases_order item (card + 1)) [
-    | inl same ↦
-        let first : rank (item ∷ row ++ 0 ∷ []) ≡ 0 =
-        ap (count_by low) (before-here item (row ++ 0 ∷ []) (eq-eqb item (card + 1) same)) in
-        let last : length (filter low (row ++ 0 ∷ []))
-        ≡ length (filter low row ++ 0 ∷ []) = ap length
-        (filter-append low row (0 ∷ []) ∙ ap (λ b. filter low row ++ cond b (0 ∷ []) [])
-        (le-leb 0 card (omega arith))) in
-        rw (lt-leb item card (omega (arith, same)))
-        (omega (arith, first, last, length-append (filter low row) (0 ∷ [])))
-    | inr (inl less) ↦
-        let isnt = ne_eqb item (card + 1) (λ e. omega (arith, e, less)) in
-        rw (le-leb item card (omega (arith, less)))
-        (omega (
-          arith,
-          rank-low item (row ++ 0 ∷ []) (omega (arith, less)),
-          rank-ended row (rw isnt at there),
-        ))
-    | inr (inr more) ↦
-        let isnt = ne_eqb item (card + 1) (λ e. omega (arith, e, more)) in
-        rw (lt-leb item card (omega (arith, more)))
-        (omega (arith, rank-high item (row ++ 0 ∷ []) more, rank-ended row (rw isnt at there)))
   ]

@@ -1,6 +1,6 @@
 -- How boards are packed, and found again.
 use Rattle.std.specs.{List.{count_by, filter}, Prelude.{◌%◌, ◌*◌, ◌+◌, ◌/◌, ◌<◌, ◌==◌, ◌^◌, ◌∷◌}}
-use Rattle.std.specs.Prelude.{◌≡◌, ◌≤◌, [], All, Bool, List, not, ℕ}
+use Rattle.std.specs.Prelude.{◌≡◌, ◌≤◌, [], All, Bool, List, not, suc, zero, ℕ}
 use Rattle.fc_bytes.specs.packed.{digit_count}
 
 -- the number that these words of 32 bits make, the lowest first, with this one above them
@@ -24,6 +24,11 @@ divided divisor (word ∷ words) = (left_of divisor words * 2 ^ 32 + word) / div
 abbrev pub AreDigits : ℕ → List ℕ → Type 0
 AreDigits card [] = Unit {0}
 AreDigits card (digit ∷ digits) = (digit < digit_count card) × AreDigits (card + 1) digits
+
+-- how many numbers so many digits make, from this card on
+abbrev pub choices : ℕ → ℕ → ℕ
+choices card zero = 1
+choices card (suc count) = choices (card + 1) count * digit_count card
 
 -- the item is the byte of this card
 abbrev pub is_byte_of : ℕ → ℕ → Bool

@@ -8,6 +8,7 @@ ghost use Rattle.fc_board.specs.{inside.{AscendTo}, Steps.{cell_at, column_at, h
 ghost use Rattle.fc_bytes.specs.{cell_byte, HoldsBoard, inside.{AreLaid, card_byte, card_decoded}};
 ghost use Rattle.fc_bytes.specs.{inside.{cell_decoded, ends_decoded, IsExact}, padded};
 
+use crate::laid::{bytes_before, bytes_of_laid, lengths_between};
 use fc_board::{Board, Height, Rule};
 use fc_card::{Card, CardSet, Suit};
 
@@ -42,11 +43,12 @@ impl BoardBytes {
     pub fn of<R: Rule>(board: &Board<R>) -> BoardBytes
         ensures { HoldsBoard R.game result board.now }
     {
+        let (lengths, cards) = column_bytes(board);
         BoardBytes {
             heights: height_bytes(board),
             cells: cell_bytes(board),
-            lengths: length_bytes(board),
-            cards: card_bytes(board),
+            lengths,
+            cards,
         }
     }
 
@@ -114,88 +116,14 @@ fn cell_byte<R: Rule>(board: &Board<R>, place: usize) -> u8
     }
 }
 
-fn length_bytes<R: Rule>(board: &Board<R>) -> [u8; 8]
-    ensures { result ≡ map (λ column. length (column_at board.now column)) (places 8) }
+/// How many cards each column has, and the cards.
+fn column_bytes<R: Rule>(board: &Board<R>) -> ([u8; 8], [u8; 52])
+    ensures lengths { result.0 ≡ map length board.now.columns }
+    ensures cards { result.1 ≡ padded 52 (flat_map (map card_byte) board.now.columns) }
 {
-    [
-        board.column(0).len() as u8,
-        board.column(1).len() as u8,
-        board.column(2).len() as u8,
-        board.column(3).len() as u8,
-        board.column(4).len() as u8,
-        board.column(5).len() as u8,
-        board.column(6).len() as u8,
-        board.column(7).len() as u8,
-    ]
-}
-
-fn card_bytes<R: Rule>(board: &Board<R>) -> [u8; 52]
-    ensures bytes { result ≡ padded 52 (flat_map (map card_byte) board.now.columns) }
-    ensures well_formed { IsWellFormed R.game board.now }
-{
-    let mut bytes = [0; 52];
-    let mut end = 0;
-    for place in 0..8 {
-        end = put_cards(&mut bytes, end, board.column(place));
-    }
-    bytes
-}
-
-/// Puts the cards into the bytes from this place on, and returns the place after them. Most columns
-/// have 4 to 15 cards.
-#[inline(always)]
-pub(crate) fn put_cards(bytes: &mut [u8; 52], start: usize, column: &[Card]) -> usize
-    requires { start + length column.now ≤ 52 }
-    ensures end { result ≡ start + length column.now }
-    ensures bytes { bytes.new ≡ take start bytes.old ++ map card_byte column.now
-        ++ drop (start + length column.now) bytes.old }
-{
-    match column.len() {
-        0 => {}
-        1 => put_ends::<1>(bytes, start, column),
-        2..=3 => put_ends::<2>(bytes, start, column),
-        4..=7 => put_ends::<4>(bytes, start, column),
-        8..=15 => put_ends::<8>(bytes, start, column),
-        16..=31 => put_ends::<16>(bytes, start, column),
-        _ => put_ends::<32>(bytes, start, column),
-    }
-    start + column.len()
-}
-
-/// Puts the first `K` cards and the last `K`, which are all, and may have some in common. Both are
-/// of fixed number, so that no loop is needed.
-fn put_ends<const K: usize>(bytes: &mut [u8; 52], start: usize, column: &[Card])
-    requires room { start + length column.now ≤ 52 }
-    requires all { (K ≤ length column.now) × (length column.now ≤ 2 * K) }
-    ensures { bytes.new ≡ take start bytes.old ++ map card_byte column.now
-        ++ drop (start + length column.now) bytes.old }
-{
-    let later = column.len() - K;
-    overwrite(bytes, start, &piece_of::<K>(column, 0));
-    overwrite(bytes, start + later, &piece_of::<K>(column, later));
-}
-
-/// The bytes of `K` cards from this place on.
-fn piece_of<const K: usize>(column: &[Card], done: usize) -> [u8; K]
-    requires { done + K ≤ length column.now }
-    ensures piece { result ≡ map card_byte (take K (drop done column.now)) }
-    ensures size { length result ≡ K }
-{
-    let mut piece = [0; K];
-    for index in 0..K {
-        piece[index] = column[done + index].number() + 1;
-    }
-    piece
-}
-
-/// Puts the piece at this place, over the bytes that are there.
-fn overwrite<const K: usize>(bytes: &mut [u8; 52], at: usize, piece: &[u8; K])
-    requires { at + K ≤ 52 }
-    ensures { bytes.new ≡ take at bytes.old ++ piece.now ++ drop (at + K) bytes.old }
-{
-    for index in 0..K {
-        bytes[at + index] = piece[index];
-    }
+    let (cards, bounds) = board.laid();
+    let bytes = bytes_of_laid(cards);
+    (lengths_between(bounds), bytes_before(&bytes, bounds[8]))
 }
 
 /// Whether each byte of cells and columns is the code of what is read of it.

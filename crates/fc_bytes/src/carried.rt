@@ -5,7 +5,7 @@ ghost use Rattle.fc_board.specs.{Boards.{IsWellFormed}, Passages.{carried}, Step
 ghost use Rattle.fc_bytes.specs.{cell_byte, HoldsBoard, inside.{card_byte}, padded};
 
 use crate::BoardBytes;
-use crate::board::put_cards;
+use crate::laid::{bytes_before, bytes_of_laid, put_in_order};
 use fc_board::{Board, Height, Rule};
 use fc_canon::Passage;
 use fc_card::{Card, rename_lanes};
@@ -17,11 +17,12 @@ impl BoardBytes {
         ensures { HoldsBoard R.game result (carried passage.now board.now) }
     {
         let view = passage.view(board);
+        let (lengths, cards) = carried_columns(passage, board);
         BoardBytes {
             heights: numbers_of(view.heights()),
             cells: bytes_of(view.cells()),
-            lengths: lengths_of(&view),
-            cards: carried_cards(passage, board),
+            lengths,
+            cards,
         }
     }
 }
@@ -55,52 +56,17 @@ pub(crate) fn byte_of(cell: Option<Card>) -> u8
     }
 }
 
-fn lengths_of<R: Rule>(view: &BoardView<'_, R>) -> [u8; 8]
-    requires { IsWellFormed R.game view.now }
-    ensures { result ≡ map (λ column. length (column_at view.now column)) (places 8) }
-{
-    [
-        length_of(view, 0),
-        length_of(view, 1),
-        length_of(view, 2),
-        length_of(view, 3),
-        length_of(view, 4),
-        length_of(view, 5),
-        length_of(view, 6),
-        length_of(view, 7),
-    ]
-}
-
-fn length_of<R: Rule>(view: &BoardView<'_, R>, column: usize) -> u8
-    requires well_formed { IsWellFormed R.game view.now }
-    requires column { column < 8 }
-    ensures { result ≡ length (column_at view.now column) }
-{
-    view.column(column).len() as u8
-}
-
-/// The cards of the columns in their new order, all renamed at once.
-fn carried_cards<R: Rule>(passage: &Passage<R>, board: &Board<R>) -> [u8; 52]
-    ensures { result
+/// How many cards the columns have in their new order, and the cards. All are renamed at once.
+fn carried_columns<R: Rule>(passage: &Passage<R>, board: &Board<R>) -> ([u8; 8], [u8; 52])
+    ensures lengths { result.0 ≡ map length (carried passage.now board.now).columns }
+    ensures cards { result.1
         ≡ padded 52 (flat_map (map card_byte) (carried passage.now board.now).columns) }
 {
-    let mut bytes = ordered_cards(passage, board);
-    rename_lanes(&passage.renaming(), &mut bytes);
-    bytes
-}
-
-/// The cards of the columns in their new order, with their old names.
-fn ordered_cards<R: Rule>(passage: &Passage<R>, board: &Board<R>) -> [u8; 52]
-    ensures cards { result
-        ≡ padded 52 (flat_map (map card_byte) (pick board.now.columns passage.now.columns)) }
-    ensures codes { All IsCode result }
-    ensures well_formed { IsWellFormed R.game board.now }
-{
-    let mut bytes = [0; 52];
-    let mut end = 0;
-    for place in 0..8 {
-        let column = board.column(passage.columns().at(place));
-        end = put_cards(&mut bytes, end, column);
-    }
-    bytes
+    let (cards, bounds) = board.laid();
+    let mut from = bytes_of_laid(cards);
+    rename_lanes(&passage.renaming(), &mut from);
+    let mut to = [0; 80];
+    let mut lengths = [0; 8];
+    let end = put_in_order(&mut to, &mut lengths, &from, bounds, passage.columns());
+    (lengths, bytes_before(&to, end as u8))
 }

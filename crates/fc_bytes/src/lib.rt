@@ -7,6 +7,7 @@ pub mod calls;
 mod carried;
 mod class_hash;
 mod hash;
+mod laid;
 mod moves;
 mod packed;
 mod passage;

@@ -45,8 +45,8 @@ use Rattle.std.proofs.lemmas.List.{get_or_default, same_lists}
 use Rattle.std.proofs.lemmas.List.FromFn.{get_or-map-range_with_len}
 use Rattle.std.proofs.lemmas.Nat.{from_le_bytes-to_le_bytes_4}
 use Rattle.std.specs.Int.{bytes_low_first, from_le_bytes, w32}
-use Rattle.std.specs.List.{AllByRecursion, filter, flat_map, insert, position_or_len}
-use Rattle.std.specs.{Option.{option_to_list}, Prelude.{◌↔◌, None, Option}}
+use Rattle.std.specs.List.{filter, flat_map, insert, position_or_len}
+use Rattle.std.specs.{Option.{option_to_list}, Prelude.{◌↔◌, None}}
 use Rattle.fc_card.specs.{places}
 use Rattle.fc_board.proofs.BoardLemmas.{in_cells}
 use Rattle.fc_board.proofs.CarriedLemmas.{carried-IsWellFormed}
@@ -58,10 +58,10 @@ use Rattle.fc_board.specs.{
 use Rattle.fc_canon.proofs.CanonicalLemmas.{Equivalent-sym, Equivalent-trans}
 use Rattle.fc_canon.specs.{Chosen, Equivalent}
 use Rattle.fc_bytes.proofs.PassageDecoded.{canonical_bytes, same_boards}
-use Rattle.fc_board.specs.laws.ListWords.{IsCell}
 use Rattle.fc_bytes.proofs.PackedBoards.{
   away-digit,
   board-digits,
+  cells-form,
   cells-up,
   home-digit,
   in_order-carries,
@@ -69,10 +69,8 @@ use Rattle.fc_bytes.proofs.PackedBoards.{
   ordering,
   row-IsRow,
 }
-use Rattle.fc_bytes.proofs.PackedBound.{AscendBy}
 use Rattle.fc_bytes.proofs.PackedGrown.{after-end, first-end, grow-first, grow-last, grow-next}
 use Rattle.fc_bytes.proofs.PackedNumber.{low_bytes, number-fits, same_digits, words_again}
-use Rattle.fc_bytes.proofs.PackedOrder.{least_of_cell}
 use Rattle.fc_bytes.proofs.PackedRow.{low}
 use Rattle.fc_bytes.specs.packed.{ended, in_order, mixed_number, packed, row, row_digit}
 use Rattle.fc_bytes.specs.packing.{is_end, IsRow, word_number}
@@ -161,40 +159,6 @@ piles-same (pile ∷ piles) (other ∷ others) long same =
     ∙ after-end other rest' in
     let later = piles-same piles others (omega (arith, long)) left in
     λ i. first i ∷ later i
-
--- ---- cells in order are known by their cards
-nones-all : (cells : List (Option ℕ)) → AllByRecursion (λ other. 52 ≤ least_of_cell other) cells →
-    ((k : ℕ) (d : Option ℕ) → k < length cells → IsCell (get_or cells k d)) →
-    (flat_map option_to_list cells ≡ []) × (cells ≡ replicate (length cells) None)
-nones-all [] above are = (refl, refl)
-nones-all (None ∷ cells) above are =
-    let (none, rest) = nones-all cells above.1
-    (λ k d inside. are (suc k) d (omega (arith, inside))) in
-    (none, ap (λ rest. None ∷ rest) rest)
-nones-all (Some card ∷ cells) above are =
-    let small : card < 52 = are 0 None (omega arith) in
-    absurd (omega (arith, above.0, small))
-
-cells-form : (cells : List (Option ℕ)) → AscendBy least_of_cell cells →
-    ((k : ℕ) (d : Option ℕ) → k < length cells → IsCell (get_or cells k d)) →
-    cells ≡ map (λ card. Some card) (flat_map option_to_list cells)
-    ++ replicate (length cells - length (flat_map option_to_list cells)) None
-cells-form [] up are = refl
-cells-form (None ∷ cells) up are =
-    let (none, all) = nones-all (None ∷ cells) (omega arith, up.0) are in
-    let count = length (None ∷ cells) in
-    let same : count ≡ count - length (flat_map option_to_list (None ∷ cells)) = omega
-    (arith, ap length none) in
-    all ∙ ap (λ n. replicate n None) same
-    ∙ ap (λ cards. map (λ card. Some card) cards
-    ++ replicate (count - length (flat_map option_to_list (None ∷ cells))) None) (sym none)
-cells-form (Some card ∷ cells) up are =
-    let rest = cells-form cells up.1 (λ k d inside. are (suc k) d (omega (arith, inside))) in
-    let fewer : length cells - length (flat_map option_to_list cells)
-    ≡ length (Some card ∷ cells) - length (flat_map option_to_list (Some card ∷ cells)) = omega
-    arith in
-    ap (λ rest. Some card ∷ rest) (rest ∙ ap (λ n. map (λ card. Some card)
-    (flat_map option_to_list cells) ++ replicate n None) fewer)
 
 -- ---- and so is the board
 -- a card that is home on the one board alone has two digits

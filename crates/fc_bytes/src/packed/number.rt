@@ -1,35 +1,43 @@
 //! Numbers of 256 bits, in words of 32 bits, the lowest first.
 ghost use Rattle.std.specs.{Int.{bytes_low_first, from_le_bytes, w32}, Prelude.{◌%◌, ◌*◌, ◌+◌}};
-ghost use Rattle.std.specs.Prelude.{◌/◌, ◌<◌, ◌^◌, ◌≡◌, ◌≤◌, drop, length, List, take, ℕ};
+ghost use Rattle.std.specs.Prelude.{◌/◌, ◌<◌, ◌^◌, ◌≡◌, ◌≤◌, drop, length, List, slice_index, take};
+ghost use Rattle.std.specs.Prelude.{ℕ};
 ghost use Rattle.fc_bytes.specs.packed.{digit_count, mixed_number};
-ghost use Rattle.fc_bytes.specs.packing.{AreDigits, divided, left_of, word_number};
+ghost use Rattle.fc_bytes.specs.packing.{AreDigits, choices, divided, left_of, word_number};
 
 use fc_text::put;
 
 /// What the next higher word of a number counts.
 const WORD: u64 = 1 << 32;
 
-/// The number with these digits.
+/// The number with these digits, of which four are taken at a time.
 pub(crate) fn number_of(digits: &[u8; 52]) -> [u32; 8]
     requires { AreDigits 0 digits.now }
     ensures { word_number result ≡ mixed_number 0 digits.now }
 {
     let mut number = [0; 8];
-    for card in (0..52_usize).rev() {
-        multiply(&mut number, digit_count(card), digits[card]);
+    for four in (0..13_usize).rev() {
+        let card = 4 * four;
+        multiply(
+            &mut number,
+            count_of_four(card),
+            number_of_four(digits, card),
+        );
     }
     number
 }
 
-/// The digits of the number.
+/// The digits of the number, of which four are found at a time.
 pub(crate) fn digits_in(words: [u32; 8]) -> [u8; 52]
     ensures { (digits : List ℕ) → length digits ≡ 52 → AreDigits 0 digits
         → word_number words ≡ mixed_number 0 digits → result ≡ digits }
 {
     let mut number = words;
     let mut digits = [0; 52];
-    for card in 0..52 {
-        digits[card] = divide(&mut number, digit_count(card));
+    for four in 0..13 {
+        let card = 4 * four;
+        let found = divide(&mut number, count_of_four(card));
+        put(&mut digits, card, &four_digits_in(found, card));
     }
     digits
 }
@@ -39,17 +47,83 @@ fn digit_count(card: usize) -> u8
     requires { card < 52 }
     ensures count { result ≡ digit_count card }
     ensures some { 0 < result }
+    ensures few { result ≤ 61 }
 {
     (2 * card + 3).min(card + 10) as u8
 }
 
+/// How many numbers four digits make, from this card on.
+fn count_of_four(card: usize) -> u32
+    requires { card + 4 ≤ 52 }
+    ensures count { result ≡ choices card 4 }
+    ensures some { 0 < result }
+{
+    let later = u32::from(digit_count(card + 3)) * u32::from(digit_count(card + 2));
+    later * u32::from(digit_count(card + 1)) * u32::from(digit_count(card))
+}
+
+/// The number that the four digits from this card on make.
+fn number_of_four(digits: &[u8; 52], card: usize) -> u32
+    requires { card + 4 ≤ 52 }
+    ensures { result ≡ mixed_number card (take 4 (drop card digits.now)) }
+{
+    let above = with_digit(digits, card + 3, 0);
+    let above = with_digit(digits, card + 2, above);
+    let above = with_digit(digits, card + 1, above);
+    with_digit(digits, card, above)
+}
+
+/// The number with the digit of this card below the higher ones.
+fn with_digit(digits: &[u8; 52], card: usize, above: u32) -> u32
+    requires card { card < 52 }
+    requires above { above < 2 ^ 26 }
+    ensures number { result ≡ slice_index digits.now card + digit_count card * above }
+    ensures within { result ≤ 255 + 61 * above }
+{
+    u32::from(digits[card]) + u32::from(digit_count(card)) * above
+}
+
+/// The four digits of the number, from this card on.
+fn four_digits_in(number: u32, card: usize) -> [u8; 4]
+    requires { card + 4 ≤ 52 }
+    ensures digits { (digits : List ℕ) → length digits ≡ 4 → AreDigits card digits
+        → number ≡ mixed_number card digits → result ≡ digits }
+    ensures size { length result ≡ 4 }
+{
+    let second = digits_above(number, card);
+    let third = digits_above(second, card + 1);
+    let fourth = digits_above(third, card + 2);
+    [
+        lowest_digit(number, card),
+        lowest_digit(second, card + 1),
+        lowest_digit(third, card + 2),
+        lowest_digit(fourth, card + 3),
+    ]
+}
+
+/// The digit of this card, which is the lowest of the number.
+fn lowest_digit(number: u32, card: usize) -> u8
+    requires { card < 52 }
+    ensures { result ≡ number % digit_count card }
+{
+    (number % u32::from(digit_count(card))) as u8
+}
+
+/// The number that the digits above that of this card make.
+fn digits_above(number: u32, card: usize) -> u32
+    requires { card < 52 }
+    ensures { result ≡ number / digit_count card }
+{
+    number / u32::from(digit_count(card))
+}
+
 /// Multiplies the number by the factor, and adds as much.
-fn multiply(number: &mut [u32; 8], factor: u8, added: u8)
+fn multiply(number: &mut [u32; 8], factor: u32, added: u32)
     requires { factor * word_number number.old + added < 2 ^ 256 }
     ensures { word_number number.new ≡ factor * word_number number.old + added }
 {
     let [a, b, c, d, e, f, g, h] = *number;
-    let a = product(a, factor, u32::from(added));
+    let a = product(a, factor, added);
     let b = product(b, factor, high(a));
     let c = product(c, factor, high(b));
     let d = product(d, factor, high(c));
@@ -69,7 +143,7 @@ fn multiply(number: &mut [u32; 8], factor: u8, added: u8)
     ];
 }
 
-fn product(word: u32, factor: u8, carry: u32) -> u64
+fn product(word: u32, factor: u32, carry: u32) -> u64
     ensures product { result ≡ word * factor + carry }
     ensures within { result < 2 ^ 64 }
 {
@@ -89,7 +163,7 @@ fn high(number: u64) -> u32
 }
 
 /// Divides the number, and returns what is left.
-fn divide(number: &mut [u32; 8], divisor: u8) -> u8
+fn divide(number: &mut [u32; 8], divisor: u32) -> u32
     requires { 0 < divisor }
     ensures divided { number.new ≡ divided divisor number.old }
     ensures left { result ≡ left_of divisor number.old }
@@ -117,14 +191,14 @@ fn divide(number: &mut [u32; 8], divisor: u8) -> u8
 }
 
 /// What was left of the higher words, and then this word.
-fn joined(left: u8, word: u32) -> u64
+fn joined(left: u32, word: u32) -> u64
     ensures number { result ≡ left * 2 ^ 32 + word }
     ensures within { result < (left + 1) * 2 ^ 32 }
 {
     u64::from(left) * WORD + u64::from(word)
 }
 
-fn part(number: u64, divisor: u8) -> u32
+fn part(number: u64, divisor: u32) -> u32
     requires some { 0 < divisor }
     requires within { number < divisor * 2 ^ 32 }
     ensures { result ≡ number / divisor }
@@ -132,12 +206,12 @@ fn part(number: u64, divisor: u8) -> u32
     (number / u64::from(divisor)) as u32
 }
 
-fn left(number: u64, divisor: u8) -> u8
+fn left(number: u64, divisor: u32) -> u32
     requires { 0 < divisor }
     ensures left { result ≡ number % divisor }
     ensures within { result < divisor }
 {
-    (number % u64::from(divisor)) as u8
+    (number % u64::from(divisor)) as u32
 }
 
 /// The number in bytes, the lowest first.

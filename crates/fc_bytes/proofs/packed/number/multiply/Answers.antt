@@ -12,8 +12,7 @@ returns c =
     let low = λ (product : ℕ). product % 2 ^ 32 in
     let high = λ (product : ℕ). product / 2 ^ 32 in
     let next = λ (word : ℕ) (carry : ℕ). word * factor + carry in
-    let a : c.product-a.result ≡ next (at 0) added = c.product-a.ensures.product
-    ∙ ap (next (at 0)) c.from.ensures in
+    let a : c.product-a.result ≡ next (at 0) added = c.product-a.ensures.product in
     let b : c.product-b.result ≡ next (at 1) _ = c.product-b.ensures.product
     ∙ ap (next (at 1)) (c.high.ensures ∙ ap high a) in
     let d : c.product-c.result ≡ next (at 2) _ = c.product-c.ensures.product
