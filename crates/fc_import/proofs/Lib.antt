@@ -1,5 +1,8 @@
+pub mod FrontLemmas
 pub mod NameLemmas
 pub mod PieceLemmas
+pub mod PrintedAgainLemmas
+pub mod PrintedLemmas
 pub mod QuietLemmas
 pub mod RunLemmas
 pub mod SignLemmas

@@ -98,7 +98,7 @@ module _ (variant : Variant) where
   same_name (left_out said names prose note) = refl
   same_name (a_board name board said named well can of says) = refl
   same_name (once_more board said last of says) = refl
-  same_name (a_list board list said last legal says) = refl
+  same_name (a_list board list said last legal few says) = refl
   same_name (refused_board said note) = refl
   same_name (refused_list last said stays note) = refl
 

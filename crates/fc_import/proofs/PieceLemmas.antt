@@ -4,9 +4,10 @@ use Rattle.std.proofs.Common.{drop, false, get_or, if◌then◌else◌, length, 
 use Rattle.std.proofs.Common.{take, true, zero, ℕ}
 use Rattle.std.proofs.Math.Seq.{take-add}
 use Rattle.std.proofs.lemmas.List.{length-drop}
-use Rattle.std.proofs.lemmas.List.Elements.{All-append, All-cons, All-map, All-nil}
+use Rattle.std.proofs.lemmas.{Bool.{eqb-true}, List.Elements.{All-append, All-cons, All-head}}
+use Rattle.std.proofs.lemmas.List.Elements.{All-map, All-nil, All-tail}
 use Rattle.memchr.specs.Find.{is_byte, Nowhere, Passes}
-use Rattle.fc_text.proofs.LineLemmas.{in_line-first, lines_from-moved}
+use Rattle.fc_text.proofs.LineLemmas.{InLine, in_line-first, lines_from-moved}
 use Rattle.fc_text.specs.{Bytes.{line_feed}, Lines.{in_line, lines_from, moved, Piece}}
 use Rattle.fc_record.specs.{Grammar.{begins_with}, RecordTexts.{ends_line, header_mark}}
 use Rattle.fc_import.specs.Import.{HasNoHeader}
@@ -44,6 +45,19 @@ one_line place (byte ∷ rest) zero none = alone place byte (byte == line_feed)
 one_line place (byte ∷ rest) (suc end) none =
     subst (λ lines. length lines ≤ 1) (sym (in_line-first place byte (take (suc end) rest) (λ is. none 0 (omega arith) (omega arith) (ap (λ byte. byte == line_feed) is))))
     (no_longer place byte (lines_from (place + 1) (take (suc end) rest)) (one_line (place + 1) rest end (λ at low high. none (suc at) (omega arith) (omega (arith, high)))))
+
+-- the first line feed after bytes that are none
+pub first_feed : (line rest : List ℕ) (place : ℕ) → All InLine line → Passes (is_byte line_feed) (line ++ line_feed ∷ rest) place
+    → Nowhere (Passes (is_byte line_feed) (line ++ line_feed ∷ rest)) 0 place → place ≡ length line
+first_feed [] rest zero are is none = refl
+first_feed [] rest (suc place) are is none = absurd (none 0 (omega arith) (omega arith) refl)
+first_feed (byte ∷ line) rest zero are is none = absurd (All-head InLine byte line are (eqb-true byte line_feed is))
+first_feed (byte ∷ line) rest (suc place) are is none =
+    ap suc (first_feed line rest place (All-tail InLine byte line are) is (λ at low high. none (suc at) (omega arith) (omega (arith, high))))
+
+pub some_feed : (line rest : List ℕ) → ¬ Nowhere (Passes (is_byte line_feed) (line ++ line_feed ∷ rest)) 0 (length (line ++ line_feed ∷ rest))
+some_feed [] rest none = none 0 (omega arith) (omega arith) refl
+some_feed (byte ∷ line) rest none = some_feed line rest (λ at low high. none (suc at) (omega arith) (omega (arith, high)))
 
 -- ---- no header
 

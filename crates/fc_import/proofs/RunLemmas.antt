@@ -5,7 +5,7 @@ use Rattle.std.proofs.Common.{Option, refl, Result, Some, subst, subst₂, sym, 
 use Rattle.std.proofs.KnownBytes.{Consumes-trans}
 use Rattle.std.proofs.lemmas.List.Elements.{All-append, All-cons, All-head, All-nil}
 use Rattle.std.specs.{Io.KnownBytes.{Consumes}, Prelude.{⊤}}
-use Rattle.fc_board.{proofs.BoardLemmas.{All-left, All-right}, specs.Games.{game_of}}
+use Rattle.fc_board.{proofs.BoardLemmas.{All-left, All-right}, specs.Games.{Game, game_of}}
 use Rattle.fc_board.specs.declared.rule.Variant.{Variant}
 use Rattle.fc_record.specs.{Printing.{is_refused}, RecordTexts.{RecordText}}
 use Rattle.fc_collect.proofs.RecordLemmas.{cut-append, cut-induction}
@@ -20,8 +20,8 @@ use Rattle.fc_collect.specs.declared.streams.faults.RunFault.TheVariants.{Memory
 use Rattle.fc_collect.specs.declared.streams.faults.RunFault.TheVariants.{ReaderNeverEnds, TooLarge}
 use Rattle.fc_collect.specs.declared.streams.faults.RunFault.TheVariants.{Write}
 use Rattle.fc_collect.specs.declared.streams.faults.Summary.{Summary}
-use Rattle.fc_import.specs.Import.{collection, Imported, IsShown, Makes, no_board, no_board_line}
-use Rattle.fc_import.specs.Import.{refusals, refused_by, too_much, too_much_line, with_tally}
+use Rattle.fc_import.specs.Import.{collection, Imported, IsImportedAs, IsPrinted, IsShown, Makes}
+use Rattle.fc_import.specs.Import.{no_board, no_board_line, refusals, refused_by, too_much, too_much_line, with_tally}
 use Rattle.fc_import.specs.inside.{more_counts, MoreFits, ReadsMore, ReadsToEnd}
 use Rattle.fc_import.specs.{Notes.{counted, State}, Words.{text_read}}
 use Rattle.fc_import.specs.declared.changes.Noted.{Noted}
@@ -146,10 +146,19 @@ module _ (variant : Variant) (text : List ℕ) (records : ℕ) (shown : IsShown 
 
 -- ---- what is made
 
+-- what was made of a text, for the game of its variant
+pub imported_as : {game : Game} {text read : List ℕ} (variant : Variant) (noted : Noted) (state : State) (made notes : List ℕ)
+    → game ≡ game_of variant → text ≡ read → Imported variant noted game text state made notes
+    → (IsPrinted variant game None text → (made ≡ text) × (notes ≡ [])) → IsImportedAs variant noted read state made notes
+imported_as variant noted state made notes game_is text_is imported kept =
+    let both = subst₂ (λ game text. Imported variant noted game text state made notes
+    × (IsPrinted variant game None text → (made ≡ text) × (notes ≡ []))) game_is text_is (imported, kept) in
+    record { imported = both.0; kept = both.1 }
+
 module _ (variant : Variant) (noted : Noted) (bytes made said : List ℕ) (summary : Summary) where
   -- the text has no board
   pub nothing_made : (state : State) (text notes : List ℕ)
-      → Imported variant noted (game_of variant) (text_read bytes) state text notes → text ≡ []
+      → IsImportedAs variant noted (text_read bytes) state text notes → text ≡ []
       → refusals state.tally ≡ 0
       → made ≡ [] → said ≡ with_tally state.tally notes ++ no_board_line → summary.records ≡ 1 → summary.refused ≡ 1
       → Makes variant noted bytes made said summary
@@ -158,12 +167,12 @@ module _ (variant : Variant) (noted : Noted) (bytes made said : List ℕ) (summa
       (subst₂ (λ records refused. Makes variant noted bytes [] (with_tally state.tally notes ++ no_board_line)
       (record { records = records; refused = refused })) (sym records) (sym refused)
       (no_board state notes
-      (subst (λ text. Imported variant noted (game_of variant) (text_read bytes) state text notes) nothing
+      (subst (λ text. IsImportedAs variant noted (text_read bytes) state text notes) nothing
       imported) none))
 
   -- more is made of it than `show` takes
   pub unshown_made : (state : State) (text notes : List ℕ)
-      → Imported variant noted (game_of variant) (text_read bytes) state text notes
+      → IsImportedAs variant noted (text_read bytes) state text notes
       → ((records : ℕ) → ¬ IsShown variant text records)
       → made ≡ [] → said ≡ notes ++ too_much_line → summary.records ≡ 1 → summary.refused ≡ 1
       → Makes variant noted bytes made said summary
@@ -175,7 +184,7 @@ module _ (variant : Variant) (noted : Noted) (bytes made said : List ℕ) (summa
 
   -- a collection is made of it
   pub collection_made : (state : State) (notes : List ℕ) (records refused : ℕ)
-      → Imported variant noted (game_of variant) (text_read bytes) state made notes → IsShown variant made records
+      → IsImportedAs variant noted (text_read bytes) state made notes → IsShown variant made records
       → refused ≡ refused_by noted state.tally notes → said ≡ with_tally state.tally notes
       → summary.records ≡ counted (records + refused) → summary.refused ≡ refused
       → Makes variant noted bytes made said summary

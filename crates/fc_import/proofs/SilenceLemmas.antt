@@ -39,7 +39,7 @@ still_taken (a_board name board said named well can of says) silent (boards, lis
     (none_more _ boards, none_more _ lists, none_more _ lines)
 still_taken (once_more board said last of says) silent (boards, lists, lines) =
     (none_more _ boards, none_more _ lists, none_more _ lines)
-still_taken (a_list board list said last legal says) silent (boards, lists, lines) =
+still_taken (a_list board list said last legal few says) silent (boards, lists, lines) =
     (none_more _ boards, none_more _ lists, none_more _ lines)
 still_taken (refused_board said note) silent before = absurd (note_said _ _ said note silent)
 still_taken (refused_list last said stays note) silent before = absurd (note_said _ _ said note silent)
@@ -103,7 +103,7 @@ none_lost (left_out said names prose note) nothing silent alone = absurd (note_s
 none_lost {variant = variant} (a_board name board said named well can of says) nothing silent alone =
     absurd (header_written variant name (text_of board) nothing)
 none_lost (once_more board said last of says) nothing silent alone = absurd (let e = sym alone ∙ last in cc)
-none_lost (a_list board list said last legal says) nothing silent alone = absurd (let e = sym alone ∙ last in cc)
+none_lost (a_list board list said last legal few says) nothing silent alone = absurd (let e = sym alone ∙ last in cc)
 none_lost (refused_board said note) nothing silent alone = absurd (note_said _ _ said note silent)
 none_lost (refused_list last said stays note) nothing silent alone = absurd (note_said _ _ said note silent)
 

@@ -51,7 +51,7 @@ well_next (passed quiet) well = well
 well_next (left_out said names prose note) well = well
 well_next (a_board name board said named is can of says) well = one_board board is
 well_next (once_more board said last of says) well = well
-well_next (a_list board list said last legal says) well = well
+well_next (a_list board list said last legal few says) well = well
 well_next (refused_board said note) well = no_last
 well_next {game = game} (refused_list last said (inl none) note) well = subst (LastIsWell game) (sym none) no_last
 well_next {game = game} (refused_list last said (inr (same, lines)) note) well = subst (LastIsWell game) (sym same) well
@@ -76,13 +76,13 @@ still_silent : {variant : Variant} {game : Game} {state : State} {piece : List �
 still_silent (passed quiet) silent well = passed quiet
 still_silent (left_out said names prose note) silent well = absurd (note_said _ _ said note silent)
 still_silent {game = game} {state = state} {piece = piece} (a_board name board said named is can of says) silent well =
-    a_board name board said named is can of
+    a_board name board said (record { by_header = named.by_header; alone = named.alone }) is can of
     (silent_as state.place piece said (spelled_out state.noted game piece board is) says silent)
 still_silent {game = game} {state = state} {piece = piece} (once_more board said last of says) silent well =
     once_more board said last of
     (silent_as state.place piece said (spelled_out state.noted game piece board (well board last)) says silent)
-still_silent {game = game} {state = state} {piece = piece} (a_list board list said last legal says) silent well =
-    a_list board list said last legal
+still_silent {game = game} {state = state} {piece = piece} (a_list board list said last legal few says) silent well =
+    a_list board list said last legal few
     (silent_as state.place piece said (moves_named state.noted game piece list) says silent)
 still_silent (refused_board said note) silent well = absurd (note_said _ _ said note silent)
 still_silent (refused_list last said stays note) silent well = absurd (note_said _ _ said note silent)
@@ -129,7 +129,7 @@ says_end (passed quiet) = refl
 says_end (left_out said names prose note) = note_ends _ _ said note
 says_end (a_board name board said named well can of says) = unless_ends _ _ said says
 says_end (once_more board said last of says) = unless_ends _ _ said says
-says_end (a_list board list said last legal says) = unless_ends _ _ said says
+says_end (a_list board list said last legal few says) = unless_ends _ _ said says
 says_end (refused_board said note) = note_ends _ _ said note
 says_end (refused_list last said stays note) = note_ends _ _ said note
 
@@ -155,7 +155,8 @@ some_place test hay from (suc count) at low high passes =
         → 0 < length (cond here (from ∷ places_from test hay (from + 1) count) (places_from test hay (from + 1) count))
     by true is later = omega arith
     by false is later =
-        let fails : from ≡ at → false ≡ true = λ same. sym is ∙ ap (λ place. test (slice_index hay place)) same ∙ passes in
+        let fails : from ≡ at → false ≡ true = λ same. sym is ∙ ap (λ place. test (slice_index hay place)) same
+        ∙ passes in
         let apart : from ≢ at = λ same. absurd (let e = fails same in cc) in
         later (omega (arith, low, apart))
 
@@ -211,8 +212,12 @@ pub silent_makes : {variant : Variant} {noted : Noted} {bytes made said : List �
     → Makes variant noted bytes made said summary → said ≡ [] → Makes variant Doubts bytes made said summary
 silent_makes {noted = noted} (collection state made notes records imported shown refused is) silent =
     let quiet = untallied state.tally notes silent in
-    let none = none_missed imported quiet in
-    collection (doubting state) made notes records (silent_without imported quiet) shown refused
+    let none = none_missed imported.imported quiet in
+    collection (doubting state) made notes records (record {
+      imported = silent_without imported.imported quiet;
+      kept
+          = imported.kept;
+    }) shown refused
     (is ∙ none_refused noted state.tally notes quiet none ∙ sym none)
 silent_makes (no_board state notes imported none) silent =
     absurd (said_last (with_tally state.tally notes) no_board_line no_board_said silent)
@@ -228,7 +233,7 @@ strict_some tally (byte ∷ rest) ends some = let lines = some_line byte rest en
 pub strict_refuses : {variant : Variant} {bytes made said : List ℕ} {summary : Summary}
     → Makes variant Strict bytes made said summary → said ≢ [] → 0 < summary.refused
 strict_refuses (collection state made notes records imported shown refused is) some =
-    subst (λ count. 0 < count) (sym is) (strict_some state.tally notes (notes_end imported) some)
+    subst (λ count. 0 < count) (sym is) (strict_some state.tally notes (notes_end imported.imported) some)
 strict_refuses (no_board state notes imported none) some = omega arith
 strict_refuses (too_much state made notes imported unshown) some = omega arith
 
@@ -236,7 +241,7 @@ pub strict_silent : {variant : Variant} {noted : Noted} {bytes made said : List 
     → Makes variant noted bytes made said summary → said ≡ [] → summary.refused ≡ 0
 strict_silent {noted = noted} (collection state made notes records imported shown refused is) silent =
     let quiet = untallied state.tally notes silent in
-    is ∙ none_refused noted state.tally notes quiet (none_missed imported quiet)
+    is ∙ none_refused noted state.tally notes quiet (none_missed imported.imported quiet)
 strict_silent (no_board state notes imported none) silent =
     absurd (said_last (with_tally state.tally notes) no_board_line no_board_said silent)
 strict_silent (too_much state made notes imported unshown) silent =

@@ -6,10 +6,10 @@ use Rattle.std.specs.Prelude.{List, None, Ok, Option, Result, slice_get, slice_i
 use Rattle.std.specs.Prelude.{slice_index_or, Some, take, true, ℕ}
 use Rattle.{fc_board.specs.declared.rule.Variant.{Variant}, fc_card.specs.{places}}
 use Rattle.fc_board.specs.{Boards.{Board, IsWellFormed}, Games.{Builds, Game, game_of}}
-use Rattle.fc_board.specs.{Moves.{MoveList}, Play.{Legal}}
-use Rattle.fc_text.specs.{Bytes.{line_feed}, Lines.{lines_from}, Printed.{text_of}}
-use Rattle.fc_text.specs.Spelling.{Spells}
-use Rattle.fc_record.specs.{Grammar.{begins_with}, Printing.{header_text, list_line}}
+use Rattle.fc_board.specs.{Moves.{move_count, MoveList}, Play.{Legal}}
+use Rattle.fc_text.specs.{Bytes.{line_feed}, Lines.{lines_from}, Notation.{most_moves}}
+use Rattle.fc_text.specs.{Printed.{text_of}, Spelling.{Spells}}
+use Rattle.fc_record.specs.{Grammar.{begins_with, is_name}, Printing.{header_text, list_line}}
 use Rattle.fc_record.specs.RecordTexts.{ends_line as ends_lines, header_mark}
 use Rattle.fc_collect.specs.{Limits.{most_bytes, standard}, Promises.{Begins}}
 use Rattle.fc_collect.specs.Runs.{TransfersWithin}
@@ -86,9 +86,10 @@ CanBe game piece board = All (IsBuilt game) board.columns ⊎ (piece ≡ text_of
 abbrev pub numbered : List ℕ → ℕ → List ℕ
 numbered name number = take (63 - length (decimal number)) name ++ codes "_" ++ decimal number
 
--- the first board after a header with a name has that name, and each later one has it with its number
-abbrev pub IsNamed : State → (name : List ℕ) → Type 0
-IsNamed state name = state.place.name ≢ [] → name ≡ (if state.named == 0 then state.place.name else numbered state.place.name (counted (state.named + 1)))
+-- the first board after a header with a name has that name, and each later one has it with its number; without such a header a board has some name that a header can give
+pub record IsNamed (state : State) (name : List ℕ) : Type 0 where
+  pub by_header : state.place.name ≢ [] → name ≡ (if state.named == 0 then state.place.name else numbered state.place.name (counted (state.named + 1)))
+  pub alone : state.place.name ≡ [] → (is_name name ≡ true) × (name ≢ [])
 
 -- -------- What each piece of a text becomes: some whole lines, and what is written and said for them. From: this project's profile.
 
@@ -139,7 +140,7 @@ pub data Reading (variant : Variant) (game : Game) (state : State) (piece : List
       → SpellsOut game piece board ⊎ HasCards piece board → SaysUnless (BoardNeedsNoNote state.noted game piece board) state.place piece said
       → Reading variant game state piece (after state piece state.last Passed) [] said
   -- a list of moves that is legal on the last board: nothing is said of one that needs no note
-  a_list : (board : Board) (list : MoveList) (said : List ℕ) → state.last ≡ Some board → Legal game board list
+  a_list : (board : Board) (list : MoveList) (said : List ℕ) → state.last ≡ Some board → Legal game board list → move_count list ≤ most_moves
       → SaysUnless (ListNeedsNoNote state.noted game piece list) state.place piece said
       → Reading variant game state piece (after state piece state.last AList) (list_line list) said
   -- a board that is not taken: no list may follow it
@@ -157,6 +158,21 @@ pub data Imported (variant : Variant) (noted : Noted) (game : Game) : (text : Li
   one_more : (text : List ℕ) (state : State) (written said : List ℕ) → Imported variant noted game text state written said → ends_lines text ≡ true
       → (piece : List ℕ) → HasNoHeader piece → (next : State) (more says : List ℕ) → Reading variant game state piece next more says
       → Imported variant noted game (text ++ piece) next (written ++ more) (said ++ says)
+
+-- -------- What fcanon prints. From: this project's profile.
+
+-- the text is what fcanon prints of boards and of lists that are legal on them: after this board, if there is one, come its lists and then records with names
+pub data IsPrinted (variant : Variant) (game : Game) : (last : Option Board) → (text : List ℕ) → Type 0 where
+  nothing : (last : Option Board) → IsPrinted variant game last []
+  record_next : (last : Option Board) (name : List ℕ) (board : Board) (rest : List ℕ) → is_name name ≡ true → name ≢ [] → IsWellFormed game board
+      → IsPrinted variant game (Some board) rest → IsPrinted variant game last (header_text variant name ++ (text_of board ++ rest))
+  list_next : (board : Board) (list : MoveList) (rest : List ℕ) → Legal game board list → move_count list ≤ most_moves
+      → IsPrinted variant game (Some board) rest → IsPrinted variant game (Some board) (list_line list ++ rest)
+
+-- what is made of a text, and what is said of it: what fcanon prints is imported as it is, in silence
+pub record IsImportedAs (variant : Variant) (noted : Noted) (text : List ℕ) (state : State) (made notes : List ℕ) : Type 0 where
+  pub imported : Imported variant noted (game_of variant) text state made notes
+  pub kept : IsPrinted variant (game_of variant) None text → (made ≡ text) × (notes ≡ [])
 
 -- -------- What a run promises that imports its input. From: this project's profile.
 
@@ -197,14 +213,14 @@ IsShown variant text records = TransfersWithin standard Show variant (Some text)
 -- what is made of the text that these bytes are read as, what is said of it, and the summary
 pub data Makes (variant : Variant) (noted : Noted) (bytes : List ℕ) : (made said : List ℕ) → Summary → Type 0 where
   -- a collection that `show` takes
-  collection : (state : State) (made notes : List ℕ) (records : ℕ) → Imported variant noted (game_of variant) (text_read bytes) state made notes → IsShown variant made records
+  collection : (state : State) (made notes : List ℕ) (records : ℕ) → IsImportedAs variant noted (text_read bytes) state made notes → IsShown variant made records
       → (refused : ℕ) → refused ≡ refused_by noted state.tally notes
       → Makes variant noted bytes made (with_tally state.tally notes) (record { records = counted (records + refused); refused = refused })
   -- nothing, since the text has no board
-  no_board : (state : State) (notes : List ℕ) → Imported variant noted (game_of variant) (text_read bytes) state [] notes → refusals state.tally ≡ 0
+  no_board : (state : State) (notes : List ℕ) → IsImportedAs variant noted (text_read bytes) state [] notes → refusals state.tally ≡ 0
       → Makes variant noted bytes [] (with_tally state.tally notes ++ no_board_line) (record { records = 1; refused = 1 })
   -- nothing, since `show` does not take what is made of it
-  too_much : (state : State) (made notes : List ℕ) → Imported variant noted (game_of variant) (text_read bytes) state made notes → ((records : ℕ) → ¬ IsShown variant made records)
+  too_much : (state : State) (made notes : List ℕ) → IsImportedAs variant noted (text_read bytes) state made notes → ((records : ℕ) → ¬ IsShown variant made records)
       → Makes variant noted bytes [] (notes ++ too_much_line) (record { records = 1; refused = 1 })
 
 -- how what was read, what the input has left and what was written go with each result of an import that said this: all was read, at most 16 MiB, and what is made of it was written or, where a write failed, a beginning of that; else nothing was written or said, and more than 16 MiB are `TooLarge`

@@ -1,19 +1,21 @@
 -- What the stages of an import promise one another.
 use Rattle.std.specs.{Io.KnownBytes.{Appends, Consumes, IsAtEnd}, Prelude.{◌++◌, ◌+◌, ◌<◌, ◌||◌}}
-use Rattle.std.specs.Prelude.{◌↔◌, ◌≡◌, ◌≢◌, ◌≤◌, ◌⊎◌, [], ⊤, Bool, Err, false, if◌then◌else◌}
+use Rattle.std.specs.Prelude.{◌↔◌, ◌≡◌, ◌≢◌, ◌≤◌, [], ⊤, Bool, drop, Err, false, if◌then◌else◌}
 use Rattle.std.specs.Prelude.{length, List, map, None, Ok, Option, Result, Some, take, true, ℕ}
-use Rattle.fc_board.specs.{Boards.{Board}, declared.rule.Variant.{Variant}, Games.{Game}}
-use Rattle.fc_record.specs.RecordTexts.{ends_line}
+use Rattle.fc_board.specs.{Boards.{Board}, Games.{Game}, Moves.{MoveList, OneCard, Runs}}
+use Rattle.{fc_board.specs.declared.rule.Variant.{Variant}, fc_record.specs.RecordTexts.{ends_line}}
+use Rattle.fc_text.specs.Notation.{IsRunToken, IsToken, Listed}
 use Rattle.fc_collect.specs.{Limits.{most_bytes}, Promises.{Begins}, Streams.{CallCounts}}
 use Rattle.fc_collect.specs.declared.streams.faults.RunFault.{RunFault, TheVariants.{Memory, Read}}
 use Rattle.fc_collect.specs.declared.streams.faults.RunFault.TheVariants.{ReaderNeverEnds, TooLarge}
 use Rattle.fc_collect.specs.declared.streams.faults.RunFault.TheVariants.{Write}
 use Rattle.fc_collect.specs.declared.streams.faults.Summary.{Summary}
-use Rattle.fc_import.specs.Import.{BoardNeedsNoNote, HasNoHeader, Imported, IsHeading, IsShown}
-use Rattle.fc_import.specs.Import.{Makes, Reading}
+use Rattle.fc_import.specs.Import.{BoardNeedsNoNote, Imported, IsPrinted, IsShown, Makes, Reading}
 use Rattle.fc_import.specs.Notes.{after_heading, IsNote, Place, SaysUnless, State}
 use Rattle.fc_import.specs.Words.{is_between}
-use Rattle.fc_import.specs.declared.{changes.Noted.{Noted}, made.Made.{Made}, walk.Walk.{Walk}}
+use Rattle.fc_import.specs.declared.{changes.Noted.{Noted}, made.Form.{Form}}
+use Rattle.fc_import.specs.declared.made.Form.TheVariants.{OneCard as InOneCard, Runs as InRuns}
+use Rattle.fc_import.specs.declared.{made.Made.{Made}, walk.Walk.{Walk}}
 
 -- -------- Signs that are read as they are.
 
@@ -59,10 +61,37 @@ pub record AreWhole (text : List ℕ) (len : ℕ) : Type 0 where
   pub within : len ≤ length text
   pub whole : len < length text → ends_line (take len text) ≡ true
 
--- the first bytes of the text are taken as the line of a header, or as a piece without one
+-- the bytes are taken after all that was taken before
+abbrev pub GoesOn : {R : Type 0} → Variant → Game → (bytes : List ℕ) → (old new : Made R) → Type 0
+GoesOn variant game bytes old new =
+    (noted : Noted) (before : List ℕ) → ends_line before ≡ true → IsMade variant noted game before old → IsMade variant noted game (before ++ bytes) new
+
+-- so many bytes at the front of the text are taken, which are whole lines
 pub record TakesFirst {R : Type 0} (variant : Variant) (game : Game) (text : List ℕ) (len : ℕ) (old new : Made R) : Type 0 where
   pub lines : AreWhole text len
-  pub takes : (IsHeading (take len text) × TakesName variant (take len text) old new) ⊎ (HasNoHeader (take len text) × Takes variant game (take len text) old new)
+  pub takes : GoesOn variant game (take len text) old new
+
+-- they are written as they are, in silence
+pub record TakesAsItIs {R : Type 0} (variant : Variant) (game : Game) (text : List ℕ) (len : ℕ) (old new : Made R) : Type 0 where
+  pub takes : TakesFirst variant game text len old new
+  pub written : new.written.items ≡ old.written.items ++ take len text
+  pub notes : new.notes.items ≡ old.notes.items
+
+-- and the text goes on as fcanon prints it
+pub record KeepsFirst {R : Type 0} (variant : Variant) (game : Game) (text : List ℕ) (len : ℕ) (old new : Made R) : Type 0 where
+  pub written : new.written.items ≡ old.written.items ++ take len text
+  pub notes : new.notes.items ≡ old.notes.items
+  pub goes_on : IsPrinted variant game new.last (drop len text)
+
+-- the form of a list
+abbrev pub form_of : MoveList → Form
+form_of (OneCard moves) = InOneCard
+form_of (Runs moves) = InRuns
+
+-- the words are the tokens of its moves
+abbrev pub Names : Game → (words : List ℕ) → MoveList → Type 0
+Names game words (OneCard moves) = Listed (IsToken game) words moves
+Names game words (Runs moves) = Listed (IsRunToken game) words moves
 
 -- one note more was put
 abbrev pub PutsNote : Place → (piece old new : List ℕ) → Type 0

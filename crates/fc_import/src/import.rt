@@ -1,15 +1,19 @@
 //! Importing a text, piece by piece. What the lines look like is a guess, of which nothing is
 //! promised; what is made of them is tested before it is written.
-ghost use Rattle.std.specs.Prelude.{◌<◌, ◌≡◌, ◌≤◌, false, IfOk, IsTrue, length, OnOk, take, true};
-ghost use Rattle.fc_text.specs.{Lines.{lines_from}, Spelling.{Spells}};
-ghost use Rattle.fc_record.specs.{Grammar.{begins_with}, RecordTexts.{header_mark}};
-ghost use Rattle.fc_import.specs.Import.{HasNoHeader};
-ghost use Rattle.fc_import.specs.inside.{AreWhole, IsMade, Takes, TakesFirst, TakesName};
+ghost use Rattle.std.specs.Prelude.{◌++◌, ◌<◌, ◌≡◌, ◌≢◌, ◌≤◌, [], false, IfOk, IfSome, IsNone};
+ghost use Rattle.std.specs.Prelude.{IsTrue, length, List, None, OnOk, Some, take, true, ℕ};
+ghost use Rattle.fc_board.specs.Boards.{Board as Layout, IsWellFormed};
+ghost use Rattle.fc_board.specs.{Moves.{move_count, MoveList}, Play.{Legal}};
+ghost use Rattle.fc_text.specs.{Notation.{most_moves}, Printed.{text_of}, Spelling.{Spells}};
+ghost use Rattle.fc_record.specs.Grammar.{begins_with, is_name};
+ghost use Rattle.fc_record.specs.{Printing.{header_text, list_line}, RecordTexts.{header_mark}};
+ghost use Rattle.fc_import.specs.{Import.{HasNoHeader, IsPrinted}, inside.{AreWhole, IsMade}};
+ghost use Rattle.fc_import.specs.inside.{KeepsFirst, Takes, TakesAsItIs, TakesFirst, TakesName};
 
 use crate::block::Block;
 use crate::changes::Noted;
 use crate::layout::{LinesAre, Reading, layout_words, read};
-use crate::line::{LineKind, kind_of};
+use crate::line::{LineKind, kind_of, line_len};
 use crate::lists::{ListRead, has_moves, is_list, is_move, moves_len, read_moves_on};
 use crate::made::{Form, Made, is_same};
 use crate::reasons::{board_reason, move_reason};
@@ -114,7 +118,9 @@ pub(crate) fn import_text<R: Rule>(
     noted: Noted,
     text: &[u8],
 ) -> Result<Made<R>, AllocError>
-    ensures { IfOk result (IsMade R.VARIANT noted R.game text.now) }
+    ensures made { IfOk result (IsMade R.VARIANT noted R.game text.now) }
+    ensures kept { IsPrinted R.VARIANT R.game None text.now → IfOk result
+        (λ made. (made.written.items ≡ text.now) × (made.notes.items ≡ [])) }
 {
     let mut importer = Importer {
         alloc,
@@ -134,8 +140,82 @@ pub(crate) fn import_text<R: Rule>(
 }
 
 impl<R: Rule> Importer<R> {
-    // Takes the header or the piece at the front of the text, and returns how many bytes it has.
+    // Takes what is at the front of the text, and returns how many bytes it has.
     fn take_first(&mut self, text: &[u8], block: &mut Block) -> Result<usize, AllocError>
+        requires { 0 < length text.now }
+        ensures takes { IfOk result (λ len. TakesFirst R.VARIANT R.game text.now len
+            self.old.made self.new.made) }
+        ensures kept { IsPrinted R.VARIANT R.game self.old.made.last text.now → IfOk result
+            (λ len. KeepsFirst R.VARIANT R.game text.now len self.old.made self.new.made) }
+    {
+        if let Some(len) = self.take_as_it_is(text)? {
+            return Ok(len);
+        }
+        self.take_other(text, block)
+    }
+
+    // Takes a record or a list that is as fcanon prints it, and returns how many bytes it has.
+    fn take_as_it_is(&mut self, text: &[u8]) -> Result<Option<usize>, AllocError>
+        requires { 0 < length text.now }
+        ensures takes { IfOk result (λ taken. IfSome taken (λ len.
+            TakesFirst R.VARIANT R.game text.now len self.old.made self.new.made)) }
+        ensures kept { IfOk result (λ taken. IsNone taken → self.new.made ≡ self.old.made) }
+        ensures found { IsPrinted R.VARIANT R.game self.old.made.last text.now → IfOk result
+            (λ taken. (len : ℕ) × (taken ≡ Some len)
+            × KeepsFirst R.VARIANT R.game text.now len self.old.made self.new.made) }
+    {
+        if text[0] == b'@' {
+            return self.take_record(text);
+        }
+        if text[0] == b'>' {
+            return self.take_list(text);
+        }
+        Ok(None)
+    }
+
+    // Takes a header with a name and a board that are as fcanon prints them.
+    fn take_record(&mut self, text: &[u8]) -> Result<Option<usize>, AllocError>
+        requires { 0 < length text.now }
+        ensures taken { IfOk result (λ taken. IfSome taken (λ len.
+            TakesAsItIs R.VARIANT R.game text.now len self.old.made self.new.made)) }
+        ensures kept { IfOk result (λ taken. IsNone taken → self.new.made ≡ self.old.made) }
+        ensures found { (name : List ℕ) (board : Layout) (rest : List ℕ) → is_name name ≡ true
+            → name ≢ [] → IsWellFormed R.game board
+            → text.now ≡ header_text R.VARIANT name ++ (text_of board ++ rest) → IfOk result
+            (λ taken. (taken ≡ Some (length (header_text R.VARIANT name ++ text_of board)))
+            × (self.new.made.last ≡ Some board)) }
+    {
+        let taken = self.made.take_record(self.alloc, text)?;
+        if taken.is_some() {
+            self.solution = Solution::Nothing;
+            self.title.clear();
+            self.game = GameNamed::This;
+        }
+        Ok(taken)
+    }
+
+    // Takes a list that is as fcanon prints it, and legal on the last board.
+    fn take_list(&mut self, text: &[u8]) -> Result<Option<usize>, AllocError>
+        requires some { 0 < length text.now }
+        requires no_header { begins_with header_mark text.now ≡ false }
+        ensures taken { IfOk result (λ taken. IfSome taken (λ len.
+            TakesAsItIs R.VARIANT R.game text.now len self.old.made self.new.made)) }
+        ensures kept { IfOk result (λ taken. IsNone taken → self.new.made ≡ self.old.made) }
+        ensures found { (board : Layout) (list : MoveList) (rest : List ℕ)
+            → self.old.made.last ≡ Some board → Legal R.game board list
+            → move_count list ≤ most_moves → text.now ≡ list_line list ++ rest → IfOk result
+            (λ taken. (taken ≡ Some (length (list_line list)))
+            × (self.new.made.last ≡ Some board)) }
+    {
+        let taken = self.made.take_list(self.alloc, text)?;
+        if taken.is_some() {
+            self.solution = Solution::Nothing;
+        }
+        Ok(taken)
+    }
+
+    // Takes the header or the piece at the front of the text, and returns how many bytes it has.
+    fn take_other(&mut self, text: &[u8], block: &mut Block) -> Result<usize, AllocError>
         requires { 0 < length text.now }
         ensures { IfOk result (λ len. TakesFirst R.VARIANT R.game text.now len
             self.old.made self.new.made) }
@@ -493,18 +573,6 @@ fn lines_len(text: &[u8], least: usize) -> usize
         len += line_len(&text[len..]);
     }
     len
-}
-
-// How many bytes the first line of the text has, with the line feed that ends it.
-fn line_len(text: &[u8]) -> usize
-    requires { 0 < length text.now }
-    ensures lines { AreWhole text.now result }
-    ensures one { length (lines_from 0 (take result text.now)) ≤ 1 }
-{
-    match memchr(b'\n', text) {
-        Some(place) => place + 1,
-        None => text.len(),
-    }
 }
 
 // How many bytes the first ten lines have.

@@ -2,15 +2,16 @@
 ghost use Rattle.std.specs.{Fmt.{decimal}, List.{Contains, fold}, Prelude.{◌++◌, ◌<◌, ◌∷◌, ◌≡◌}};
 ghost use Rattle.std.specs.Prelude.{◌≢◌, [], codes, false, if◌then◌else◌, List, None, Option, Some};
 ghost use Rattle.std.specs.Prelude.{true, ℕ};
-ghost use Rattle.fc_board.specs.{Boards.{Board}, Games.{bakers_game, eight_off, freecell, Game}};
+ghost use Rattle.fc_board.specs.Boards.{Board};
+ghost use Rattle.fc_board.specs.Games.{bakers_game, eight_off, freecell, Game, game_of};
 ghost use Rattle.fc_board.specs.Moves.{MoveList};
 ghost use Rattle.fc_board.specs.declared.rule.Variant.{Variant};
 ghost use Rattle.fc_text.specs.{Bytes.{line_feed}, Lines.{lines_from, Piece}, Spelling.{board_of}};
 ghost use Rattle.fc_record.specs.{Grammar.{begins_with, heading_of}, RecordTexts.{header_mark}};
 ghost use Rattle.fc_collect.specs.declared.streams.faults.Summary.{Summary};
 ghost use Rattle.fc_import.specs.Import.{BoardNeedsNoNote, count_text, HasFewCards, Imported};
-ghost use Rattle.fc_import.specs.Import.{IsBuilt, IsNoBoard, ListNeedsNoNote, Makes, most_dealt};
-ghost use Rattle.fc_import.specs.Import.{numbered, refusals, StaysLast};
+ghost use Rattle.fc_import.specs.Import.{IsBuilt, IsNoBoard, IsPrinted, IsShown, ListNeedsNoNote};
+ghost use Rattle.fc_import.specs.Import.{Makes, most_dealt, numbered, refusals, StaysLast};
 ghost use Rattle.fc_import.specs.Notes.{name_by, Place, place_text, SaysUnless, State};
 ghost use Rattle.fc_import.specs.Words.{decoded, is_list, named_card, named_cards, named_in};
 ghost use Rattle.fc_import.specs.Words.{named_lines, named_moves, plain, text_read};
@@ -135,6 +136,27 @@ pub fn refusals_are_said()
 pub fn changes_are_noted_beside_doubts()
     ensures { (variant : Variant) (noted : Noted) (bytes made : List ℕ) (summary : Summary)
         → Makes variant noted bytes made [] summary → Makes variant Doubts bytes made [] summary }
+{}
+
+/// What fcanon prints of boards, and of lists that are legal on them, is imported as it is, in
+/// silence: if there is any, and `show` takes it.
+pub fn what_is_printed_is_imported_as_it_is()
+    ensures { (variant : Variant) (noted : Noted) (bytes made said : List ℕ) (summary : Summary)
+        (records : ℕ) → Makes variant noted bytes made said summary
+        → IsPrinted variant (game_of variant) None (text_read bytes) → text_read bytes ≢ []
+        → IsShown variant (text_read bytes) records → (made ≡ text_read bytes) × (said ≡ []) }
+{}
+
+/// What an import writes is what fcanon prints; so importing it once more, whatever is noted, gives
+/// that in silence.
+pub fn what_is_imported_is_printed()
+    ensures printed { (variant : Variant) (noted : Noted) (bytes made said : List ℕ)
+        (summary : Summary) → Makes variant noted bytes made said summary
+        → IsPrinted variant (game_of variant) None made }
+    ensures again { (variant : Variant) (noted other : Noted)
+        (bytes made said more again says : List ℕ) (summary next : Summary)
+        → Makes variant noted bytes made said summary → made ≢ [] → text_read more ≡ made
+        → Makes variant other more again says next → (again ≡ made) × (says ≡ []) }
 {}
 
 /// A strict import has refusals where anything is said, and no import has any where nothing is.

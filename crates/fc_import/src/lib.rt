@@ -13,6 +13,7 @@ mod lists;
 mod made;
 mod plain;
 mod playable;
+mod printed;
 mod quiet;
 mod reasons;
 mod run;

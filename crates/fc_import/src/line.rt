@@ -1,4 +1,7 @@
 //! What a line of a text looks like. A line is looked at once.
+ghost use Rattle.std.specs.Prelude.{◌++◌, ◌+◌, ◌<◌, ◌∷◌, ◌≡◌, ◌≢◌, ◌≤◌, All, length, List, take, ℕ};
+ghost use Rattle.fc_text.specs.{Bytes.{line_feed}, Lines.{lines_from}};
+ghost use Rattle.fc_import.specs.inside.{AreWhole};
 
 use crate::lists::is_list;
 use crate::words::{Word, WordKind, Words};
@@ -268,4 +271,18 @@ pub(crate) fn kind_of(line: &[u8]) -> LineKind {
         return LineKind::Front;
     }
     kind_by_words(line, Tally::of(line))
+}
+
+/// How many bytes the first line of the text has, with the line feed that ends it.
+pub(crate) fn line_len(text: &[u8]) -> usize
+    requires { 0 < length text.now }
+    ensures lines { AreWhole text.now result }
+    ensures one { length (lines_from 0 (take result text.now)) ≤ 1 }
+    ensures first { (line rest : List ℕ) → All (λ byte. byte ≢ line_feed) line
+        → text.now ≡ line ++ line_feed ∷ rest → result ≡ length line + 1 }
+{
+    match memchr(b'\n', text) {
+        Some(place) => place + 1,
+        None => text.len(),
+    }
 }

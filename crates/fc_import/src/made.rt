@@ -1,14 +1,15 @@
 //! What is made of a text, piece by piece. Each method that takes a piece tests that the piece is
 //! what it is taken for.
-ghost use Rattle.std.specs.Prelude.{◌++◌, ◌↔◌, ◌≡◌, ◌≤◌, ◌⊎◌, [], All, false, IfOk, IfSome, IsTrue};
-ghost use Rattle.std.specs.Prelude.{List, OnOk, Some, ℕ};
+ghost use Rattle.std.specs.Prelude.{◌++◌, ◌↔◌, ◌≡◌, ◌≢◌, ◌≤◌, ◌⊎◌, [], All, false, IfErr, IfOk};
+ghost use Rattle.std.specs.Prelude.{IfSome, IsTrue, List, None, OnOk, Some, true, ℕ};
 ghost use Rattle.fc_board.specs.{Boards.{Board as Layout, IsWellFormed}, Games.{eight_off}};
-ghost use Rattle.fc_board.specs.{Moves.{ListFits}, Play.{Legal}};
-ghost use Rattle.fc_text.specs.{Printed.{text_of}, Spelling.{Spells}};
-ghost use Rattle.fc_record.specs.{Grammar.{heading_of}, Printing.{header_text, list_line}};
+ghost use Rattle.fc_board.specs.{Moves.{ListFits, move_count, MoveList as SaidList}, Play.{Legal}};
+ghost use Rattle.fc_text.specs.{Notation.{most_moves}, Printed.{text_of}, Spelling.{Spells}};
+ghost use Rattle.fc_text.specs.declared.fault.MovesFault.TheVariants.{Memory};
+ghost use Rattle.fc_record.specs.{Grammar.{heading_of, is_name}, Printing.{header_text, list_line}};
 ghost use Rattle.fc_import.specs.Import.{BoardNeedsNoNote, by_columns, HasCards, IsNamed, IsPacked};
-ghost use Rattle.fc_import.specs.Import.{ListNeedsNoNote, numbered, SpellsOut};
-ghost use Rattle.fc_import.specs.inside.{IsMade, place_of, Says, state_of, Takes, TakesName};
+ghost use Rattle.fc_import.specs.{Import.{ListNeedsNoNote, numbered, SpellsOut}, inside.{form_of}};
+ghost use Rattle.fc_import.specs.inside.{IsMade, Names, place_of, Says, state_of, Takes, TakesName};
 ghost use Rattle.fc_import.specs.Notes.{after, name_by, SaysUnless};
 ghost use Rattle.fc_import.specs.Words.{named_lines, named_moves};
 ghost use Rattle.fc_import.specs.declared.tally.Fate.TheVariants.{ABoard};
@@ -20,7 +21,7 @@ use crate::quiet::{are_no_board, are_prose, are_quiet};
 use crate::tally::{Fate, Tally, counted};
 use crate::walk::{Walk, line_after};
 use fc_board::{Board, Rule, Variant};
-use fc_record::{MoveList, push_header, push_list, push_number, read_heading};
+use fc_record::{MoveList, is_name, push_header, push_list, push_number, read_heading};
 use fc_text::{BoardView, MovesFault, read_board, read_moves, read_runs, write_board};
 use std::alloc::{AllocError, Global};
 
@@ -50,6 +51,9 @@ impl<R: Rule> Made<R> {
     pub(crate) fn new(alloc: Global, noted: Noted) -> Self
         ensures made { IsMade R.VARIANT noted R.game [] result }
         ensures noted { result.noted ≡ noted }
+        ensures last { result.last ≡ None }
+        ensures written { result.written.items ≡ [] }
+        ensures notes { result.notes.items ≡ [] }
     {
         Made {
             noted,
@@ -154,6 +158,15 @@ impl<R: Rule> Made<R> {
         ensures { OnOk result (TakesName R.VARIANT line.now self.old self.new) }
     {
         let name = name_given(alloc, R::VARIANT, line)?;
+        self.put_name(name, line);
+        Ok(())
+    }
+
+    /// Goes on after the line of a header, which gives this name.
+    pub(crate) fn put_name(&mut self, name: Vec<u8>, line: &[u8])
+        requires { name.items ≡ name_by (heading_of R.VARIANT line.now) }
+        ensures { TakesName R.VARIANT line.now self.old self.new }
+    {
         self.last = None;
         self.named = 0;
         self.walk = Walk {
@@ -161,7 +174,6 @@ impl<R: Rule> Made<R> {
             header: self.walk.line,
             line: line_after(self.walk.line, line),
         };
-        Ok(())
     }
 
     /// Writes a board that `show` reads in the lines, under its name or this title. Returns whether
@@ -254,8 +266,8 @@ impl<R: Rule> Made<R> {
         Ok(true)
     }
 
-    // Goes on after the lines of a piece of this fate.
-    fn go_on(&mut self, piece: &[u8], fate: Fate)
+    /// Goes on after the lines of a piece of this fate.
+    pub(crate) fn go_on(&mut self, piece: &[u8], fate: Fate)
         ensures state { state_of self.new ≡ after (state_of self.old) piece.now self.old.last fate }
         ensures written { self.new.written.items ≡ self.old.written.items }
         ensures notes { self.new.notes.items ≡ self.old.notes.items }
@@ -328,8 +340,8 @@ impl<R: Rule> Made<R> {
         }
     }
 
-    // The list of these moves, if it is legal on the last board.
-    fn legal_list(
+    /// The list of these moves, if it is legal on the last board.
+    pub(crate) fn legal_list(
         &self,
         alloc: Global,
         form: Form,
@@ -338,6 +350,10 @@ impl<R: Rule> Made<R> {
         ensures legal { IfOk result (λ list. IfSome list (λ list. (board : Layout)
             × (self.now.last ≡ Some board) × Legal R.game board list)) }
         ensures fits { IfOk result (λ list. IfSome list (ListFits eight_off)) }
+        ensures few { IfOk result (λ list. IfSome list (λ list. move_count list ≤ most_moves)) }
+        ensures found { (board : Layout) (list : SaidList) → self.now.last ≡ Some board
+            → Legal R.game board list → form ≡ form_of list → Names R.game moves.now list
+            → IfOk result (λ found. found ≡ Some list) }
     {
         let Some(board) = &self.last else {
             return Ok(None);
@@ -445,8 +461,12 @@ fn push_record<R: Rule>(
     Ok(())
 }
 
-// The name that the header gives, or nothing.
-fn name_given(alloc: Global, variant: Variant, line: &[u8]) -> Result<Vec<u8>, AllocError>
+/// The name that the header gives, or nothing.
+pub(crate) fn name_given(
+    alloc: Global,
+    variant: Variant,
+    line: &[u8],
+) -> Result<Vec<u8>, AllocError>
     ensures { IfOk result (λ name. name.items ≡ name_by (heading_of variant line.now)) }
 {
     match read_heading(variant, line) {
@@ -464,8 +484,11 @@ fn copied(alloc: Global, bytes: &[u8]) -> Result<Vec<u8>, AllocError>
 }
 
 // The title, or the number where there is none.
-fn title_or_number(alloc: Global, title: &[u8], number: usize) -> Result<Vec<u8>, AllocError> {
-    if !title.is_empty() {
+fn title_or_number(alloc: Global, title: &[u8], number: usize) -> Result<Vec<u8>, AllocError>
+    ensures name { IfOk result (λ name. is_name name.items ≡ true) }
+    ensures some { IfOk result (λ name. name.items ≢ []) }
+{
+    if !title.is_empty() && is_name(title) {
         return copied(alloc, title);
     }
     let mut name = Vec::new(alloc);
@@ -555,7 +578,7 @@ pub(crate) fn is_same<R: Rule>(first: &Board<R>, second: &Board<R>) -> bool
     is_equal(first.text().as_slice(), second.text().as_slice())
 }
 
-fn is_equal(first: &[u8], second: &[u8]) -> bool
+pub(crate) fn is_equal(first: &[u8], second: &[u8]) -> bool
     ensures { IsTrue result ↔ (first.now ≡ second.now) }
 {
     first == second
@@ -565,16 +588,27 @@ fn is_equal(first: &[u8], second: &[u8]) -> bool
 fn read_list<R: Rule>(alloc: Global, form: Form, words: &[u8]) -> Result<MoveList, MovesFault>
     ensures fits { IfOk result (ListFits R.game) }
     ensures fits_eight_off { IfOk result (ListFits eight_off) }
+    ensures few { IfOk result (λ list. move_count list ≤ most_moves) }
+    ensures found { (list : SaidList) → form ≡ form_of list → Names R.game words.now list
+        → IfOk result (λ read. read ≡ list) }
+    ensures memory { (list : SaidList) → form ≡ form_of list → Names R.game words.now list
+        → IfErr result (λ fault. fault ≡ Memory) }
 {
     match form {
-        Form::OneCard => Ok(MoveList::one_card(read_moves::<R>(alloc, words)?)),
-        Form::Runs => Ok(MoveList::runs(read_runs::<R>(alloc, words)?)),
+        Form::OneCard => match read_moves::<R>(alloc, words) {
+            Ok(moves) => Ok(MoveList::one_card(moves)),
+            Err(fault) => Err(fault),
+        },
+        Form::Runs => match read_runs::<R>(alloc, words) {
+            Ok(moves) => Ok(MoveList::runs(moves)),
+            Err(fault) => Err(fault),
+        },
     }
 }
 
 fn plays<R: Rule>(board: &Board<R>, list: &MoveList) -> bool
     requires { ListFits R.game list.now }
-    ensures { IsTrue result → Legal R.game board.now list.now }
+    ensures { IsTrue result ↔ Legal R.game board.now list.now }
 {
     list.play(board).is_ok()
 }
@@ -590,12 +624,21 @@ fn list_needs_no_note<R: Rule>(
     ensures { IfOk result (λ silent. IsTrue silent
         ↔ ListNeedsNoNote noted R.game lines.now list.now) }
 {
-    let mut printed = Vec::new(alloc);
-    push_list(list, &mut printed)?;
+    let printed = line_of(alloc, list)?;
     match noted {
         Noted::Doubts => names_moves::<R>(alloc, lines, printed.as_slice()),
         Noted::Changes | Noted::Strict => Ok(is_equal(lines, printed.as_slice())),
     }
+}
+
+/// The line of the list, as fcanon prints it.
+pub(crate) fn line_of(alloc: Global, list: &MoveList) -> Result<Vec<u8>, AllocError>
+    requires { ListFits eight_off list.now }
+    ensures { IfOk result (λ line. line.items ≡ list_line list.now) }
+{
+    let mut line = Vec::new(alloc);
+    push_list(list, &mut line)?;
+    Ok(line)
 }
 
 // Whether the lines name the same moves as the printed list.

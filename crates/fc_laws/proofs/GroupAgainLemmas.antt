@@ -24,7 +24,8 @@ use Rattle.fc_laws.proofs.CanonicalAgainLemmas.{text_stays}
 use Rattle.fc_laws.proofs.CommentLemmas.{spelled-comment_before}
 use Rattle.fc_laws.proofs.GroupPlaceLemmas.{apart-groups, leaders-first, named_again, NamedAs}
 use Rattle.fc_laws.proofs.MemberLemmas.{CanPrint, IsSaid, members-Numbered, members-said}
-use Rattle.fc_laws.proofs.PrintedRecordLemmas.{join_in_line, with_header-IsReadAs}
+use Rattle.fc_record.proofs.PrintedListLemmas.{join_in_line}
+use Rattle.fc_laws.proofs.PrintedRecordLemmas.{with_header-IsReadAs}
 use Rattle.fc_laws.proofs.ReadAgainLemmas.{codes_in_line, decimal_in_line, IsReadAs, Reads}
 use Rattle.fc_laws.proofs.{ReadAgainLemmas.{Reads-lines}, ShareAgainLemmas.{refusals_read}}
 use Rattle.fc_laws.proofs.UniqueAgainLemmas.{Apart-keys, names_of}

@@ -15,7 +15,8 @@ use Rattle.fc_laws.proofs.AcceptanceLemmas.{accepted-from_Says, Says-from_accept
 use Rattle.fc_laws.proofs.CommentLemmas.{accepted-comment_after, front_kept, heading_kept}
 use Rattle.fc_laws.proofs.CommentLemmas.{starts_within}
 use Rattle.fc_laws.proofs.{HeaderLemmas.{marks, marks-lines, starts_of}, MemberLemmas.{CanPrint}}
-use Rattle.fc_laws.proofs.PrintedRecordLemmas.{list_bytes, list_in_line, marked, no_header_mark}
+use Rattle.fc_record.proofs.PrintedListLemmas.{list_bytes, list_in_line}
+use Rattle.fc_laws.proofs.PrintedRecordLemmas.{marked, no_header_mark}
 use Rattle.fc_laws.proofs.PrintedRecordLemmas as printed
 use Rattle.fc_record.proofs.TextLineLemmas.{ends-after, ends-drop, ends-line_feed, lines_after}
 use Rattle.fc_record.specs.Grammar.{Accepted, after_header, AreLists, begins_with, board_part}
@@ -49,7 +50,7 @@ module _ (game : Game) (few : game.cells ≤ 8) (list : MoveList) (can : CanPrin
   lines_more place count =
       rw (
         lines_after place (drop count body) (list_line list) (ends-drop count body ends),
-        first_line (place + length (drop count body)) (list_bytes list) [] (list_in_line game few list can),
+        first_line (place + length (drop count body)) (list_bytes list) [] (list_in_line game few list can.0),
       )
 
   abbrev start_by : Option Piece → List ℕ → ℕ
@@ -171,6 +172,6 @@ pub IsReadAs-list : (variant : Variant) (has : Bool) (bytes : List ℕ) (heading
     → IsReadAs variant has bytes (Accepted heading contents)
     → IsReadAs variant has (bytes ++ list_line list) (Accepted heading (with_one_more contents list))
 IsReadAs-list variant has bytes heading contents list can is =
-    IsReadAs-line variant has bytes (list_bytes list) (list_in_line (game_of heading.variant) (few_cells heading.variant) list can)
+    IsReadAs-line variant has bytes (list_bytes list) (list_in_line (game_of heading.variant) (few_cells heading.variant) list can.0)
     (no_header_mark list) heading contents (with_one_more contents list)
     (accepted-list_after variant bytes heading contents list is.ends can) is

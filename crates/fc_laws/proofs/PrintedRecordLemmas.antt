@@ -22,6 +22,7 @@ use Rattle.fc_text.specs.{Rows.{is_empty, line_of}, Spelling.{Spells}}
 use Rattle.fc_record.proofs.{ContentsLemmas.{begins_list}, HeadingLemmas.{given_name, header_gone}}
 use Rattle.fc_record.proofs.HeadingLemmas.{header_read, heading_said, in_line, IsGiven, IsHeading}
 use Rattle.fc_record.proofs.HeadingLemmas.{named, numbered, unnamed, without}
+use Rattle.fc_record.proofs.PrintedListLemmas.{list_bytes, list_in_line}
 use Rattle.fc_record.proofs.PrintedPartLemmas.{IsPlain, lines_of_board, no_list}
 use Rattle.fc_record.proofs.TextLineLemmas.{AreLines, AreLines-append, AreLines-flat_map}
 use Rattle.fc_record.proofs.TextLineLemmas.{AreLines-line, ends-after, ends-line_feed, lines_after}
@@ -42,9 +43,6 @@ use Rattle.fc_laws.proofs.ReadAgainLemmas.{AreReadAs, IsReadAs, ReadsAgain, same
 
 -- ---- the lines of lists
 
-abbrev pub list_bytes : MoveList → List ℕ
-list_bytes list = marks_of list ++ after_blank (print list)
-
 bytes_kept : (places : ℕ) (words : List Piece) → map (λ word. word.bytes) (map (moved places) words) ≡ map (λ word. word.bytes) words
 bytes_kept places [] = refl
 bytes_kept places (word ∷ words) = rw (bytes_kept places words)
@@ -62,26 +60,6 @@ after_one_blank Names (byte ∷ text) items listed = record {
   at_most = listed.at_most;
 }
 
-in_one_line : (word : List ℕ) → All (λ byte. separates_tokens byte ≡ false) word → All InLine word
-in_one_line word are =
-    All-weaker (λ byte. separates_tokens byte ≡ false) InLine (λ byte joins e. absurd (let ends = ap separates_tokens e in cc)) word are
-
--- what is printed with blanks between is in one line
-pub join_in_line : {Item : Type 0} (word_of : Item → List ℕ) (P : Item → Type 0) → ((item : Item) → P item → All InLine (word_of item))
-    → (items : List Item) → All P items → All InLine (join_with_byte blank (map word_of items))
-join_in_line word_of P each [] are = All-nil InLine
-join_in_line word_of P each (item ∷ []) are = each item (All-head P item [] are)
-join_in_line word_of P each (item ∷ next ∷ items) are =
-    All-append InLine (word_of item) (blank ∷ join_with_byte blank (map word_of (next ∷ items))) (each item (All-head P item (next ∷ items) are))
-    (All-cons InLine blank _ (λ e. absurd (omega (arith, e))) (join_in_line word_of P each (next ∷ items) (All-tail P item (next ∷ items) are)))
-
-blank_in_line : (text : List ℕ) → All InLine text → All InLine (after_blank text)
-blank_in_line [] are = are
-blank_in_line (byte ∷ text) are = All-cons InLine blank (byte ∷ text) (λ e. absurd (omega (arith, e))) are
-
-mark_in_line : (text : List ℕ) → All InLine text → All InLine (list_mark ∷ text)
-mark_in_line text are = All-cons InLine list_mark text (λ e. absurd (omega (arith, e))) are
-
 one_mark : (text : List ℕ) → begins_with list_mark (after_blank text) ≡ false
 one_mark [] = refl
 one_mark (byte ∷ text) = refl
@@ -91,14 +69,6 @@ marked (OneCard moves) = refl
 marked (Runs moves) = refl
 
 module _ (game : Game) (few : game.cells ≤ 8) where
-  pub list_in_line : (list : MoveList) → CanPrint game list → All InLine (list_bytes list)
-  list_in_line (OneCard moves) (fits, short) =
-      mark_in_line (after_blank (print (OneCard moves))) (blank_in_line (print (OneCard moves))
-      (join_in_line token (Fits game) (λ move fits. in_one_line (token move) (token-IsSolid game few move fits).1) moves fits))
-  list_in_line (Runs moves) (fits, short) =
-      mark_in_line (list_mark ∷ after_blank (print (Runs moves))) (mark_in_line (after_blank (print (Runs moves))) (blank_in_line (print (Runs moves))
-      (join_in_line run_token (RunFits game) (λ move fits. in_one_line (run_token move) (run_solid game few move fits).1) moves fits)))
-
   pub is_list : (list : MoveList) → CanPrint game list → IsList game (list_bytes list) list
   is_list (OneCard moves) (fits, short) =
       (one_mark (print (OneCard moves)), after_one_blank (IsToken game) (print (OneCard moves)) moves (print-Listed game moves few fits short))
@@ -109,7 +79,7 @@ module _ (game : Game) (few : game.cells ≤ 8) where
       → lines_from place (list_line list ++ rest)
       ≡ record { start = place; bytes = list_bytes list } ∷ lines_from (place + length (list_bytes list) + 1) rest
   first_list place list rest can =
-      rw (append_assoc (list_bytes list) (line_feed ∷ []) rest, first_line place (list_bytes list) rest (list_in_line list can))
+      rw (append_assoc (list_bytes list) (line_feed ∷ []) rest, first_line place (list_bytes list) rest (list_in_line game few list can.0))
 
   lists_read : (place : ℕ) (lists : List MoveList) → All (CanPrint game) lists → AreLists game (lines_from place (flat_map list_line lists)) lists
   lists_read place [] can = no_lines
@@ -261,7 +231,7 @@ lines_of_lists : (game : Game) → game.cells ≤ 8 → (lists : List MoveList) 
 lines_of_lists game few lists can =
     AreLines-flat_map NoHeader list_line lists
     (All-weaker (CanPrint game) (λ list. AreLines NoHeader (list_line list))
-    (λ list can. AreLines-line NoHeader (list_bytes list) (list_in_line game few list can) (no_header_mark list)) lists can)
+    (λ list can. AreLines-line NoHeader (list_bytes list) (list_in_line game few list can.0) (no_header_mark list)) lists can)
 
 holds_first : (line rest : List ℕ) → All InLine line → is_empty (line_of (record { start = 0; bytes = line })) ≡ false
     → has_content (line ++ line_feed ∷ rest) ≡ true

@@ -119,18 +119,22 @@ digits_in_name (digit ∷ digits) are =
     let from = digit_from_value digit are.0 in
     All-cons IsInName digit digits (omega (arith, from), omega (arith, from)) (digits_in_name digits are.1)
 
-name_from_bytes : (name : List ℕ) → length name ≤ 64 → All IsInName name → is_name name ≡ true
+pub name_from_bytes : (name : List ℕ) → length name ≤ 64 → All IsInName name → is_name name ≡ true
 name_from_bytes name short are =
     ap₂ (λ a b. a && b) (le-leb (length name) 64 short)
     (list_all-from_AllPass (λ byte. leb 33 byte && leb byte 126) name
     (All-weaker IsInName (λ byte. (leb 33 byte && leb byte 126) ≡ true) (λ byte is. ap₂ (λ a b. a && b) (le-leb 33 byte is.0) (le-leb byte 126 is.1)) name are))
 
--- a number of a record is a name
-pub numbered : (number : ℕ) → number ≤ 2 ^ 60 → IsGiven (decimal number)
-numbered number small =
+-- a number is a name
+pub word_numbered : (number : ℕ) → number < 2 ^ 64 → IsGiven (decimal number)
+word_numbered number small =
     let numeral = decimal_is_IsNumeral number (omega arith) in
-    let short = length-decimal-le 19 number (omega arith) (omega arith) (omega arith) in
+    let short = length-decimal-le 20 number (omega arith) (omega arith) (omega arith) in
     record { is_one = name_from_bytes (decimal number) (omega (arith, short)) (digits_in_name (decimal number) numeral.0.1); some = numeral.0.0 }
+
+-- and so is that of a record
+pub numbered : (number : ℕ) → number ≤ 2 ^ 60 → IsGiven (decimal number)
+numbered number small = word_numbered number (omega (arith, small))
 
 pub given_name : (variant : Variant) (has : Bool) (number : ℕ) (heading : Heading) → number ≤ 2 ^ 60 → IsHeading variant has heading → IsGiven (name_of number heading.name)
 given_name variant has number heading small without = numbered number small

@@ -11,5 +11,5 @@ pub use printing::{
 };
 pub use record::{
     Contents, Heading, MoveList, RecordFault, RecordFaultKind, RecordText, Unread, begins_line,
-    read_contents, read_heading,
+    is_name, read_contents, read_heading,
 };

@@ -11,7 +11,7 @@ mod header;
 mod move_list;
 
 pub use body::{Unread, read_contents};
-pub use header::read_heading;
+pub use header::{is_name, read_heading};
 pub use move_list::MoveList;
 
 /// Whether a record has a header, and the name that this gives.

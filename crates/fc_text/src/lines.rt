@@ -103,6 +103,7 @@ pub fn gap_len(bytes: &[u8]) -> usize
     bytes.iter().take_while(|byte| is_gap(**byte)).count()
 }
 
+/// Whether the byte is a blank or a tab.
 pub fn is_gap(byte: u8) -> bool
     ensures { result ≡ is_gap byte }
 {

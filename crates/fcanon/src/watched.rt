@@ -18,6 +18,7 @@ pub struct Watched<'a, R> {
 }
 
 impl<'a, R: Read> Watched<'a, R> {
+    /// The reader, whose reads the progress follows.
     pub fn new(inner: R, progress: Progress<'a>) -> Self {
         Watched { inner, progress }
     }

@@ -168,8 +168,8 @@ fn variant_named(word: &[u8]) -> Option<Variant>
     }
 }
 
-/// Whether the word may be a name: at most 64 bytes, each a printing one of ASCII.
-fn is_name(word: &[u8]) -> bool
+/// Whether the word may be a name: at most 64 bytes, each a printing one of ASCII and no blank.
+pub fn is_name(word: &[u8]) -> bool
     ensures { result ≡ is_name word.now }
 {
     word.len() <= 64 && all_printing(word)

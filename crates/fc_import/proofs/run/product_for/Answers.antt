@@ -1,22 +1,13 @@
-use Rattle.std.proofs.Common.{◌++◌, ◌∙◌, ◌≡◌, ap, List, None, refl, subst, subst₂, sym, ℕ}
-use Rattle.fc_board.specs.{declared.rule.Variant.{Variant}, Games.{Game}}
-use Rattle.fc_import.proofs.RunLemmas.{collection_made, nothing_made, unshown_made}
-use Rattle.fc_import.specs.Import.{Imported, IsShown, no_board_line, refused_by}
-use Rattle.fc_import.specs.{inside.{ShownAs, state_of}, Notes.{State}}
-use Rattle.fc_import.specs.declared.changes.Noted.{Noted}
+use Rattle.std.proofs.Common.{◌++◌, ◌∙◌, ap, None, refl, subst, subst₂, sym}
+use Rattle.fc_import.proofs.RunLemmas.{collection_made, imported_as, nothing_made, unshown_made}
+use Rattle.fc_import.specs.{Import.{IsShown, no_board_line, refused_by}, inside.{ShownAs, state_of}}
 use Rattle.fc_import.proofs.run.product_for.Goals as goal
-
--- what was made of a text, for the game of its variant
-of_game : {game other : Game} {text read : List ℕ} (variant : Variant) (noted : Noted) (state : State) (made notes : List ℕ)
-    → game ≡ other → text ≡ read → Imported variant noted game text state made notes
-    → Imported variant noted other read state made notes
-of_game variant noted state made notes = subst₂ (λ game text. Imported variant noted game text state made notes)
 
 pub returns-then-refusals-eq0 : goal.returns-then-refusals-eq0
 returns-then-refusals-eq0 g c = λ bytes text_is.
     let made = c.in_ok-made.made in
-    let imported = of_game g.R.Rule.VARIANT c.args.noted (state_of {R = g.row.R.Denot} made) made.written.items
-    made.notes.items (g.met.R.Rule.named.game_is g.R.Rule.VARIANT refl) text_is c.in_ok-made.ensures in
+    let imported = imported_as g.R.Rule.VARIANT c.args.noted (state_of {R = g.row.R.Denot} made) made.written.items
+    made.notes.items (g.met.R.Rule.named.game_is g.R.Rule.VARIANT refl) text_is c.in_ok-made.ensures.made c.in_ok-made.ensures.kept in
     let product = c.in_ok-product.product in
     nothing_made g.R.Rule.VARIANT c.args.noted bytes product.written.items product.said.items product.summary
     (state_of {R = g.row.R.Denot} made) made.written.items made.notes.items imported
@@ -28,8 +19,8 @@ returns-then-refusals-eq0 g c = λ bytes text_is.
 pub returns-in_ok-product-in-None : goal.returns-in_ok-product-in-None
 returns-in_ok-product-in-None g c = λ bytes text_is.
     let made = c.in_ok-made.made in
-    let imported = of_game g.R.Rule.VARIANT c.args.noted (state_of {R = g.row.R.Denot} made) made.written.items
-    made.notes.items (g.met.R.Rule.named.game_is g.R.Rule.VARIANT refl) text_is c.in_ok-made.ensures in
+    let imported = imported_as g.R.Rule.VARIANT c.args.noted (state_of {R = g.row.R.Denot} made) made.written.items
+    made.notes.items (g.met.R.Rule.named.game_is g.R.Rule.VARIANT refl) text_is c.in_ok-made.ensures.made c.in_ok-made.ensures.kept in
     let product = c.in_ok-product-in-None.product in
     let unshown = subst₂ (λ variant text. ShownAs variant text None) c.VARIANT.ensures c.as_slice.ensures.value (subst (ShownAs c.VARIANT.result c.as_slice.result.now) c.in-None.is c.in_ok-records.ensures) in
     unshown_made g.R.Rule.VARIANT c.args.noted bytes product.written.items product.said.items product.summary
@@ -39,8 +30,8 @@ returns-in_ok-product-in-None g c = λ bytes text_is.
 pub returns-in_ok-with_tally-in-Some : goal.returns-in_ok-with_tally-in-Some
 returns-in_ok-with_tally-in-Some g c = λ bytes text_is.
     let made = c.in_ok-made.made in
-    let imported = of_game g.R.Rule.VARIANT c.args.noted (state_of {R = g.row.R.Denot} made) made.written.items
-    made.notes.items (g.met.R.Rule.named.game_is g.R.Rule.VARIANT refl) text_is c.in_ok-made.ensures in
+    let imported = imported_as g.R.Rule.VARIANT c.args.noted (state_of {R = g.row.R.Denot} made) made.written.items
+    made.notes.items (g.met.R.Rule.named.game_is g.R.Rule.VARIANT refl) text_is c.in_ok-made.ensures.made c.in_ok-made.ensures.kept in
     let shown = subst (ShownAs c.VARIANT.result c.as_slice.result.now) c.in-Some.is c.in_ok-records.ensures in
     collection_made g.R.Rule.VARIANT c.args.noted bytes made.written.items _ _ (state_of {R = g.row.R.Denot} made)
     made.notes.items c.in-Some.records _ imported

@@ -1,5 +1,6 @@
-use Rattle.std.proofs.Common.{◌++◌, ◌∙◌, ◌≡◌, ap, IfSome, Some, subst}
-use Rattle.{fc_board.specs.{Boards.{Board}, Play.{Legal}}, fc_record.specs.Printing.{list_line}}
+use Rattle.std.proofs.Common.{◌++◌, ◌∙◌, ◌≡◌, ◌≤◌, ap, IfSome, Some, subst}
+use Rattle.fc_board.specs.{Boards.{Board}, Moves.{move_count}, Play.{Legal}}
+use Rattle.{fc_record.specs.Printing.{list_line}, fc_text.specs.Notation.{most_moves}}
 use Rattle.fc_import.specs.{Import.{a_list}, Notes.{after}}
 use Rattle.fc_import.proofs.TakingLemmas.{taken}
 use Rattle.fc_import.specs.declared.tally.Fate.TheVariants.{AList}
@@ -10,7 +11,8 @@ returns-clause-taken g c = λ is.
     let list = c.in-Some.list in
     let (says, grows, how) = c.in_ok-say_list.ensures.said in
     let (board, last, legal) = subst (λ found. IfSome found (λ list. (board : Board) × (c.args.self.now.last ≡ Some board) × Legal g.R.Rule.game board list)) c.in-Some.is c.in_ok-list.ensures.legal in
+    let few = subst (λ found. IfSome found (λ list. move_count list ≤ most_moves)) c.in-Some.is c.in_ok-list.ensures.few in
     taken {R = g.row.R.Denot} g.R.Rule.VARIANT g.R.Rule.game c.args.piece.now c.args.self.now c.go_on.new.self _
     (c.go_on.ensures.state ∙ ap (λ state. after state c.args.piece.now state.last AList) c.in_ok-say_list.ensures.state) (list_line list) says
-    (a_list board list says last legal how)
+    (a_list board list says last legal few how)
     (c.go_on.ensures.written ∙ c.in_ok-push_list.ensures.printed ∙ ap (λ text. text ++ list_line list) c.in_ok-say_list.ensures.written) (c.go_on.ensures.notes ∙ grows)
