@@ -640,25 +640,38 @@ static PyObject *canonicalize_all_with_passages(PyObject *module, PyObject *word
     return answer ? refuse(answer, at - 1) : both;
 }
 
-static PyObject *hash_all(PyObject *module, PyObject *words, PyObject *names) {
+/* What a call gives of each board, so many bytes. */
+static PyObject *of_each_board(PyObject *words, PyObject *names, Py_ssize_t size,
+                               uint32_t (*call)(uint32_t, const fcanon_board *, uint8_t *)) {
     int game;
     PyObject *data = boards_of(argument(words, names, "boards", &game));
     if (!data) return NULL;
     Py_ssize_t count = PyBytes_Size(data) / 72, at = 0;
-    PyObject *made = PyBytes_FromStringAndSize(NULL, 16 * count);
+    PyObject *made = PyBytes_FromStringAndSize(NULL, size * count);
     uint32_t answer = FCANON_DONE;
     if (made) {
         const fcanon_board *boards = (const fcanon_board *)PyBytes_AsString(data);
-        uint8_t *hashes = (uint8_t *)PyBytes_AsString(made);
+        uint8_t *given = (uint8_t *)PyBytes_AsString(made);
         Py_BEGIN_ALLOW_THREADS
-        for (; at < count && !answer; at++)
-            answer = fcanon_hash(game, boards + at, hashes + 16 * at);
+        for (; at < count && !answer; at++) answer = call(game, boards + at, given + size * at);
         Py_END_ALLOW_THREADS
     }
     Py_DECREF(data);
     if (!answer) return made;
     Py_DECREF(made);
     return refuse(answer, at - 1);
+}
+
+static PyObject *hash_all(PyObject *module, PyObject *words, PyObject *names) {
+    return of_each_board(words, names, 16, fcanon_hash);
+}
+
+static uint32_t pack_bytes(uint32_t game, const fcanon_board *board, uint8_t *bytes) {
+    return fcanon_pack(game, board, (fcanon_packed *)bytes);
+}
+
+static PyObject *pack_all(PyObject *module, PyObject *words, PyObject *names) {
+    return of_each_board(words, names, sizeof(fcanon_packed), pack_bytes);
 }
 
 /* ---- the module */
@@ -802,6 +815,8 @@ static PyMethodDef functions[] = {
            "The same, and with it the bytes of the passages to them, of which each is 20 bytes."),
     METHOD("hash_all", hash_all, BY_NAME,
            "The canonical hashes of boards, each in 16 bytes, of boards of 72 bytes."),
+    METHOD("pack_all", pack_all, BY_NAME,
+           "The packed bytes of boards, each in 32 bytes, of boards of 72 bytes."),
     METHOD("set_error", set_error, METH_O, NULL),
     METHOD("words_of", words_of, METH_O, NULL),
     {0}};

@@ -8,6 +8,7 @@ import sys
 
 from fcanon import (
     GAMES, Answer, Board, Error, Passage, canonicalize_all, canonicalize_all_with_passages, hash_all,
+    pack_all,
 )
 
 
@@ -28,6 +29,7 @@ def tell_board(board):
     passages = bytes(passage) + bytes(canonical.canonicalize()[1])
     assert canonicalize_all_with_passages(both, board.game) == (keys, passages)
     assert hash_all(both, board.game) == board.canonical_hash() * 2
+    assert pack_all(both, board.game) == board.packed() + canonical.packed()
     assert pickle.loads(pickle.dumps((board, passage))) == (board, passage)
     print("show", line_of(board))
     print("canon", line_of(canonical))

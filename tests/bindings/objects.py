@@ -11,13 +11,13 @@ from concurrent.futures import ThreadPoolExecutor
 
 from fcanon import (
     COMMANDS, GAMES, Answer, Board, Error, Passage, canonicalize_all, canonicalize_all_with_passages,
-    hash_all, import_text, run,
+    hash_all, import_text, pack_all, run,
 )
 
 BOARD = Board.deal(1)
 PASSAGE = BOARD.canonicalize()[1]
 TWO = bytes(BOARD) * 2
-BATCHES = [canonicalize_all, canonicalize_all_with_passages, hash_all]
+BATCHES = [canonicalize_all, canonicalize_all_with_passages, hash_all, pack_all]
 
 
 def shaped(*shape):
@@ -28,6 +28,8 @@ def shaped(*shape):
 REFUSED = [
     ("a board and a half", canonicalize_all, [TWO[:108]], ValueError, r"\(108,\)"),
     *((f"boards as columns, {it.__name__}", it, [shaped(72, 2)], ValueError, r"\(72, 2\)")
+      for it in BATCHES),
+    *((f"a second board that is none, {it.__name__}", it, [TWO[:72] + b"\1" * 72], Error, "no board at 1")
       for it in BATCHES),
     ("items of 8 bytes", canonicalize_all, [array("Q", TWO)], ValueError, "items of 8 bytes"),
     ("no buffer", canonicalize_all, [[BOARD]], TypeError, "not 'list'"),

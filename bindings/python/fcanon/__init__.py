@@ -9,8 +9,8 @@ True
 >>> run("show", str(board)).text == bytes(str(board), "ascii")
 True
 
-Two boards of a game have one canonical board exactly if an order of columns, an order of cells and
-a renaming of suits that keeps the building rule lead from the one to the other. Boards and passages
+Two boards of a game have one canonical board if and only if an order of columns, an order of cells
+and a renaming of suits that keeps the building rule lead from the one to the other. Boards and passages
 never change, are equal, hashed and ordered by their games and bytes, and so are keys of sets and
 dicts.
 
@@ -30,9 +30,9 @@ True
 A move of one card is a str as "3a"; one of several cards is a str as "14v3" or "14". What a call of
 the library refuses is raised as an Error, a ValueError with the reason and the place.
 
-canonicalize_all, canonicalize_all_with_passages and hash_all take the bytes of many boards, 72 each:
-as bytes, a bytearray, a memoryview, or an array of numpy with 72 columns. They return bytes, which
-numpy.frombuffer reads without a copy. Other threads run meanwhile.
+canonicalize_all, canonicalize_all_with_passages, hash_all and pack_all take the bytes of many boards, 72
+each: as bytes, a bytearray, a memoryview, or an array of numpy with 72 columns. They return bytes,
+which numpy.frombuffer reads without a copy. Other threads run meanwhile.
 
 run does what a command of the program fcanon does over a whole collection, and import_text what
 `fcanon import` does: in memory, and without the program.
@@ -40,6 +40,7 @@ run does what a command of the program fcanon does over a whole collection, and 
 
 from ._calls import (
     Board, ClassSums, Passage, __version__, canonicalize_all, canonicalize_all_with_passages, hash_all,
+    pack_all,
 )
 from .commands import Printed, import_text, run
 from .errors import Error
@@ -61,5 +62,6 @@ __all__ = [
     "canonicalize_all_with_passages",
     "hash_all",
     "import_text",
+    "pack_all",
     "run",
 ]

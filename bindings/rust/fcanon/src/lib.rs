@@ -9,9 +9,9 @@
 //! # Ok::<(), fcanon::Error>(())
 //! ```
 //!
-//! Two boards of a game have one canonical board exactly if an order of columns, an order of cells
-//! and a renaming of suits that keeps the building rule lead from the one to the other. Behind each
-//! method is a call of `fcanon.h`, whose answer is proved; an answer against it is an [`Error`].
+//! Two boards of a game have one canonical board if and only if an order of columns, an order of
+//! cells and a renaming of suits that keeps the building rule lead from the one to the other. Behind
+//! each method is a call of `fcanon.h`, whose answer is proved; an answer against it is an [`Error`].
 #![cfg_attr(not(feature = "std"), no_std)]
 #![warn(missing_docs)]
 
