@@ -15,7 +15,7 @@ from types import ModuleType
 from typing import BinaryIO, Callable, Dict, Iterator, List, NamedTuple, Optional, Tuple
 
 from . import Fault
-from .boards import CELLS, GAMES, KEY_BYTES, Moves, Passage, key_of
+from .boards import BOARD_BYTES, CELLS, GAMES, KEY_BYTES, Moves, Passage, board_of, packed
 
 PIECE_BYTES = 1 << 21  # what is read at once; a record is shorter
 RECORD_BYTES = 1 << 16
@@ -36,11 +36,12 @@ class Piece(NamedTuple):
 
 
 class Row(NamedTuple):
-    """What a store keeps of an accepted record."""
+    """What is read of an accepted record. A store keeps all but the canonical board, which its key has."""
 
     name: str
     game: int
     key: bytes
+    board: bytes
     passage: str
     win: Optional[Moves]  # its first list that wins, as it is played on the canonical board
     line: int
@@ -94,7 +95,8 @@ class Library:
     """Reads by the Python package fcanon."""
 
     def __init__(self, calls: ModuleType):
-        self.board, self.error, self.keys = calls.Board, calls.Error, calls.canonicalize_all_with_passages
+        self.board, self.error = calls.Board, calls.Error
+        self.canonicalize, self.pack = calls.canonicalize_all_with_passages, calls.pack_all
         self.play = {">": calls.Board.play, ">>": calls.Board.play_run}
         self.patterns = [move_patterns(game) for game in range(len(GAMES))]
         self.numbers = {name.encode(): game for game, name in enumerate(GAMES)}
@@ -109,8 +111,8 @@ class Library:
         except (NotPlain, self.error):
             return None
         ways = self.ways(plain)
-        rows = [Row(name, game, key, passage, win and Passage.read(passage).to_canonical(win), at)
-                for (name, game, _, win), (key, passage), at in zip(plain, ways, lines_of(records, line))]
+        rows = [Row(name, game, key, board, passage, win and Passage.read(passage).to_canonical(win), at)
+                for (name, game, _, win), (key, board, passage), at in zip(plain, ways, lines_of(records, line))]
         return Read(rows, [], len(rows))
 
     def plain(self, record: bytes, number: int, first_game: str) -> Plain:
@@ -147,13 +149,15 @@ class Library:
             return False
         return board.is_won
 
-    def ways(self, plain: List[Plain]) -> List[Tuple[bytes, str]]:
-        """The keys of boards, and the passages to them, in one call for each game."""
-        found: List[Tuple[bytes, str]] = [(b"", "")] * len(plain)
+    def ways(self, plain: List[Plain]) -> List[Tuple[bytes, bytes, str]]:
+        """The keys of boards, their canonical boards, and the passages to these, in two calls for each game."""
+        found: List[Tuple[bytes, bytes, str]] = [(b"", b"", "")] * len(plain)
         for game, name in enumerate(GAMES):
             places = [at for at, it in enumerate(plain) if it.game == game]
-            keys, passages = self.keys(b"".join([plain[at].board for at in places]), name)
-            for at, way in zip(places, zip(cut(keys, KEY_BYTES), texts_of_passages(passages, game))):
+            boards, passages = self.canonicalize(b"".join([plain[at].board for at in places]), name)
+            keys = self.pack(boards, name)
+            ways = zip(cut(keys, KEY_BYTES), cut(boards, BOARD_BYTES), texts_of_passages(passages, game))
+            for at, way in zip(places, ways):
                 found[at] = way
         return found
 
@@ -210,7 +214,8 @@ class Program:
     def row(self, columns: List[str], lists: List[str], line: int) -> Row:
         name, game, board, suits, order, cells, _, win = columns
         found = None if win == "-" else Moves(*lists[int(win) - 1].partition(" ")[::2])
-        return Row(name, GAMES.index(game), key_of(board), f"{suits} {order} {cells}", found, line)
+        canonical = board_of(board)
+        return Row(name, GAMES.index(game), packed(canonical), canonical, f"{suits} {order} {cells}", found, line)
 
 
 def lists_in(canonical: str) -> Iterator[List[str]]:

@@ -9,7 +9,7 @@ from contextlib import nullcontext
 from typing import BinaryIO, ContextManager, Iterable, Iterator, List, Optional, Tuple
 
 from . import Fault
-from .boards import GAMES, Moves, Passage, text_of
+from .boards import GAMES, Moves, Passage, text_of, unpacked
 from .collection import Piece, Reader, Row, batches
 from .solver import FREECELL_PROVER, FREECELL_SOLVER, Answer, Solver, answers
 from .store import Added, Limits, Position, Store
@@ -62,7 +62,7 @@ def looked_up(store: Store, row: Row) -> str:
     """What is printed of a record."""
     known = store.known(row.game, row.key)
     passage = Passage.read(row.passage)
-    lines = [f"@ {GAMES[row.game]} {row.name}", text_of(row.game, row.key, passage).rstrip("\n"),
+    lines = [f"@ {GAMES[row.game]} {row.name}", text_of(row.game, row.board, passage).rstrip("\n"),
              " ".join(["# known as", *known.names]) if known else "# unknown"]
     if known and known.solution:
         lines.append(str(passage.to_own(known.solution)))
@@ -164,7 +164,7 @@ def export(store: Store, words: argparse.Namespace) -> int:
 
 def exported(store: Store, game: int, key: bytes, name: str, passage: str, position: int) -> str:
     way, solution = Passage.read(passage), store.solution(position)
-    text = f"@ {GAMES[game]} {name}\n" + text_of(game, key, way)
+    text = f"@ {GAMES[game]} {name}\n" + text_of(game, unpacked(game, key), way)
     return text + (f"{way.to_own(solution)}\n" if solution else "")
 
 
@@ -220,14 +220,15 @@ def check(store: Store, words: argparse.Namespace) -> int:
 def solutions_to_check(store: Store) -> Iterator[Tuple[Position, str]]:
     """Each position with a solution, and its record: the canonical board, and the solution."""
     for position, game, key, form, moves in store.solutions():
-        text = text_of(game, key, Passage.identity(game))
+        text = text_of(game, unpacked(game, key), Passage.identity(game))
         yield Position(position, game, key), f"@ {GAMES[game]} {position}\n{text}{Moves(form, moves)}\n"
 
 
 def records_to_check(store: Store) -> Iterator[Tuple[Position, str]]:
     """Each record, with its position."""
     for game, key, name, passage, position, *_ in store.records("true", ()):
-        yield Position(position, game, key), f"@ {GAMES[game]} {name}\n" + text_of(game, key, Passage.read(passage))
+        text = text_of(game, unpacked(game, key), Passage.read(passage))
+        yield Position(position, game, key), f"@ {GAMES[game]} {name}\n{text}"
 
 
 def wrong_in(reader: Reader, batch: List[Tuple[Position, str]], must_win: bool) -> Iterator[Tuple[int, str]]:

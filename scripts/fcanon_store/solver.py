@@ -17,7 +17,7 @@ from threading import Lock
 from typing import Iterable, Iterator, List, NamedTuple, Optional, Set
 
 from . import Fault
-from .boards import GAMES, Moves, Passage, text_of
+from .boards import GAMES, Moves, Passage, text_of, unpacked
 from .collection import Piece, Reader, printed
 from .store import Limits, Position
 
@@ -71,7 +71,8 @@ class Solver:
 
     def solve(self, position: Position) -> Answer:
         """What is found of a position, whose canonical board is given."""
-        board = text_of(position.game, position.key, Passage.identity(position.game))
+        canonical = unpacked(position.game, position.key)
+        board = text_of(position.game, canonical, Passage.identity(position.game))
         answer = Answer(position.id, None, "gave up", self.name)
         with tempfile.NamedTemporaryFile("w", suffix=".board") as file:
             file.write(board)

@@ -111,9 +111,15 @@ class Store:
             time.sleep(0.01)
 
     def bring_up(self) -> None:
+        """Makes an older store one of this version. The room that its tables had is given back where that can be."""
         with self.writing():
-            if self.number("user_version") < schema.VERSION:  # another run may have done so by now
-                schema.bring_up(self.table)
+            version = self.number("user_version")
+            if version == schema.VERSION:  # another run has done so by now
+                return
+            schema.bring_up(self.table, version)
+        with suppress(sqlite3.Error):
+            self.table.execute("vacuum")
+            self.table.execute("pragma wal_checkpoint(truncate)")
 
     def close(self) -> None:
         """Closes the store, whose log SQLite then writes into it; a fault of that loses nothing."""
