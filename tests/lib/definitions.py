@@ -3,7 +3,7 @@
 import re
 
 from lib.paths import CRATES
-from lib.trust import names_in, tables_of_trust
+from lib.trust import chapters
 
 ASIDE = {"inside", "laws", "packing", "reader", "writer"}
 WORD = re.compile(r"[A-Za-z_◌][\w'◌-]*")
@@ -140,9 +140,8 @@ class Repository:
         return [it for crate in crates for it in self.contracts[crate]]
 
     def promised_laws(self):
-        """The laws that carry a promise: those in the place of a function, or all of a row that has `the laws` there."""
-        names = {name for _, cells in tables_of_trust() for name in names_in(cells[2 if cells[1] == "the laws" else 1])}
-        return [(name, self.laws[name]) for name in sorted(names & set(self.laws))]
+        """The laws that are promises themselves."""
+        return [(name, self.laws[name]) for name in sorted(name for chapter in chapters() for name in chapter.promised)]
 
     def lines(self, homes):
         return sum(self.found[home].lines for home in homes)

@@ -1,12 +1,21 @@
-"""The tables of docs/TRUST.md, and what they are compared with."""
+"""The map of the book in docs/TRUST.md, and what documents are compared with."""
 
 import re
+from functools import cache
+from typing import NamedTuple
 
 from lib.paths import CRATES, ROOT
 
-CLAUSE = re.compile(r"\b(?:ensures|ghost) (\w+)")
-# Names of the standard library and of other crates, which a table may cite.
-FOREIGN = {"Default", "Display", "Read", "Write"}
+TRUST = ROOT / "docs" / "TRUST.md"
+
+
+class Chapter(NamedTuple):
+    """A row of the map: the subject of the chapter, its crates, its modules of `fc_laws`, and its laws that are promises."""
+
+    title: str
+    crates: list
+    modules: list
+    promised: list
 
 
 def names_in(cell):
@@ -17,14 +26,17 @@ def names_in(cell):
             yield part.strip().split("::")[-1]
 
 
-def tables_of_trust():
-    """The rows of docs/TRUST.md, each with the crates that its heading names."""
-    crates = []
-    for line in (ROOT / "docs" / "TRUST.md").read_text().splitlines():
-        if line.startswith("## "):
-            crates = [name for name in names_in(line) if name in CRATES]
-        elif line.startswith("| ") and crates and not line.startswith("| Promise |"):
-            yield crates, [cell.strip() for cell in line.strip("| ").split(" | ")]
+@cache
+def chapters():
+    """The chapters of the book, as docs/TRUST.md has them."""
+    table = TRUST.read_text().partition("\n| Chapter | ")[2].partition("\n\n")[0]
+    rows = [[cell.strip() for cell in line.strip("|").split("|")] for line in table.splitlines()[2:]]
+    return [Chapter(title, *(list(names_in(cell)) for cell in cells)) for title, *cells in rows]
+
+
+def headline():
+    """The headline in one line."""
+    return words_of(re.search(r"^## The headline\n\n((?:> .*\n)+)", TRUST.read_text(), re.M)[1])
 
 
 def code_of(crate):

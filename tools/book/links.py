@@ -90,12 +90,15 @@ class Links:
             piece.anchor, piece.target = anchor, f"{piece.page}#{anchor}"
 
     def names(self):
-        """For each name what has it: whether a function, a law, a type or a definition, in which crate, and where."""
+        """For each name what has it: whether a function, a law or a module of them, a type or a definition, in which crate, and
+        where."""
         found = {}
         for home, it in self.definitions.found.items():
             found.setdefault(it.name, []).append(("Definitions", it.crate, self.targets[home]))
         for piece in sorted(self.functions(), key=lambda it: not it.is_public):
             found.setdefault(piece.name, []).append(("Laws" if is_law(piece) else "Function", piece.crate, piece.target))
+        for module in LAW_MODULES:
+            found.setdefault(module, []).append(("Laws", "fc_laws", f"law-{module}.html"))
         for crate in CRATES:
             found.setdefault(crate, []).append(("Crate", crate, f"crate-{crate}.html"))
             for name, piece in types_of(self.sources.pieces[crate]):

@@ -35,7 +35,7 @@ section { border-top: 1px solid var(--line); margin-top: 1rem }
 }
 """
 
-WORDS = [("index.html", "Start"), ("index.html#crates", "Crates"), ("index.html#promises", "Promises"), ("laws.html", "Laws"),
+WORDS = [("index.html", "Start"), ("index.html#crates", "Crates"), ("index.html#promises", "Promises"), ("crate-fc_laws.html", "Laws"),
          ("wrong.html", "Wrong bodies"), ("trusted.html", "Trusted and tested"),
          ("doc-ARCHITECTURE.html#the-way-of-a-record", "The way of a record")]
 

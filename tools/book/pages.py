@@ -4,9 +4,10 @@ import re
 from html import escape
 
 import documents
-from links import CALL, Links, edit_link, gathered, lemma_target, module_path, page_of_code, proof_link, types_of
+from chapters import Chapters, file_of
+from links import CALL, edit_link, gathered, lemma_target, module_path, page_of_code, proof_link, types_of
 from markup import code_block, faint, folded, from_page, items, link, linked, page, paragraph, section
-from sources import CRATES, LAW_MODULES, LEMMA, ROOT, definitions, is_law
+from sources import CRATES, LAW_MODULES, LEMMA, ROOT, comment_of, definitions, is_law, trust
 
 HEADLINE_LAW = ("fc_laws", "canonical_boards_represent_their_classes")
 
@@ -19,20 +20,7 @@ QUESTIONS = [
 ]
 
 
-def first_sentence(piece):
-    words = " ".join(piece.doc[:piece.doc.index("")] if "" in piece.doc else piece.doc)
-    return re.split(r"(?<=\.) ", words)[0]
-
-
-def comment_of(it):
-    """The comment above a definition, without marks for believe and headings, and the lines below it."""
-    lines = [line for line in it.commented if not re.match(r"(?:pub )?(?:use|mod) ", line)]
-    place = next((at for at, line in enumerate(lines) if not re.match(r"\s*--", line)), len(lines))
-    said = [line for line in lines[:place] if not re.match(r"\s*-- (?:said again|-{8}|={8})", line)]
-    return " ".join(re.sub(r"^\s*-- ?(?:-{4} )?", "", line) for line in said), "\n".join(lines[place:])
-
-
-class Book(Links):
+class Book(Chapters):
     """What each page says."""
 
     # ---- definitions
@@ -54,8 +42,7 @@ class Book(Links):
                 + folded("Said again by", [link(self.law_target(law), law) for law in it.laws])
                 + folded("Cited by definitions", [link(from_page(target, file), name) for target, name in others])
                 + folded("Cited by contracts of", [link(piece.target, f"{piece.crate}::{piece.name}") for piece in functions])
-                + folded("Laws that cite it", [link(piece.target, piece.name) for piece in laws])
-                + folded("Wrong bodies under these contracts", [edit_link(edit) for piece in functions for edit in piece.edits]))
+                + folded("Laws that cite it", [link(piece.target, piece.name) for piece in laws]))
 
     def law_target(self, law):
         name = law.partition(".")[0]
@@ -120,6 +107,7 @@ class Book(Links):
 
     def pages_of(self, crate):
         """The pages on a crate, each with its words."""
+        yield from ((file_of(it), "promises") for it in trust.chapters() if crate in it.crates)
         yield f"crate-{crate}.html", "laws" if crate == "fc_laws" else "code and contracts"
         if any(it.crate == crate for it in self.definitions.found.values()):
             yield f"def-{crate}.html", "definitions"
@@ -139,28 +127,23 @@ class Book(Links):
         modules = items(link(f"law-{module}.html", module) for module in LAW_MODULES)
         yield "crate-fc_laws.html", page("fc_laws", self.ways_from("fc_laws") + modules)
 
-    def laws_page(self):
-        """All laws by their subjects, each with the first sentence of its comment."""
-        laws = gathered((piece.crate, piece.file, piece) for piece in self.functions() if is_law(piece))
-        parts = []
-        for (crate, file), pieces in laws.items():
-            parts.append(f"<h2>{escape(crate)}: {escape(file.removesuffix('.rt'))}</h2>\n")
-            parts.append(items(f"{link(it.target, it.name)}: {self.comment(first_sentence(it), crate)}" for it in pieces))
-        return "laws.html", page("Laws", "".join(parts))
-
     # ---- wrong bodies
 
-    def edit(self, edit, file):
+    def edit(self, edit):
         what = "tried by make test" if edit.is_must_fail else "tried by make edits"
         place = link(edit.piece.target, edit.piece.name) if edit.piece else escape(edit.said["file"])
-        clauses = "\n".join(edit.piece.signature[1]) if edit.piece else ""
-        contract = code_block(linked(clauses, self.of_clauses(edit.piece, file))) if clauses else ""
         changes = "\n".join(f"{key}: {words}" for key, words in edit.changes)
         return section(edit.name, (
             paragraph(f"<b>{escape(edit.name)}</b>: {self.comment(edit.said['why'], edit.crate)}.")
             + faint(f"In {place}; refused by {escape(edit.said.get('refused by', 'a goal'))}; {what}.")
-            + (f"<details><summary>The contract that refuses it</summary>{contract}</details>\n" if contract else "")
             + code_block(escape(changes, False))))
+
+    def edits_in(self, piece, edits, file):
+        """The wrong bodies of a function, below the contract that refuses them."""
+        clauses = "\n".join(piece.signature[1]) if piece else ""
+        contract = code_block(linked(clauses, self.of_clauses(piece, file))) if clauses else ""
+        folded_up = f"<details><summary>The contract of {escape(piece.name)}</summary>{contract}</details>\n" if contract else ""
+        return folded_up + "".join(self.edit(it) for it in edits)
 
     def wrong_pages(self):
         counts = []
@@ -168,7 +151,9 @@ class Book(Links):
             if edits:
                 file, tried = f"wrong-{crate}.html", sum(it.is_must_fail for it in edits)
                 counts.append(f"{link(file, crate)}: {len(edits)}, of which {tried} are tried by make test")
-                yield file, page(f"Wrong bodies of {crate}", self.ways_from(crate) + "".join(self.edit(it, file) for it in edits))
+                by_piece = gathered((it.piece, None, it) for it in edits)
+                parts = [self.edits_in(piece, found, file) for (piece, _), found in by_piece.items()]
+                yield file, page(f"Wrong bodies of {crate}", self.ways_from(crate) + "".join(parts))
         intro = paragraph("Each is a function with a mistake in it, which its contract does not allow: the prover refuses it.")
         yield "wrong.html", page("Wrong bodies", intro + items(counts))
 
@@ -248,7 +233,7 @@ class Book(Links):
         readme, trust, proofs = ROOT / "README.md", ROOT / "docs" / "TRUST.md", ROOT / "docs" / "PROOFS.md"
         proved = documents.section(readme, "What is proved")
         parts = [self.document(readme, proved[proved.index("**Only tested**"):])]
-        for path, title in ((trust, "Only tested"), (proofs, "Definitions that no law reaches"),
+        for path, title in ((trust, "Not promised"), (trust, "Only tested"), (proofs, "Definitions that no law reaches"),
                             (proofs, "Planted bodies that are let through"), (proofs, "Wrong bodies that the rows see")):
             parts.append(f"<h2>{escape(title)}</h2>\n" + self.document(path, documents.section(path, title)))
         return "trusted.html", page("What is trusted, tested, neither", "".join(parts))
@@ -278,14 +263,14 @@ class Book(Links):
                  if documents.PAGES[path.name] != "index.html"]
         return "index.html", page("fcanon: the book of the proof", (
             f'{self.headline()}<h2>Questions</h2>\n{questions}<h2 id="crates">Crates</h2>\n{self.crates_table()}'
-            f'<h2>Documents</h2>\n{paragraph(" · ".join(texts))}<h2 id="promises">Promises</h2>\n'
+            f'<h2>Documents</h2>\n{paragraph(" · ".join(texts))}<h2 id="promises">Promises</h2>\n{self.chapters()}'
             f'{self.document(ROOT / "docs" / "TRUST.md")}'))
 
     def pages(self):
         """Each page of the book, with its name."""
         yield self.start_page()
         yield from self.code_pages()
-        yield self.laws_page()
+        yield from self.chapter_pages()
         for crate in CRATES:
             if any(it.crate == crate for it in self.definitions.found.values()):
                 yield self.definitions_page(crate)

@@ -7,7 +7,7 @@ from pathlib import Path
 
 sys.dont_write_bytecode = True
 sys.path.append(str(Path(__file__).resolve().parent.parent.parent / "tests"))
-from lib import definitions  # noqa: E402
+from lib import definitions, trust  # noqa: E402
 from lib.paths import CRATES, ROOT  # noqa: E402
 
 FUNCTION = re.compile(r"( *)((?:pub(?:\(\w+\))? )?)(?:const |unsafe |extern \"C\" )*fn (\w+)")
@@ -24,6 +24,14 @@ LAW_MODULES = sorted({path.relative_to(CRATES["fc_laws"] / "src").parts[0].remov
 def is_law(piece):
     """Whether a function is a law, which has no code."""
     return piece.is_public and (piece.crate == "fc_laws" or piece.file == "laws.rt")
+
+
+def comment_of(it):
+    """The comment above a definition, without marks for believe and headings, and the lines below it."""
+    lines = [line for line in it.commented if not re.match(r"(?:pub )?(?:use|mod) ", line)]
+    place = next((at for at, line in enumerate(lines) if not re.match(r"\s*--", line)), len(lines))
+    said = [line for line in lines[:place] if not re.match(r"\s*-- (?:said again|-{8}|={8})", line)]
+    return " ".join(re.sub(r"^\s*-- ?(?:-{4} )?", "", line) for line in said), "\n".join(lines[place:])
 
 
 class Piece:
