@@ -2,8 +2,8 @@
  *
  * What each call answers is proved; docs/LIBRARY.md begins with a first program.
  *
- * Answers. A call answers 0 (FCANON_DONE) exactly where it did what is said here, and each other
- * answer exactly where its reason holds. Then it has written nothing, except the place of a fault
+ * Answers. A call answers 0 (FCANON_DONE) if and only if it did what is said here, and each other
+ * answer if and only if its reason holds. Then it has written nothing, except the place of a fault
  * (fcanon_read), and the keys before it (fcanon_keys). Of several reasons it answers the first, in
  * the order of the arguments.
  *
@@ -193,12 +193,12 @@ FCANON_CALL_NONNULL(4, 5) uint32_t fcanon_read(uint32_t game, const char *text, 
 FCANON_CALL uint32_t fcanon_write(uint32_t game, const fcanon_board *board, char text[256]);
 
 /* The canonical board, and the passage from the board to it. Two boards of a game have one canonical
- * board exactly if orders of columns and cells and a renaming of suits that keeps the building rule
+ * board if and only if orders of columns and cells and a renaming of suits that keeps the building rule
  * lead from the one to the other. */
 FCANON_CALL uint32_t fcanon_canon(uint32_t game, const fcanon_board *board, fcanon_board *canonical,
     fcanon_passage *passage);
 
-/* The canonical board alone, which is the board's key: two boards have one key exactly if they have
+/* The canonical board alone, which is the board's key: two boards have one key if and only if they have
  * one canonical board. */
 FCANON_CALL uint32_t fcanon_key(uint32_t game, const fcanon_board *board, fcanon_board *key);
 
@@ -231,9 +231,9 @@ FCANON_CALL uint32_t fcanon_move_sums(uint32_t game, uint8_t card, uint8_t from,
  * n * n / 2^65; and where a wrong match would do harm, compare the keys. */
 FCANON_CALL uint32_t fcanon_class_hash(uint32_t game, const fcanon_class_sums *sums, uint8_t hash[16]);
 
-/* Packs a board into 32 bytes. Two boards of a game have the same exactly if orders of columns and cells
- * lead from the one to the other; so two boards have one key exactly if their keys are packed into the
- * same bytes. These are a number, its lowest byte first, which has a digit for each card, that of card 1
+/* Packs a board into 32 bytes. Two boards of a game have the same if and only if orders of columns and
+ * cells lead from the one to the other; so two boards have one key if and only if their keys are packed
+ * into the same bytes. These are a number, its lowest byte first, which has a digit for each card, that of card 1
  * the lowest. The digit of card c is 0 to c + 8, and at most 2 * c: 0 where the card is home, else one more
  * than the bytes less than c before it in this row: the cards in cells, the least first, and 0; then of each
  * column its cards, and 0. The columns come in the order of their least cards, empty ones last. */
