@@ -9,6 +9,7 @@ pub mod ExpandAgainLemmas
 pub mod GroupAgainLemmas
 pub mod GroupPlaceLemmas
 pub mod GroupedTwiceLemmas
+pub mod HalfLemmas
 pub mod HeaderLemmas
 pub mod HeadlineLemmas
 pub mod JoiningLemmas

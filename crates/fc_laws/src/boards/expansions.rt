@@ -1,6 +1,6 @@
 //! Laws of the moves of one card that moves of several are short for.
-ghost use Rattle.std.specs.Prelude.{◌++◌, ◌<◌, ◌↔◌, ◌∷◌, ◌≡◌, ◌≢◌, ◌≤◌, length, List, true, ℕ};
-ghost use Rattle.fc_board.specs.{Boards.{Board, IsWellFormed}, Moves.{expansion, OneCard, Runs}};
+ghost use Rattle.std.specs.Prelude.{◌*◌, ◌++◌, ◌<◌, ◌^◌, ◌↔◌, ◌∷◌, ◌≡◌, ◌≢◌, ◌≤◌, length, List, true, ℕ};
+ghost use Rattle.fc_board.specs.{Boards.{Board, IsWellFormed}, Moves.{expansion, half, OneCard, Runs}};
 ghost use Rattle.fc_board.specs.Play.{Expands, expansion_of, expansions, Legal, Plays, Wins};
 ghost use Rattle.fc_board.specs.Steps.{capacity, column_at, Confined, free_cells, is_run};
 ghost use Rattle.fc_board.specs.Steps.{last_card, MayFollow, run_moved, RunStep, spare_columns};
@@ -62,4 +62,15 @@ pub fn lists_lead_as_their_expansions<R: Rule>()
     ensures { (board after : Board) (moves : List RunMove) → IsWellFormed R.game board
         → Plays R.game board (Runs moves) after
         → Plays R.game board (OneCard (expansions R.game board moves)) after }
+{}
+
+/// Over helper columns the first of them takes the least of reach, twice reach, four times reach and
+/// so on that is half of the count or more, if there are helpers enough.
+pub fn half_is_the_least_of_its_kind()
+    ensures kind { (reach count : ℕ) (helpers : List ℕ) → (times : ℕ)
+        × (times ≤ length helpers) × (half reach count helpers ≡ reach * 2 ^ times) }
+    ensures half { (reach count : ℕ) (helpers : List ℕ)
+        → count ≤ 2 * (reach * 2 ^ length helpers) → count ≤ 2 * half reach count helpers }
+    ensures least { (reach count times : ℕ) (helpers : List ℕ)
+        → count ≤ 2 * (reach * 2 ^ times) → half reach count helpers ≤ reach * 2 ^ times }
 {}
