@@ -1,6 +1,8 @@
 //! Laws of the moves of one card that moves of several are short for.
-ghost use Rattle.std.specs.Prelude.{◌*◌, ◌++◌, ◌<◌, ◌^◌, ◌↔◌, ◌∷◌, ◌≡◌, ◌≢◌, ◌≤◌, length, List, true, ℕ};
-ghost use Rattle.fc_board.specs.{Boards.{Board, IsWellFormed}, Moves.{expansion, half, OneCard, Runs}};
+ghost use Rattle.std.specs.Prelude.{◌*◌, ◌++◌, ◌<◌, ◌^◌, ◌↔◌, ◌∷◌, ◌≡◌, ◌≢◌, ◌≤◌, length, List};
+ghost use Rattle.std.specs.Prelude.{true, ℕ};
+ghost use Rattle.fc_board.specs.Boards.{Board, IsWellFormed};
+ghost use Rattle.fc_board.specs.Moves.{expansion, half, OneCard, Runs};
 ghost use Rattle.fc_board.specs.Play.{Expands, expansion_of, expansions, Legal, Plays, Wins};
 ghost use Rattle.fc_board.specs.Steps.{capacity, column_at, Confined, free_cells, is_run};
 ghost use Rattle.fc_board.specs.Steps.{last_card, MayFollow, run_moved, RunStep, spare_columns};
