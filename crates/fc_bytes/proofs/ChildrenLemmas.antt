@@ -1,9 +1,9 @@
 -- Moves that a board allows, found one by one, and the canonical boards after them.
 use Rattle.std.proofs.Common.{◌++◌, ◌+◌, ◌<◌, ◌∙◌, ◌∷◌, ◌≡◌, ◌≤◌, [], ap, arith, Bool, cond, drop}
 use Rattle.std.proofs.Common.{false, get_or, inl, inr, length, List, map, None, Option, refl, set}
-use Rattle.std.proofs.{Common.{Some, subst, sym, take, true, ℕ}, lemmas.Bool.{cases_lt}}
+use Rattle.std.proofs.{Common.{Some, subst, suc, sym, take, true, zero, ℕ}, lemmas.Bool.{cases_lt}}
 use Rattle.std.proofs.lemmas.Grind.{flat_map-append}
-use Rattle.std.proofs.lemmas.List.{append-nil, append_assoc, drop-drop, drop-set-lt}
+use Rattle.std.proofs.lemmas.List.{append-nil, append_assoc, drop-drop, drop-set-lt, map-append}
 use Rattle.std.proofs.lemmas.List.{Elements.{filter-append}, FromFn.{map-range_with_len_more}}
 use Rattle.std.proofs.lemmas.List.{get_or-set_other, get_or-set_same, get_or-take, length-set}
 use Rattle.std.{proofs.lemmas.List.{length-take-le}, specs.List.{filter, flat_map}}
@@ -31,15 +31,30 @@ pub passed_more : {X : Type 0} (p : X → Bool) (f : ℕ → X) (count : ℕ) �
 passed_more p f count fails =
     tried_more p f count ∙ ap (λ test. filter p (map f (places count)) ++ cond test (f count ∷ []) []) fails ∙ append-nil (filter p (map f (places count)))
 
-pub found_more : {X : Type 0} (p : X → Bool) (f : ℕ → X) (old items more : List X) (count : ℕ) → items ≡ old ++ filter p (map f (places count)) →
-    p (f count) ≡ true → more ≡ items ++ f count ∷ [] → more ≡ old ++ filter p (map f (places (count + 1)))
-found_more p f old items more count is passes pushed =
-    pushed ∙ ap (λ items. items ++ f count ∷ []) is ∙ append_assoc old (filter p (map f (places count))) (f count ∷ [])
-    ∙ ap (λ back. old ++ back) (sym (listed_more p f count passes))
+-- one move more is pushed, if it is allowed
+pub pushed_more : {X Y : Type 0} (p : X → Bool) (f : ℕ → X) (bytes : X → Y) (old items more : List Y) (count : ℕ) →
+    items ≡ old ++ map bytes (filter p (map f (places count))) → more ≡ items ++ cond (p (f count)) (bytes (f count) ∷ []) [] →
+    more ≡ old ++ map bytes (filter p (map f (places (count + 1))))
+pushed_more p f bytes old items more count is pushed =
+    let before = filter p (map f (places count)) in
+    let next = cond (p (f count)) (f count ∷ []) [] in
+    pushed ∙ ap (λ items. items ++ cond (p (f count)) (bytes (f count) ∷ []) []) is
+    ∙ append_assoc old (map bytes before) (cond (p (f count)) (bytes (f count) ∷ []) [])
+    ∙ ap (λ back. old ++ back) (sym (ap (map bytes) (tried_more p f count) ∙ map-append bytes before next ∙ ap (λ back. map bytes before ++ back) (either (p (f count)))))
+  where
+    either : (test : Bool) → map bytes (cond test (f count ∷ []) []) ≡ cond test (bytes (f count) ∷ []) []
+    either true = refl
+    either false = refl
 
-pub left_more : {X : Type 0} (p : X → Bool) (f : ℕ → X) (old items : List X) (count : ℕ) → items ≡ old ++ filter p (map f (places count)) →
-    p (f count) ≡ false → items ≡ old ++ filter p (map f (places (count + 1)))
-left_more p f old items count is fails = is ∙ ap (λ back. old ++ back) (sym (passed_more p f count fails))
+-- no later one passes
+pub rest_fails : {X : Type 0} (p : X → Bool) (f : ℕ → X) (count more : ℕ) →
+    ((k : ℕ) → count ≤ k → k < count + more → p (f k) ≡ false) → filter p (map f (places (count + more))) ≡ filter p (map f (places count))
+rest_fails p f count zero fails = let same : count + 0 ≡ count = omega arith in ap (λ n. filter p (map f (places n))) same
+rest_fails p f count (suc more) fails =
+    let next : count + suc more ≡ count + more + 1 = omega arith in
+    ap (λ n. filter p (map f (places n))) next
+    ∙ passed_more p f (count + more) (fails (count + more) (omega arith) (omega arith))
+    ∙ rest_fails p f count more (λ k from below. fails k from (omega (arith, below)))
 
 -- one source more
 pub source_more : {X : Type 0} (f : ℕ → List X) (count : ℕ) → flat_map f (places (count + 1)) ≡ flat_map f (places count) ++ f count

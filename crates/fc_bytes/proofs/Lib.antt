@@ -14,4 +14,5 @@ mod PutCards
 mod ChildrenLemmas
 mod LegalMoves
 mod RunMoves
+mod AskedColumns
 pub mod SumLemmas

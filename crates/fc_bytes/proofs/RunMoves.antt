@@ -1,11 +1,11 @@
 -- The listed moves of several cards are all that the game allows.
-use Rattle.std.proofs.Common.{◌++◌, ◌+◌, ◌-◌, ◌<◌, ◌↔◌, ◌∙◌, ◌∷◌, ◌≡◌, ◌≤◌, [], All, ap, arith}
-use Rattle.std.proofs.Common.{Bool, cond, drop, false, length, List, map, not, Option, refl, Some}
-use Rattle.std.proofs.{Common.{subst, suc, sym, true, zero, ℕ}, lemmas.Bool.{eq-eqb, eqb-true}}
+use Rattle.std.proofs.Common.{◌++◌, ◌+◌, ◌-◌, ◌<◌, ◌↔◌, ◌∙◌, ◌∷◌, ◌≡◌, [], All, ap, arith}
+use Rattle.std.proofs.Common.{Bool, drop, false, length, List, map, not, Option, refl, Some}
+use Rattle.std.proofs.{Common.{subst, sym, true, ℕ}, lemmas.Bool.{eq-eqb, eqb-true}}
 use Rattle.std.proofs.lemmas.List.{append_assoc}
-use Rattle.std.proofs.lemmas.List.Elements.{All-append, All-cons, All-contains, All-nil}
+use Rattle.std.proofs.lemmas.List.Elements.{All-contains}
 use Rattle.std.proofs.lemmas.List.{length-map, map-append}
-use Rattle.std.specs.{List.{Contains, filter, flat_map}, Option.{is_none}}
+use Rattle.std.specs.{List.{Contains, filter}, Option.{is_none}}
 use Rattle.{fc_bytes.specs.declared.runs.RunBytes.{RunBytes}, fc_card.specs.{places}}
 use Rattle.fc_board.{proofs.RunStepLemmas.{not_refused_exactly}, specs.Boards.{Board}}
 use Rattle.fc_board.specs.{Games.{Game}, Moves.{RunFits}}
@@ -13,8 +13,7 @@ use Rattle.fc_board.specs.Steps.{column_at, fault_or, last_card, longest_run, on
 use Rattle.fc_board.specs.declared.fault.StepFault.{StepFault, TheVariants.{SamePile}}
 use Rattle.fc_board.specs.declared.run_move.RunMove.{RunMove, TheVariants.{Run}}
 use Rattle.fc_bytes.proofs.ChildrenLemmas.{listed_more, none_of, none_pass, passed_more}
-use Rattle.fc_bytes.proofs.ChildrenLemmas.{source_more, tried_more}
-use Rattle.fc_bytes.proofs.LegalMoves.{sourced_all, tried_all}
+use Rattle.fc_bytes.proofs.LegalMoves.{all_sourced, all_tried, sourced_all, tried_all}
 use Rattle.fc_bytes.specs.{IsAllowedRun, legal_runs, legal_runs_between, legal_runs_from, run_bytes}
 
 -- more cards than are a run do not go
@@ -39,16 +38,6 @@ nothing_between game board column =
     rest : ℕ → Option StepFault
     rest more = onto game board column column (Some (more + 2)) (last_card (column_at board column)) (last_card (column_at board column))
 
--- no later one passes
-pub rest_fails : {X : Type 0} (p : X → Bool) (f : ℕ → X) (count more : ℕ) →
-    ((k : ℕ) → count ≤ k → k < count + more → p (f k) ≡ false) → filter p (map f (places (count + more))) ≡ filter p (map f (places count))
-rest_fails p f count zero fails = let same : count + 0 ≡ count = omega arith in ap (λ n. filter p (map f (places n))) same
-rest_fails p f count (suc more) fails =
-    let next : count + suc more ≡ count + more + 1 = omega arith in
-    ap (λ n. filter p (map f (places n))) next
-    ∙ passed_more p f (count + more) (fails (count + more) (omega arith) (omega arith))
-    ∙ rest_fails p f count more (λ k from below. fails k from (omega (arith, below)))
-
 -- one move more, as bytes
 pub found_bytes : {X : Type 0} (p : X → Bool) (f : ℕ → X) (bytes : X → RunBytes) (old items more : List RunBytes) (count : ℕ) →
     items ≡ old ++ map bytes (filter p (map f (places count))) → p (f count) ≡ true → more ≡ items ++ bytes (f count) ∷ [] →
@@ -62,29 +51,6 @@ pub left_bytes : {X : Type 0} (p : X → Bool) (f : ℕ → X) (bytes : X → Ru
 left_bytes p f bytes old items count is fails = is ∙ ap (λ listed. old ++ map bytes listed) (sym (passed_more p f count fails))
 
 -- ---- the list has the moves that the game allows
-all_tried : {X : Type 0} (P : X → Type 0) (p : X → Bool) (f : ℕ → X) (count : ℕ) → ((k : ℕ) → k < count → p (f k) ≡ true → P (f k)) →
-    All P (filter p (map f (places count)))
-all_tried P p f zero each = All-nil P
-all_tried P p f (suc count) each =
-    let next : count + 1 ≡ suc count = omega arith in
-    subst (λ n. All P (filter p (map f (places n)))) next
-    (subst (All P) (sym (tried_more p f count))
-    (All-append P (filter p (map f (places count))) (cond (p (f count)) (f count ∷ []) [])
-    (all_tried P p f count (λ k below. each k (omega (arith, below))))
-    (either (p (f count)) refl)))
-  where
-    either : (test : Bool) → p (f count) ≡ test → All P (cond test (f count ∷ []) [])
-    either true says = All-cons P (f count) [] (each count (omega arith) says) (All-nil P)
-    either false says = All-nil P
-
-all_sourced : {X : Type 0} (P : X → Type 0) (f : ℕ → List X) (count : ℕ) → ((k : ℕ) → k < count → All P (f k)) → All P (flat_map f (places count))
-all_sourced P f zero each = All-nil P
-all_sourced P f (suc count) each =
-    let next : count + 1 ≡ suc count = omega arith in
-    subst (λ n. All P (flat_map f (places n))) next
-    (subst (All P) (sym (source_more f count))
-    (All-append P (flat_map f (places count)) (f count) (all_sourced P f count (λ k below. each k (omega (arith, below)))) (each count (omega arith))))
-
 all_allowed : (game : Game) (board : Board) → All (IsAllowedRun game board) (legal_runs game board)
 all_allowed game board =
     all_sourced (IsAllowedRun game board) (legal_runs_from game board) 8 (λ from from_fits.

@@ -1,8 +1,10 @@
 -- What is read of bytes, and which bytes are the codes of what is read of them.
-use Rattle.std.specs.{List.{sum}, Option.{unwrap_or}, Prelude.{◌%◌, ◌+◌, ◌-◌, ◌<◌, ◌==◌, ◌^◌, ◌↔◌}}
-use Rattle.std.specs.Prelude.{◌∷◌, ◌≤◌, [], All, drop, if◌then◌else◌, length, List, map, min}
-use Rattle.std.specs.Prelude.{nat_le, nat_lt, None, Option, slice_index, Some, take, ℕ}
-use Rattle.{fc_board.specs.{Boards.{Board}, Moves.{move_between}}, fc_card.specs.{renamed_code}}
+use Rattle.std.specs.{List.{sum}, Option.{unwrap_or}, Prelude.{◌%◌, ◌*◌, ◌+◌, ◌-◌, ◌<◌, ◌==◌, ◌^◌}}
+use Rattle.std.specs.Prelude.{◌↔◌, ◌∷◌, ◌≡◌, ◌≤◌, [], All, Bool, drop, false, if◌then◌else◌, length, List}
+use Rattle.std.specs.Prelude.{map, min, nat_le, nat_lt, None, Option, slice_index, slice_index_or}
+use Rattle.std.specs.Prelude.{Some, take, true, ℕ}
+use Rattle.{fc_board.specs.{Boards.{Board}, Moves.{move_between}}, fc_card.specs.{rank_of, renamed_code}}
+use Rattle.fc_board.specs.{Games.{Game}, Steps.{column_at, column_refusal, last_card}}
 use Rattle.fc_board.specs.declared.moves.Place.{Place, TheVariants.{Column as ToColumn}}
 use Rattle.fc_board.specs.declared.moves.Source.{Source, TheVariants.{Column as FromColumn}}
 use Rattle.fc_board.specs.declared.run_move.RunMove.{RunMove, TheVariants.{One, Run}}
@@ -87,3 +89,10 @@ abbrev pub sums_with : (List ℕ → ℕ) → List (List ℕ) → List ℕ → L
 sums_with number [] sums = sums
 sums_with number (renaming ∷ renamings) [] = []
 sums_with number (renaming ∷ renamings) (sum ∷ sums) = (sum + number renaming) % 2 ^ 128 ∷ sums_with number renamings sums
+
+-- ---- columns that are asked for a card
+-- of so many first columns, those that take a card are asked for cards of its rank
+abbrev pub AreAsked : Game → Board → ℕ → List Bool → List Bool → Type 0
+AreAsked game board count some columns =
+    (column card : ℕ) → column < count → column_refusal game card (last_card (column_at board column)) ≡ None → rank_of card ≤ 13 →
+    (slice_index_or some (rank_of card) false ≡ true) × (slice_index_or columns (8 * rank_of card + column) false ≡ true)

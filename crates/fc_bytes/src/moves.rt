@@ -7,7 +7,7 @@ use fc_text::{source_character, source_named, target_character, target_named};
 
 /// A move of one card in two bytes: its two characters in standard notation, in lower case.
 #[repr(C)]
-#[derive(Clone, Copy, PartialEq, Eq)]
+#[derive(Clone, Copy, PartialEq, Eq, Default)]
 pub struct MoveBytes {
     /// What the card is taken from: `1` to `8`, or one of `a b c d e f g k`.
     pub from: u8,

@@ -4,7 +4,7 @@ use Rattle.{fc_board.specs.Steps.{run_refusal}, fc_card.specs.{places}}
 use Rattle.fc_board.specs.declared.run_move.RunMove.{RunMove, TheVariants.{Run}}
 use Rattle.fc_bytes.proofs.calls.run_moves.push_runs_between.Goals.{else-allows_run}
 use Rattle.fc_bytes.proofs.calls.run_moves.push_runs_between.Goals.{then-allows_run}
-use Rattle.fc_bytes.proofs.RunMoves.{found_bytes, left_bytes, refused_past, rest_fails}
+use Rattle.fc_bytes.proofs.{ChildrenLemmas.{rest_fails}, RunMoves.{found_bytes, left_bytes, refused_past}}
 use Rattle.fc_bytes.specs.{run_bytes}
 use Rattle.fc_bytes.proofs.calls.run_moves.push_runs_between.Goals as goal
 
