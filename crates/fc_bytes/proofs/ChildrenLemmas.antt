@@ -22,14 +22,15 @@ pub tried_more : {X : Type 0} (p : X → Bool) (f : ℕ → X) (count : ℕ) →
     filter p (map f (places (count + 1))) ≡ filter p (map f (places count)) ++ cond (p (f count)) (f count ∷ []) []
 tried_more p f count = ap (filter p) (map-range_with_len_more f 0 count count (omega arith)) ∙ filter-append p (map f (places count)) (f count ∷ [])
 
-pub listed_more : {X : Type 0} (p : X → Bool) (f : ℕ → X) (count : ℕ) → p (f count) ≡ true →
-    filter p (map f (places (count + 1))) ≡ filter p (map f (places count)) ++ f count ∷ []
-listed_more p f count passes = tried_more p f count ∙ ap (λ test. filter p (map f (places count)) ++ cond test (f count ∷ []) []) passes
-
 pub passed_more : {X : Type 0} (p : X → Bool) (f : ℕ → X) (count : ℕ) → p (f count) ≡ false →
     filter p (map f (places (count + 1))) ≡ filter p (map f (places count))
 passed_more p f count fails =
     tried_more p f count ∙ ap (λ test. filter p (map f (places count)) ++ cond test (f count ∷ []) []) fails ∙ append-nil (filter p (map f (places count)))
+
+-- the bytes of a move, if it is allowed
+pub bytes_if : {X Y : Type 0} (bytes : X → Y) (one : X) (test : Bool) → map bytes (cond test (one ∷ []) []) ≡ cond test (bytes one ∷ []) []
+bytes_if bytes one true = refl
+bytes_if bytes one false = refl
 
 -- one move more is pushed, if it is allowed
 pub pushed_more : {X Y : Type 0} (p : X → Bool) (f : ℕ → X) (bytes : X → Y) (old items more : List Y) (count : ℕ) →
@@ -40,11 +41,7 @@ pushed_more p f bytes old items more count is pushed =
     let next = cond (p (f count)) (f count ∷ []) [] in
     pushed ∙ ap (λ items. items ++ cond (p (f count)) (bytes (f count) ∷ []) []) is
     ∙ append_assoc old (map bytes before) (cond (p (f count)) (bytes (f count) ∷ []) [])
-    ∙ ap (λ back. old ++ back) (sym (ap (map bytes) (tried_more p f count) ∙ map-append bytes before next ∙ ap (λ back. map bytes before ++ back) (either (p (f count)))))
-  where
-    either : (test : Bool) → map bytes (cond test (f count ∷ []) []) ≡ cond test (bytes (f count) ∷ []) []
-    either true = refl
-    either false = refl
+    ∙ ap (λ back. old ++ back) (sym (ap (map bytes) (tried_more p f count) ∙ map-append bytes before next ∙ ap (λ back. map bytes before ++ back) (bytes_if bytes (f count) (p (f count)))))
 
 -- no later one passes
 pub rest_fails : {X : Type 0} (p : X → Bool) (f : ℕ → X) (count more : ℕ) →

@@ -1,18 +1,18 @@
 -- The listed moves of several cards are all that the game allows.
-use Rattle.std.proofs.Common.{◌++◌, ◌+◌, ◌-◌, ◌<◌, ◌↔◌, ◌∙◌, ◌∷◌, ◌≡◌, [], All, ap, arith}
-use Rattle.std.proofs.Common.{Bool, drop, false, length, List, map, not, Option, refl, Some}
-use Rattle.std.proofs.{Common.{subst, sym, true, ℕ}, lemmas.Bool.{eq-eqb, eqb-true}}
-use Rattle.std.proofs.lemmas.List.{append_assoc}
-use Rattle.std.proofs.lemmas.List.Elements.{All-contains}
-use Rattle.std.proofs.lemmas.List.{length-map, map-append}
-use Rattle.std.specs.{List.{Contains, filter}, Option.{is_none}}
-use Rattle.{fc_bytes.specs.declared.runs.RunBytes.{RunBytes}, fc_card.specs.{places}}
+use Rattle.std.proofs.Common.{◌++◌, ◌+◌, ◌-◌, ◌<◌, ◌↔◌, ◌∙◌, ◌∷◌, ◌≡◌, ◌≢◌, ◌⊎◌, [], All, ap, ap₂}
+use Rattle.std.proofs.Common.{arith, Bool, cond, drop, false, inl, inr, length, List, map, not, Option, refl}
+use Rattle.std.proofs.Common.{Some, subst, suc, sym, true, zero, ℕ}
+use Rattle.std.proofs.lemmas.{Bool.{cases_lt, eq-eqb, eqb-true}, List.Elements.{All-contains}}
+use Rattle.std.proofs.lemmas.{List.{length-map}, Option.{same_Some}}
+use Rattle.std.specs.{List.{Contains, filter, flat_map}, Option.{is_none}}
+use Rattle.{fc_bytes.specs.declared.runs.RunBytes.{RunBytes}, fc_card.specs.{places, rank_of}}
 use Rattle.fc_board.{proofs.RunStepLemmas.{not_refused_exactly}, specs.Boards.{Board}}
 use Rattle.fc_board.specs.{Games.{Game}, Moves.{RunFits}}
-use Rattle.fc_board.specs.Steps.{column_at, fault_or, last_card, longest_run, onto, run_refusal}
+use Rattle.fc_board.specs.Steps.{column_at, fault_or, last_card, longest_run, onto, run_count}
+use Rattle.fc_board.specs.Steps.{run_refusal}
 use Rattle.fc_board.specs.declared.fault.StepFault.{StepFault, TheVariants.{SamePile}}
 use Rattle.fc_board.specs.declared.run_move.RunMove.{RunMove, TheVariants.{Run}}
-use Rattle.fc_bytes.proofs.ChildrenLemmas.{listed_more, none_of, none_pass, passed_more}
+use Rattle.fc_bytes.proofs.ChildrenLemmas.{none_of, none_pass, rest_fails, source_more, tried_more}
 use Rattle.fc_bytes.proofs.LegalMoves.{all_sourced, all_tried, sourced_all, tried_all}
 use Rattle.fc_bytes.specs.{IsAllowedRun, legal_runs, legal_runs_between, legal_runs_from, run_bytes}
 
@@ -38,17 +38,63 @@ nothing_between game board column =
     rest : ℕ → Option StepFault
     rest more = onto game board column column (Some (more + 2)) (last_card (column_at board column)) (last_card (column_at board column))
 
--- one move more, as bytes
-pub found_bytes : {X : Type 0} (p : X → Bool) (f : ℕ → X) (bytes : X → RunBytes) (old items more : List RunBytes) (count : ℕ) →
-    items ≡ old ++ map bytes (filter p (map f (places count))) → p (f count) ≡ true → more ≡ items ++ bytes (f count) ∷ [] →
-    more ≡ old ++ map bytes (filter p (map f (places (count + 1))))
-found_bytes p f bytes old items more count is passes pushed =
-    pushed ∙ ap (λ items. items ++ bytes (f count) ∷ []) is ∙ append_assoc old (map bytes (filter p (map f (places count)))) (bytes (f count) ∷ [])
-    ∙ ap (λ back. old ++ back) (sym (ap (map bytes) (listed_more p f count passes) ∙ map-append bytes (filter p (map f (places count))) (f count ∷ [])))
+-- no run that is long enough
+pub none_between : (game : Game) (board : Board) (from to : ℕ) → from < 8 → to < 8 → longest_run game (column_at board from) < 2 → legal_runs_between game board from to ≡ []
+none_between game board from to from_fits to_fits short =
+    rest_fails (λ run. is_none (run_refusal game board run)) (λ more. Run from to (Some (more + 2))) 0 12 (λ more past below.
+    refused_past game board from to (more + 2) (from_fits, to_fits, (omega arith, omega (arith, below))) (omega (arith, short)))
 
-pub left_bytes : {X : Type 0} (p : X → Bool) (f : ℕ → X) (bytes : X → RunBytes) (old items : List RunBytes) (count : ℕ) →
-    items ≡ old ++ map bytes (filter p (map f (places count))) → p (f count) ≡ false → items ≡ old ++ map bytes (filter p (map f (places (count + 1))))
-left_bytes p f bytes old items count is fails = is ∙ ap (λ listed. old ++ map bytes listed) (sym (passed_more p f count fails))
+pub none_from : (game : Game) (board : Board) (from : ℕ) → from < 8 → longest_run game (column_at board from) < 2 → legal_runs_from game board from ≡ []
+none_from game board from fits short =
+    no_pieces (legal_runs_between game board from) 8 (λ to below. none_between game board from to fits below short)
+  where
+    no_pieces : {X : Type 0} (f : ℕ → List X) (count : ℕ) → ((k : ℕ) → k < count → f k ≡ []) → flat_map f (places count) ≡ []
+    no_pieces f zero none = refl
+    no_pieces {X} f (suc count) none =
+        let next : count + 1 ≡ suc count = omega arith in
+        subst (λ n. flat_map f (places n) ≡ []) next
+        (source_more f count ∙ ap₂ (λ front back. front ++ back) (no_pieces f count (λ k below. none k (omega (arith, below)))) (none count (omega arith)))
+
+-- ---- onto a card go as many cards as it is ranks higher, or none
+module _ (game : Game) (board : Board) (from to : ℕ) (from_fits : from < 8) (to_fits : to < 8) (card last : ℕ)
+    (found : last_card (column_at board from) ≡ Some card) (target : last_card (column_at board to) ≡ Some last) where
+  abbrev tried : ℕ → RunMove
+  tried more = Run from to (Some (more + 2))
+
+  abbrev passes : RunMove → Bool
+  passes run = is_none (run_refusal game board run)
+
+  counted_so : (more : ℕ) → more < 12 → passes (tried more) ≡ true → more + 2 ≡ rank_of last - rank_of card
+  counted_so more below says =
+      let (after, step) = (not_refused_exactly game board (tried more) (from_fits, to_fits, (omega arith, omega (arith, below)))).0 (none_of _ says) in
+      let same = same_Some card step.1.card (sym found ∙ step.1.found) in
+      eqb-true (more + 2) step.1.count step.1.said_so ∙ step.1.counted
+      ∙ ap₂ (λ card last. run_count game board from to (Some (more + 2)) card last) (sym same) target
+
+  other_fails : (more : ℕ) → more < 12 → more + 2 ≢ rank_of last - rank_of card → passes (tried more) ≡ false
+  other_fails more below other = either (passes (tried more)) (λ says. other (counted_so more below says))
+    where
+      either : (test : Bool) → (test ≡ true → ⊥) → test ≡ false
+      either false never = refl
+      either true never = absurd (never refl)
+
+  pub none_onto : (rank_of last - rank_of card < 2) ⊎ (longest_run game (column_at board from) < rank_of last - rank_of card) →
+      legal_runs_between game board from to ≡ []
+  none_onto out = rest_fails passes tried 0 12 (λ more past below. elim (cases_lt (longest_run game (column_at board from)) (more + 2)) [
+    | inl long ↦ refused_past game board from to (more + 2) (from_fits, to_fits, (omega arith, omega (arith, below))) long
+    | inr few ↦ other_fails more (omega (arith, below)) (λ same. elim out [ inl one ↦ omega (arith, one, same) | inr many ↦ omega (arith, many, few, same) ])
+  ])
+
+  pub one_onto : (more : ℕ) → more < 12 → more + 2 ≡ rank_of last - rank_of card →
+      legal_runs_between game board from to ≡ cond (passes (tried more)) (tried more ∷ []) []
+  one_onto more below is =
+      let all : more + 1 + (11 - more) ≡ 12 = omega (arith, below) in
+      let front : more ≡ 0 + more = omega arith in
+      ap (λ n. filter passes (map tried (places n))) (sym all)
+      ∙ rest_fails passes tried (more + 1) (11 - more) (λ k past inside. other_fails k (omega (arith, inside, below)) (λ same. omega (arith, past, is, same)))
+      ∙ tried_more passes tried more
+      ∙ ap (λ listed. listed ++ cond (passes (tried more)) (tried more ∷ []) [])
+      (ap (λ n. filter passes (map tried (places n))) front ∙ rest_fails passes tried 0 more (λ k past inside. other_fails k (omega (arith, inside, below)) (λ same. omega (arith, inside, is, same))))
 
 -- ---- the list has the moves that the game allows
 all_allowed : (game : Game) (board : Board) → All (IsAllowedRun game board) (legal_runs game board)

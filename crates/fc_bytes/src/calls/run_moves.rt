@@ -1,16 +1,18 @@
 //! The moves of several cards that a board allows.
 ghost use Rattle.arrayvec.specs.ArrayVec.{array_vec_len};
-ghost use Rattle.std.specs.List.{Contains};
-ghost use Rattle.std.specs.Prelude.{◌++◌, ◌+◌, ◌<◌, ◌↔◌, ◌≡◌, ◌≤◌, ◌⊎◌, [], drop, length, map, ℕ};
-ghost use Rattle.fc_board.specs.Steps.{column_at, longest_run};
-ghost use Rattle.fc_board.specs.declared.run_move.RunMove.{RunMove as Several};
+ghost use Rattle.std.specs.{List.{Contains}, Prelude.{◌++◌, ◌+◌, ◌<◌, ◌↔◌, ◌∷◌, ◌≡◌, ◌≤◌, ◌⊎◌, []}};
+ghost use Rattle.std.specs.Prelude.{drop, if◌then◌else◌, is_none, length, map, Some, ℕ};
+ghost use Rattle.fc_board.specs.Steps.{column_at, last_card, longest_run, run_refusal};
+ghost use Rattle.fc_board.specs.Moves.{RunFits};
+ghost use Rattle.fc_board.specs.declared.run_move.RunMove.{RunMove as Several, TheVariants.{Run}};
 ghost use Rattle.fc_bytes.specs.{AreRuns, HoldsBoard, HoldsNone, IsAllowedRun, legal_runs};
 ghost use Rattle.fc_bytes.specs.{legal_runs_between, legal_runs_from, OfLegalRuns, run_bytes};
 
 use crate::calls::answers::{DONE, NO_BOARD, NO_ROOM};
 use crate::{BoardBytes, RunBytes};
 use arrayvec::ArrayVec;
-use fc_board::{Board, Rule, RunMove};
+use fc_board::{Board, Rule, RunMove, Source};
+use fc_card::Card;
 
 /// The moves of two and more cards from column to column that the game allows on the board, each
 /// with its number of cards, in the order of their columns and numbers. They are at most 672.
@@ -66,16 +68,72 @@ fn push_runs_from<R: Rule>(runs: &mut ArrayVec<RunBytes, 672>, board: &Board<R>,
     ensures few { array_vec_len runs.new ≤ array_vec_len runs.old + 84 }
 {
     let longest = board.longest_run(usize::from(from));
+    if longest < 2 {
+        return;
+    }
+    let Some(card) = board.card_at(Source::Column(from)) else {
+        return;
+    };
     for to in 0..8_u8 {
         if to != from {
-            push_runs_between(runs, board, from, to, longest);
+            push_runs_between(runs, board, from, to, longest, card);
         }
     }
 }
 
 /// Pushes the moves of several cards between these columns that the game allows, where so many
-/// cards at the end of the first are a run.
+/// cards at the end of the first are a run, and this is its last one.
 fn push_runs_between<R: Rule>(
+    runs: &mut ArrayVec<RunBytes, 672>,
+    board: &Board<R>,
+    from: u8,
+    to: u8,
+    longest: usize,
+    card: Card,
+)
+    requires columns { (from < 8) × (to < 8) }
+    requires longest { longest ≡ longest_run R.game (column_at board.now from) }
+    requires card { last_card (column_at board.now from) ≡ Some card }
+    requires room { array_vec_len runs.old + 12 ≤ 672 }
+    ensures runs { runs.new.items
+        ≡ runs.old.items ++ map run_bytes (legal_runs_between R.game board.now from to) }
+    ensures few { array_vec_len runs.new ≤ array_vec_len runs.old + 12 }
+{
+    match board.card_at(Source::Column(to)) {
+        Some(last) => push_run_onto(runs, board, from, to, longest, card, last),
+        None => push_runs_of_each_count(runs, board, from, to, longest),
+    }
+}
+
+/// The same where the other column has this last card: as many cards go as it is ranks higher, or
+/// none.
+fn push_run_onto<R: Rule>(
+    runs: &mut ArrayVec<RunBytes, 672>,
+    board: &Board<R>,
+    from: u8,
+    to: u8,
+    longest: usize,
+    card: Card,
+    last: Card,
+)
+    requires columns { (from < 8) × (to < 8) }
+    requires longest { longest ≡ longest_run R.game (column_at board.now from) }
+    requires card { last_card (column_at board.now from) ≡ Some card }
+    requires last { last_card (column_at board.now to) ≡ Some last }
+    requires room { array_vec_len runs.old + 12 ≤ 672 }
+    ensures runs { runs.new.items
+        ≡ runs.old.items ++ map run_bytes (legal_runs_between R.game board.now from to) }
+    ensures few { array_vec_len runs.new ≤ array_vec_len runs.old + 12 }
+{
+    let count = last.rank().number().saturating_sub(card.rank().number());
+    if count < 2 || usize::from(count) > longest {
+        return;
+    }
+    push_run(runs, board, from, to, count);
+}
+
+/// The same for each number of cards that a run can have.
+fn push_runs_of_each_count<R: Rule>(
     runs: &mut ArrayVec<RunBytes, 672>,
     board: &Board<R>,
     from: u8,
@@ -90,13 +148,31 @@ fn push_runs_between<R: Rule>(
     ensures few { array_vec_len runs.new ≤ array_vec_len runs.old + 12 }
 {
     for more in 0..longest.min(13).saturating_sub(1) {
-        let run = RunMove::Run {
-            from,
-            to,
-            count: Some(more as u8 + 2),
-        };
-        if board.allows_run(run) {
-            runs.push(RunBytes::of::<R>(run));
-        }
+        push_run(runs, board, from, to, more as u8 + 2);
+    }
+}
+
+/// Pushes the move of so many cards between these columns if the game allows it.
+fn push_run<R: Rule>(
+    runs: &mut ArrayVec<RunBytes, 672>,
+    board: &Board<R>,
+    from: u8,
+    to: u8,
+    count: u8,
+)
+    requires fits { RunFits R.game (Run from to (Some count)) }
+    requires room { array_vec_len runs.old < 672 }
+    ensures runs { runs.new.items ≡ runs.old.items
+        ++ (if is_none (run_refusal R.game board.now (Run from to (Some count)))
+        then run_bytes (Run from to (Some count)) ∷ [] else []) }
+    ensures few { array_vec_len runs.new ≤ array_vec_len runs.old + 1 }
+{
+    let run = RunMove::Run {
+        from,
+        to,
+        count: Some(count),
+    };
+    if board.allows_run(run) {
+        runs.push(RunBytes::of::<R>(run));
     }
 }

@@ -1,8 +1,8 @@
-use Rattle.std.proofs.Common.{◌++◌, ◌∙◌, ◌≡◌, [], ap, arith, length, map, sym}
+use Rattle.std.proofs.Common.{◌++◌, ◌∙◌, ◌≡◌, [], ap, arith, length, map, sym, ℕ}
 use Rattle.std.{proofs.lemmas.List.{append-nil, append_assoc, map-append}, specs.List.{flat_map}}
-use Rattle.fc_card.specs.{places}
+use Rattle.{fc_board.specs.Steps.{column_at, longest_run}, fc_card.specs.{places}}
 use Rattle.fc_bytes.proofs.calls.run_moves.push_runs_from.Goals.{else-to-from, then-to-from}
-use Rattle.fc_bytes.proofs.{ChildrenLemmas.{source_more}, RunMoves.{nothing_between}}
+use Rattle.fc_bytes.proofs.{ChildrenLemmas.{source_more}, RunMoves.{none_from, nothing_between}}
 use Rattle.fc_bytes.specs.{legal_runs_between, run_bytes}
 use Rattle.fc_bytes.proofs.calls.run_moves.push_runs_from.Goals as goal
 
@@ -34,3 +34,11 @@ loop-to-preserved g c =
             fewer = λ past. omega (arith, ap length same, kept.few);
           }
     ]
+
+pub returns-then-longest-lt2-clause-runs : goal.returns-then-longest-lt2-clause-runs
+returns-then-longest-lt2-clause-runs g c =
+    let old = c.args.runs.now.items in
+    let longest : ℕ → ℕ = λ from. longest_run g.R.Rule.game (column_at c.args.board.now from) in
+    let is : c.longest_run-longest.result ≡ longest c.args.from = c.longest_run-longest.ensures ∙ ap longest c.from.ensures in
+    sym (append-nil old) ∙ ap (λ listed. old ++ map run_bytes listed)
+    (sym (none_from g.R.Rule.game c.args.board.now c.args.from c.requires.from (omega (arith, is, c.if-longest-lt2.true))))

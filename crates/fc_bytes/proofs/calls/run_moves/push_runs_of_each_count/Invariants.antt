@@ -2,7 +2,7 @@ use Rattle.std.{proofs.Common.{◌++◌, ◌+◌, ◌≡◌, ◌≤◌, length, 
 use Rattle.std.specs.Option.{is_none}
 use Rattle.{fc_board.specs.Steps.{run_refusal}, fc_bytes.specs.{run_bytes}, fc_card.specs.{places}}
 use Rattle.fc_board.specs.declared.run_move.RunMove.TheVariants.{Run}
-use Rattle.fc_bytes.proofs.calls.run_moves.push_runs_between.Given as goal
+use Rattle.fc_bytes.proofs.calls.run_moves.push_runs_of_each_count.Given as goal
 
 abbrev pub invariant-loop-more : goal.invariant-loop-more
 invariant-loop-more g l = record {
