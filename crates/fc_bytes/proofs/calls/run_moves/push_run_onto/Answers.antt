@@ -15,7 +15,8 @@ returns-then-count-lt2-clause-runs g c =
     let old = c.args.runs.now.items in
     let ranks = rank_of c.args.last - rank_of c.args.card in
     let is : c.saturating_sub-count.result ≡ ranks =
-    c.saturating_sub-count.ensures ∙ ap₂ (λ high low. high - low) (c.number.ensures.value ∙ c.rank.ensures) (c.number-2.ensures.value ∙ c.rank-2.ensures) in
+    c.saturating_sub-count.ensures
+    ∙ ap₂ (λ high low. high - low) (c.number.ensures.value ∙ c.rank.ensures) (c.number-2.ensures.value ∙ c.rank-2.ensures) in
     let out : (ranks < 2) ⊎ (longest_run game (column_at board c.args.from) < ranks) = elim c.then-count-lt2.branch [
       | then-count-lt2-via-then-count-lt2 w ↦ inl (omega (arith, is, w.if-count-lt2.true))
       | then-count-lt2-via-else-count-lt2+then-from-longest w ↦ inr (omega (arith, is, w.from.ensures, w.if-from-longest.true, c.requires.longest))
@@ -32,7 +33,8 @@ returns-clause-runs g c =
     let one = Run c.args.from c.args.to (Some count) in
     let allowed = is_none (run_refusal game board one) in
     let is : count ≡ rank_of c.args.last - rank_of c.args.card =
-    c.saturating_sub-count.ensures ∙ ap₂ (λ high low. high - low) (c.number.ensures.value ∙ c.rank.ensures) (c.number-2.ensures.value ∙ c.rank-2.ensures) in
+    c.saturating_sub-count.ensures
+    ∙ ap₂ (λ high low. high - low) (c.number.ensures.value ∙ c.rank.ensures) (c.number-2.ensures.value ∙ c.rank-2.ensures) in
     let back : count - 2 + 2 ≡ count = omega (arith, c.if-count-lt2.false) in
     let few : count - 2 < 12 =
     omega (arith, c.saturating_sub-count.ensures, c.number.ensures.at_most_thirteen, c.number-2.ensures.at_least_one) in
