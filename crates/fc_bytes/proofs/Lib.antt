@@ -2,6 +2,7 @@ mod CarriedBytes
 mod ExactBytes
 mod LaidBytes
 pub mod DecodedLemmas
+mod BitsDecoded
 pub mod MovesDecoded
 pub mod PassageDecoded
 pub mod PackedRow

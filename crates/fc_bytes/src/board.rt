@@ -1,8 +1,8 @@
 //! Boards in 72 bytes.
-ghost use Rattle.std.specs.{List.{flat_map, sum}, Prelude.{◌*◌, ◌++◌, ◌+◌, ◌<◌, ◌↔◌, ◌≡◌, ◌≤◌}};
-ghost use Rattle.std.specs.Prelude.{All, drop, IfSome, IsNone, IsTrue, length, List, map, SomeIff};
+ghost use Rattle.std.specs.{List.{flat_map, sum}, Prelude.{◌%◌, ◌*◌, ◌++◌, ◌+◌, ◌<◌, ◌^◌, ◌↔◌, ◌≡◌}};
+ghost use Rattle.std.specs.Prelude.{◌≤◌, All, drop, IfSome, IsNone, IsTrue, length, List, map, SomeIff};
 ghost use Rattle.std.specs.Prelude.{take, ℕ};
-ghost use Rattle.fc_card.specs.{places};
+ghost use Rattle.fc_card.specs.{AreBitsOf, places};
 ghost use Rattle.fc_board.specs.Boards.{Board as Layout, IsHeight, IsWellFormed};
 ghost use Rattle.fc_board.specs.{inside.{AscendTo}, Steps.{cell_at, column_at, height_of}};
 ghost use Rattle.fc_bytes.specs.{cell_byte, HoldsBoard, inside.{AreLaid, card_byte, card_decoded}};
@@ -67,7 +67,8 @@ impl BoardBytes {
         let cells = cells_of(&self.cells);
         let cards = cards_of(&self.cards);
         let ends = ends_of(&self.lengths);
-        let in_columns = CardSet::of(&cards[..usize::from(ends[7])]);
+        let bits = bits_of(&self.cards);
+        let in_columns = CardSet::of_bits(&cards[..usize::from(ends[7])], bits);
         let Ok(board) = Board::from_laid(heights, cells, cards, ends, in_columns) else {
             return None;
         };
@@ -252,6 +253,31 @@ fn card_of(byte: u8) -> Card
     ensures { result ≡ card_decoded byte }
 {
     Card::of_number(byte.saturating_sub(1))
+}
+
+/// The bits of the cards that the bytes are, of the card of number n bit n. All bytes are looked at,
+/// so that no end is.
+#[inline(always)]
+fn bits_of(bytes: &[u8; 52]) -> u64
+    requires { All (λ byte. byte ≤ 52) bytes.now }
+    ensures { (total : ℕ) (cards : List ℕ) → AreLaid total bytes.now → total ≤ 52
+        → cards ≡ map card_decoded bytes.now → AreBitsOf (take total cards) result }
+{
+    let mut bits = 0;
+    for place in 0..52 {
+        bits |= bit_of(bytes[place]);
+    }
+    bits
+}
+
+/// The bit of the card that the byte is, and none for 0.
+#[inline(always)]
+fn bit_of(byte: u8) -> u64
+    requires { byte ≤ 52 }
+    ensures card { (card : ℕ) → byte ≡ card + 1 → result ≡ 1 * 2 ^ card % 2 ^ 64 }
+    ensures none { byte ≡ 0 → result ≡ 0 }
+{
+    (1_u64 << byte) >> 1
 }
 
 /// Where columns of so many cards each end, one after another. The product makes of each byte the

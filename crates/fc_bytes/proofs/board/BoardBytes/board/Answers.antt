@@ -1,4 +1,5 @@
-use Rattle.std.proofs.Common.{◌∙◌, ◌≡◌, All, ap, arith, drop, refl, rules, subst, sym}
+use Rattle.std.proofs.Common.{◌∙◌, ◌≡◌, All, ap, arith, drop, get_or, length, refl, rules, subst, sym, take}
+use Rattle.{fc_bytes.proofs.BitsDecoded.{ends_at}, fc_card.specs.{AreBitsOf}, std.specs.List.{sum}}
 use Rattle.std.proofs.lemmas.Bool.{iff_false}
 use Rattle.fc_board.proofs.ColumnsLemmas.{column_within}
 use Rattle.fc_board.specs.Boards.{HasEachCardOnce}
@@ -17,8 +18,18 @@ returns-then-not-are_zero-clause-no_board g c = λ _ board holds.
     iff_false c.are_zero.ensures c.if-not-are_zero.true
     (zero_rest g.R.Rule.game c.CELLS.result c.args.self.now board (laws.cells_are ∙ sym c.CELLS.ensures) (omega (arith, c.CELLS.ensures, laws.at_most_eight)) holds)
 
-pub shared_whole_as_front-of : goal.shared_whole_as_front-of
-shared_whole_as_front-of g c = omega (arith, column_within 0 c.ends_of-ends.result 52 7 c.ends_of-ends.ensures.ascend (search rules), c.from.ensures)
+pub shared_whole_as_front-of_bits : goal.shared_whole_as_front-of_bits
+shared_whole_as_front-of_bits g c = omega (arith, column_within 0 c.ends_of-ends.result 52 7 c.ends_of-ends.ensures.ascend (search rules), c.from.ensures)
+
+pub of_bits-in_columns-requires : goal.of_bits-in_columns-requires
+of_bits-in_columns-requires g c =
+    let exact = c.if-not-is_exact.ensures.0 refl in
+    let ends = c.ends_of-ends.ensures.ends in
+    let eight : length c.ends_of-ends.result ≡ 8 = omega (arith, c.ends_of-ends.type_inv) in
+    let last : sum c.args.self.now.lengths ≡ c.from.result =
+    sym (c.from.ensures ∙ ap (λ ends. get_or ends 7 0) ends ∙ ends_at c.args.self.now.lengths (sym (ap length ends) ∙ eight) exact.room) in
+    subst (λ n. AreBitsOf (take n c.cards_of-cards.result) c.bits_of-bits.result) last
+    (c.bits_of-bits.ensures (sum c.args.self.now.lengths) c.cards_of-cards.result exact.cards exact.room c.cards_of-cards.ensures.cards)
 
 pub from_laid-requires-clause-cells : goal.from_laid-requires-clause-cells
 from_laid-requires-clause-cells g c =
