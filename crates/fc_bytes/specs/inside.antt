@@ -1,10 +1,11 @@
 -- What is read of bytes, and which bytes are the codes of what is read of them.
 use Rattle.std.specs.{List.{sum}, Option.{unwrap_or}, Prelude.{◌%◌, ◌*◌, ◌+◌, ◌-◌, ◌<◌, ◌==◌, ◌^◌}}
-use Rattle.std.specs.Prelude.{◌↔◌, ◌∷◌, ◌≡◌, ◌≤◌, [], All, Bool, drop, false, if◌then◌else◌, length, List}
-use Rattle.std.specs.Prelude.{map, min, nat_le, nat_lt, None, Option, slice_index, slice_index_or}
-use Rattle.std.specs.Prelude.{Some, take, true, ℕ}
-use Rattle.{fc_board.specs.{Boards.{Board}, Moves.{move_between}}, fc_card.specs.{rank_of, renamed_code}}
-use Rattle.fc_board.specs.{Games.{Game}, Steps.{column_at, column_refusal, last_card}}
+use Rattle.std.specs.Prelude.{◌↔◌, ◌∷◌, ◌≡◌, ◌≤◌, [], All, Bool, drop, false, if◌then◌else◌, length}
+use Rattle.std.specs.Prelude.{List, map, min, nat_le, nat_lt, None, Option, slice_index}
+use Rattle.std.specs.Prelude.{slice_index_or, Some, take, true, ℕ}
+use Rattle.fc_card.specs.{rank_of, renamed_code}
+use Rattle.fc_board.specs.{Boards.{Board}, Games.{Game}, Moves.{move_between}}
+use Rattle.fc_board.specs.Steps.{column_at, column_refusal, last_card}
 use Rattle.fc_board.specs.declared.moves.Place.{Place, TheVariants.{Column as ToColumn}}
 use Rattle.fc_board.specs.declared.moves.Source.{Source, TheVariants.{Column as FromColumn}}
 use Rattle.fc_board.specs.declared.run_move.RunMove.{RunMove, TheVariants.{One, Run}}

@@ -1,7 +1,7 @@
 //! Boards in 72 bytes.
-ghost use Rattle.std.specs.{List.{flat_map, sum}, Prelude.{◌%◌, ◌*◌, ◌++◌, ◌+◌, ◌<◌, ◌^◌, ◌↔◌, ◌≡◌}};
-ghost use Rattle.std.specs.Prelude.{◌≤◌, All, drop, IfSome, IsNone, IsTrue, length, List, map, SomeIff};
-ghost use Rattle.std.specs.Prelude.{take, ℕ};
+ghost use Rattle.std.specs.{List.{flat_map, sum}, Prelude.{◌%◌, ◌*◌, ◌++◌, ◌+◌, ◌<◌, ◌^◌, ◌↔◌}};
+ghost use Rattle.std.specs.Prelude.{◌≡◌, ◌≤◌, All, drop, IfSome, IsNone, IsTrue, length, List, map};
+ghost use Rattle.std.specs.Prelude.{SomeIff, take, ℕ};
 ghost use Rattle.fc_card.specs.{AreBitsOf, places};
 ghost use Rattle.fc_board.specs.Boards.{Board as Layout, IsHeight, IsWellFormed};
 ghost use Rattle.fc_board.specs.{inside.{AscendTo}, Steps.{cell_at, column_at, height_of}};

@@ -2,8 +2,8 @@
 ghost use Rattle.arrayvec.specs.ArrayVec.{array_vec_len};
 ghost use Rattle.std.specs.{List.{Contains}, Prelude.{◌++◌, ◌+◌, ◌<◌, ◌↔◌, ◌∷◌, ◌≡◌, ◌≤◌, ◌⊎◌, []}};
 ghost use Rattle.std.specs.Prelude.{drop, if◌then◌else◌, is_none, length, map, Some, ℕ};
-ghost use Rattle.fc_board.specs.Steps.{column_at, last_card, longest_run, run_refusal};
 ghost use Rattle.fc_board.specs.Moves.{RunFits};
+ghost use Rattle.fc_board.specs.Steps.{column_at, last_card, longest_run, run_refusal};
 ghost use Rattle.fc_board.specs.declared.run_move.RunMove.{RunMove as Several, TheVariants.{Run}};
 ghost use Rattle.fc_bytes.specs.{AreRuns, HoldsBoard, HoldsNone, IsAllowedRun, legal_runs};
 ghost use Rattle.fc_bytes.specs.{legal_runs_between, legal_runs_from, OfLegalRuns, run_bytes};
