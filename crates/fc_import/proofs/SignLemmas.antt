@@ -1,15 +1,15 @@
 -- Lemmas on signs, and on what stands for them in a text.
-use Rattle.std.proofs.Common.{◌&&◌, ◌++◌, ◌+◌, ◌-◌, ◌<◌, ◌==◌, ◌||◌, ◌∙◌, ◌∷◌, ◌≡◌, [], ap, ap₂, arith, Bool}
-use Rattle.std.proofs.Common.{cond, drop, false, get_or, if◌then◌else◌, inl, inr, length, List, map, nat_le, refl}
-use Rattle.std.proofs.Common.{is_some, None, Option, Some, suc, sym, take, true, zero, ℕ}
-use Rattle.std.proofs.lemmas.Bool.{lt-leb}
-use Rattle.std.proofs.lemmas.Bool.Decides.{leb_tells}
-use Rattle.std.proofs.lemmas.List.{get_or-map}
+use Rattle.std.proofs.Common.{◌&&◌, ◌++◌, ◌+◌, ◌-◌, ◌<◌, ◌==◌, ◌||◌, ◌∙◌, ◌∷◌, ◌≡◌, ◌≤◌, [], All}
+use Rattle.std.proofs.Common.{ap, ap₂, arith, Bool, cond, drop, false, get_or, if◌then◌else◌, inl}
+use Rattle.std.proofs.Common.{inr, is_some, length, List, map, min, nat_le, None, Option, refl}
+use Rattle.std.proofs.Common.{Some, suc, sym, take, true, zero, ℕ}
+use Rattle.std.proofs.lemmas.{Bool.{Decides.{leb_tells}, lt-leb}, List.{drop_all}}
 use Rattle.std.proofs.lemmas.List.FromFn.{get_or-range_with_len, length-range_with_len}
+use Rattle.std.proofs.{lemmas.List.{get_or-map}, Math.Nat.{min-eq_left, min-eq_right}}
 use Rattle.std.specs.{List.{prefix_len}, Option.{unwrap_or}, Prelude.{slice_index}}
 use Rattle.{fc_card.specs.{places}, fc_text.specs.Bytes.{line_feed}}
-use Rattle.fc_import.specs.Words.{number_of, sign_by, sign_of, stands_for, text_after}
 use Rattle.fc_import.specs.inside.{is_alone}
+use Rattle.fc_import.specs.Words.{number_of, sign_by, sign_of, stands_for, text_after}
 
 -- ---- signs of one byte
 
@@ -66,6 +66,14 @@ run_stays (byte ∷ rest) = by_test (is_alone byte) refl (run_stays rest)
         ∙ (let one : suc (prefix_len is_alone rest) ≡ 1 + prefix_len is_alone rest = omega arith in
         ap (λ len. take len (byte ∷ rest) ++ text_after 0 (drop len (byte ∷ rest))) one)
 
+-- and so does a text of such bytes alone
+pub all_stay : (text : List ℕ) → All (λ byte. is_alone byte ≡ true) text → text_after 0 text ≡ text
+all_stay [] all = refl
+all_stay (byte ∷ rest) all =
+    ap (λ sign. sign.1 ++ text_after (sign.0 - 1) rest)
+    (alone_stays (slice_index rest 0) (slice_index rest 1) (slice_index rest 2) byte (all 0 0 (omega arith)))
+    ∙ ap (λ more. byte ∷ more) (all_stay rest (λ place none inside. all (suc place) none (omega (arith, inside))))
+
 -- ---- signs of several bytes
 
 -- what stands for a text that begins with a sign
@@ -79,10 +87,24 @@ after_sign (byte ∷ rest) second third fourth some is₂ is₃ is₄ =
     of second third fourth = (sign_of byte second third fourth).1 ++ text_after ((sign_of byte second third fourth).0 - 1) rest
 
 -- the rest of a sign is nothing
-pub after_rest : (skipped : ℕ) (text : List ℕ) → 0 < skipped → text_after (skipped - 1) (drop 1 text) ≡ text_after skipped text
-after_rest zero text some = absurd (omega (arith, some))
-after_rest (suc skipped) [] some = refl
-after_rest (suc skipped) (byte ∷ rest) some = let one : suc skipped - 1 ≡ skipped = omega arith in ap (λ left. text_after left rest) one
+rest_skipped : (skipped : ℕ) (text : List ℕ) → text_after skipped text ≡ text_after 0 (drop skipped text)
+rest_skipped zero text = refl
+rest_skipped (suc skipped) [] = refl
+rest_skipped (suc skipped) (byte ∷ rest) = rest_skipped skipped rest
+
+pub rest_after : (count : ℕ) (text : List ℕ) → 1 ≤ count → text_after (count - 1) (drop 1 text) ≡ text_after 0 (drop count text)
+rest_after zero text some = absurd (omega (arith, some))
+rest_after (suc count) [] some = refl
+rest_after (suc count) (byte ∷ rest) some = let one : suc count - 1 ≡ count = omega arith in ap (λ left. text_after left rest) one ∙ rest_skipped count rest
+
+-- as many bytes as there are are all of them
+pub least_dropped : (count : ℕ) (text : List ℕ) → drop (min count (length text)) text ≡ drop count text
+least_dropped count text = elim (leb_tells count (length text)) [
+  | inl low ↦ ap (λ len. drop len text) (min-eq_left low.1)
+  | inr high ↦
+      let past : length text ≤ count = omega (arith, high.1) in
+      ap (λ len. drop len text) (min-eq_right past) ∙ drop_all (length text) text (omega arith) ∙ sym (drop_all count text past)
+]
 
 -- ---- what stands for a sign
 

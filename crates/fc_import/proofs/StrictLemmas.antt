@@ -1,11 +1,10 @@
 -- Lemmas on imports in which each change is noted, and on those that are strict.
-use Rattle.{fc_text.specs.Bytes.{line_feed}, memchr.specs.Find.{is_byte, places_from}}
-use Rattle.std.proofs.Common.{◌++◌, ◌+◌, ◌-◌, ◌<◌, ◌∙◌, ◌∷◌, ◌≡◌, ◌≢◌, ◌≤◌, [], ap, ap₂, arith}
-use Rattle.std.proofs.Common.{Bool, cond, false, inl, inr, length, length-append, List, None}
-use Rattle.std.proofs.Common.{Option, refl, Some, subst, suc, sym, true, zero, ℕ}
-use Rattle.std.specs.Prelude.{codes, slice_index}
+use Rattle.std.proofs.Common.{◌++◌, ◌+◌, ◌-◌, ◌<◌, ◌==◌, ◌∙◌, ◌∷◌, ◌≡◌, ◌≢◌, [], ap, ap₂, arith}
+use Rattle.std.proofs.Common.{inl, inr, length, length-append, List, None, Option, refl, Some}
+use Rattle.std.proofs.{Common.{subst, sym, true, ℕ}, lemmas.List.Sums.{count_by_more_yes}}
+use Rattle.std.{proofs.lemmas.List.{take_all}, specs.Prelude.{codes, slice_index}}
 use Rattle.fc_board.specs.{Boards.{Board, IsWellFormed}, Games.{Game}, Moves.{MoveList}}
-use Rattle.fc_board.specs.declared.rule.Variant.{Variant}
+use Rattle.{fc_board.specs.declared.rule.Variant.{Variant}, fc_text.specs.Bytes.{line_feed}}
 use Rattle.fc_record.proofs.TextLineLemmas.{ends-after, ends-line_feed, last_byte}
 use Rattle.fc_record.specs.{Printing.{list_line}, RecordTexts.{ends_line}}
 use Rattle.fc_collect.specs.declared.streams.faults.Summary.{Summary}
@@ -141,40 +140,25 @@ notes_end (headed text state written said so_far ends line heading) = notes_end 
 notes_end (one_more text state written said so_far ends piece none next more says reading) =
     ends-after said says (notes_end so_far) (says_end reading)
 
--- a place whose byte passes is among those that are found
-some_place : (test : ℕ → Bool) (hay : List ℕ) (from count at : ℕ) → from ≤ at → at < from + count
-    → test (slice_index hay at) ≡ true → 0 < length (places_from test hay from count)
-unfolding places_from
-some_place test hay from zero at low high passes = absurd (omega (arith, low, high))
-some_place test hay from (suc count) at low high passes =
-    by (test (slice_index hay from)) refl
-    (λ past. some_place test hay (from + 1) count at past (omega (arith, high)) passes)
-  where
-    by : (here : Bool) → test (slice_index hay from) ≡ here
-        → (from + 1 ≤ at → 0 < length (places_from test hay (from + 1) count))
-        → 0 < length (cond here (from ∷ places_from test hay (from + 1) count) (places_from test hay (from + 1) count))
-    by true is later = omega arith
-    by false is later =
-        let fails : from ≡ at → false ≡ true = λ same. sym is ∙ ap (λ place. test (slice_index hay place)) same
-        ∙ passes in
-        let apart : from ≢ at = λ same. absurd (let e = fails same in cc) in
-        later (omega (arith, low, apart))
-
 last_index : (text : List ℕ) → slice_index (text ++ line_feed ∷ []) (length text) ≡ line_feed
 last_index [] = refl
 last_index (byte ∷ text) = last_index text
+
+-- a line feed at the end is counted
+last_feed : (text : List ℕ) → 0 < line_feeds (text ++ line_feed ∷ [])
+last_feed text =
+    let all = text ++ line_feed ∷ [] in
+    let long = length-append text (line_feed ∷ []) in
+    let more = count_by_more_yes (λ byte. byte == line_feed) all (length text) 0 (omega (arith, long)) (ap (λ byte. byte == line_feed) (last_index text)) in
+    subst (λ notes. 0 < line_feeds notes) (take_all (length text + 1) all (omega (arith, long))) (omega (arith, more))
 
 -- whole lines have a line feed
 some_line : (byte : ℕ) (rest : List ℕ) → ends_line (byte ∷ rest) ≡ true → 0 < line_feeds (byte ∷ rest)
 some_line byte rest ends =
     let (text, is) = last_byte byte rest ends in
-    let long = length-append text (line_feed ∷ []) in
-    subst (λ notes. 0 < line_feeds notes) (sym is)
-    (some_place (is_byte line_feed) (text ++ line_feed ∷ []) 0 (length (text ++ line_feed ∷ []) - 0) (length text)
-    (omega arith) (omega (arith, long)) (ap (is_byte line_feed) (last_index text)))
+    subst (λ notes. 0 < line_feeds notes) (sym is) (last_feed text)
 
 no_lines : line_feeds [] ≡ 0
-unfolding places_from
 no_lines = refl
 
 -- ---- what is made

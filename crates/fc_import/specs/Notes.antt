@@ -1,11 +1,11 @@
 -- Where an import is in its text, and what is said of a place there.
-use Rattle.{fc_board.specs.Boards.{Board}, memchr.specs.Find.{is_byte, places as places_of}}
-use Rattle.std.specs.{Fmt.{decimal}, Option.{unwrap_or}, Prelude.{◌++◌, ◌+◌, ◌-◌, ◌<◌, ◌==◌, ◌^◌}}
-use Rattle.std.specs.Prelude.{◌∷◌, ◌≡◌, ◌⊎◌, [], All, codes, Err, if◌then◌else◌, IsTrue, length}
-use Rattle.std.specs.Prelude.{List, min, None, Ok, Option, Result, take, ℕ}
-use Rattle.{fc_board.specs.declared.rule.Variant.{Variant}, fc_text.specs.Bytes.{line_feed}}
-use Rattle.{fc_import.specs.Words.{is_between}, fc_record.specs.Grammar.{Heading, heading_of}}
+use Rattle.std.specs.{Fmt.{decimal}, List.{count_by}, Option.{unwrap_or}, Prelude.{◌++◌, ◌+◌, ◌-◌}}
+use Rattle.std.specs.Prelude.{◌<◌, ◌==◌, ◌^◌, ◌∷◌, ◌≡◌, ◌⊎◌, [], All, codes, Err, if◌then◌else◌}
+use Rattle.std.specs.Prelude.{IsTrue, length, List, min, None, Ok, Option, Result, take, ℕ}
+use Rattle.fc_board.specs.{Boards.{Board}, declared.rule.Variant.{Variant}}
+use Rattle.{fc_record.specs.Grammar.{Heading, heading_of}, fc_text.specs.Bytes.{line_feed}}
 use Rattle.fc_record.specs.declared.record.RecordFault.{RecordFault}
+use Rattle.fc_import.specs.Words.{is_between}
 use Rattle.fc_import.specs.declared.{changes.Noted.{Noted}, tally.Fate.{Fate, TheVariants.{ABoard}}}
 use Rattle.fc_import.specs.declared.tally.Fate.TheVariants.{AList, LeftOut, Passed, RefusedBoard}
 use Rattle.fc_import.specs.declared.tally.{Fate.TheVariants.{RefusedList}, Tally.{Tally}}
@@ -52,7 +52,7 @@ abbrev pub first_state : Noted → State
 first_state noted = record { noted = noted; last = None; place = record { name = []; header = 0; line = 1 }; named = 0; tally = tally_of Passed }
 
 abbrev pub line_feeds : List ℕ → ℕ
-line_feeds text = length (places_of (is_byte line_feed) text)
+line_feeds text = count_by (λ byte. byte == line_feed) text
 
 abbrev pub line_after : (line : ℕ) → (text : List ℕ) → ℕ
 line_after line text = counted (line + line_feeds text)

@@ -58,9 +58,28 @@ impl Block {
 
     /// Takes the board's lines at the front of the text in place of those that it has.
     pub(crate) fn fill(&mut self, text: &[u8]) {
+        let _ = self.begin(text);
+        self.go_on(text);
+    }
+
+    /// Takes the first line of the text in place of the lines that it has, and returns what it
+    /// looks like.
+    pub(crate) fn begin(&mut self, text: &[u8]) -> LineKind {
         self.clear();
+        let Some(line) = Lines::new(text).next() else {
+            return LineKind::Blank;
+        };
+        let _ = self.take(line);
+        match self.lines.as_slice() {
+            [first, ..] => first.kind,
+            [] => LineKind::Blank,
+        }
+    }
+
+    /// Takes the board's lines after the first one of the text.
+    pub(crate) fn go_on(&mut self, text: &[u8]) {
         for line in Lines::new(text) {
-            if self.lines.is_full() || !self.take(line) {
+            if line.start > 0 && (self.lines.is_full() || !self.take(line)) {
                 break;
             }
         }
@@ -95,11 +114,10 @@ impl Block {
     // Takes a line that may be the board's, or returns that it is none.
     fn take(&mut self, line: Line<'_>) -> bool {
         let seen = self.look_at(line);
-        let repeats = self.repeats(seen);
-        if !self.goes_on(seen, line.text, repeats) {
+        if !self.goes_on(seen, line.text) {
             return false;
         }
-        self.add(seen, line.text, repeats);
+        self.add(seen, line.text);
         true
     }
 
@@ -111,8 +129,7 @@ impl Block {
             len: text.len(),
             kind: LineKind::Other,
             first: self.cards.len(),
-            cards: 0,
-            others: 0,
+            ..Seen::default()
         };
         match kind_by_front(text) {
             Some(LineKind::Cells) => {
@@ -135,36 +152,65 @@ impl Block {
         seen
     }
 
-    // Whether the line names a card.
-    fn names_card(&self, line: Seen) -> bool {
-        self.placed(line).iter().any(|placed| placed.card.is_some())
-    }
-
-    // Puts the cards and gaps of the words, and counts the words.
+    // Puts the cards and gaps of the words, and counts the words. Where there are tabs, places are
+    // counted in them.
     fn put_words(&mut self, text: &[u8], seen: &mut Seen) -> Tally {
-        let has_tabs = memchr(b'\t', text).is_some();
         let mut tally = Tally::new();
         let mut words = Words::new(text);
         for _word in 0..text.len() {
+            if let Some((card, start)) = words.take_pair() {
+                tally.count_card(card);
+                self.put(Some(card), start, words.group());
+                continue;
+            }
             let Some(word) = words.take() else {
                 break;
             };
             tally.count(&word);
-            let Some(card) = word.card_or_gap() else {
-                continue;
-            };
-            let at = if has_tabs {
-                words.tabs().saturating_mul(64)
-            } else {
-                word.start
-            };
-            let at = at.min(60_000) as u16;
-            let group = word.group.min(60_000) as u16;
-            let _ = self.cards.try_push(Placed { card, at, group });
+            if let Some(card) = word.card_or_gap() {
+                self.put(card, word.start, word.group);
+            }
         }
+        if words.tabs() > 0 {
+            self.place_by_tabs(text, seen.first);
+        }
+        self.sum_up(tally, seen);
+        tally
+    }
+
+    // Puts a card or a gap after the others, if there is room.
+    fn put(&mut self, card: Option<Card>, start: usize, group: usize) {
+        let at = start.min(60_000) as u16;
+        let group = group.min(60_000) as u16;
+        let _ = self.cards.try_push(Placed { card, at, group });
+    }
+
+    // Counts the places of the cards and gaps from this one on in tabs.
+    fn place_by_tabs(&mut self, text: &[u8], first: usize) {
+        let mut words = Words::new(text);
+        let mut place = first;
+        for _word in 0..text.len() {
+            let Some(word) = words.take() else {
+                break;
+            };
+            if word.card_or_gap().is_some() {
+                if let Some(placed) = self.cards.as_mut_slice().get_mut(place) {
+                    placed.at = words.tabs().saturating_mul(64).min(60_000) as u16;
+                }
+                place = place.saturating_add(1);
+            }
+        }
+    }
+
+    // What the line holds, whose words were counted.
+    fn sum_up(&self, tally: Tally, seen: &mut Seen) {
         seen.cards = self.cards.len().saturating_sub(seen.first);
         seen.others = tally.others;
-        tally
+        seen.gaps = tally.gaps;
+        seen.bits = tally.bits;
+        seen.repeats = tally
+            .cards
+            .saturating_sub(count_of(tally.bits & !self.bits));
     }
 
     /// The cards and gaps of a line.
@@ -173,22 +219,8 @@ impl Block {
         self.cards.as_slice().get(line.first..end).unwrap_or(&[])
     }
 
-    // How many cards of the line were there before, in the line or above it.
-    fn repeats(&self, line: Seen) -> usize {
-        let mut bits = self.bits;
-        let mut repeats: usize = 0;
-        for placed in self.placed(line) {
-            if let Some(card) = placed.card {
-                let bit = bit_of(card);
-                repeats = repeats.saturating_add(usize::from(bits & bit != 0));
-                bits |= bit;
-            }
-        }
-        repeats
-    }
-
     // Whether the line may be the board's.
-    fn goes_on(&mut self, line: Seen, text: &[u8], repeats: usize) -> bool {
+    fn goes_on(&mut self, line: Seen, text: &[u8]) -> bool {
         if self.lines.is_empty() {
             return true;
         }
@@ -206,13 +238,13 @@ impl Block {
                 !self.has_heights && fits && !(is_after_blank && self.rows > 0)
             }
             LineKind::Cells if self.is_drawing => !self.has_top,
-            LineKind::Cells => !self.has_cells && (!is_whole || !self.names_card(line)),
+            LineKind::Cells => !self.has_cells && (!is_whole || line.bits == 0),
             LineKind::Front => self.lines.is_empty(),
             LineKind::Ruler => matches!(self.lines.len(), 1 | 3) && !self.has_top,
             LineKind::Top => self.is_drawing,
-            LineKind::Cards if is_whole => self.rows < 8 && !self.names_card(line),
-            LineKind::Cards if repeats > 0 && is_list(text) => false,
-            LineKind::Cards if self.begins_other(line, repeats) => {
+            LineKind::Cards if is_whole => self.rows < 8 && line.bits == 0,
+            LineKind::Cards if line.repeats > 0 && is_list(text) => false,
+            LineKind::Cards if self.begins_other(line) => {
                 self.cut_at_blank();
                 false
             }
@@ -222,7 +254,8 @@ impl Block {
 
     // Whether another board seems to begin above the line: its cards come again after a blank line,
     // or most of them do.
-    fn begins_other(&self, line: Seen, repeats: usize) -> bool {
+    fn begins_other(&self, line: Seen) -> bool {
+        let repeats = line.repeats;
         repeats > 0 && self.up_to_blank > 0 || repeats >= 3 && repeats > line.cards / 2
     }
 
@@ -244,7 +277,7 @@ impl Block {
         }
     }
 
-    fn add(&mut self, line: Seen, text: &[u8], repeats: usize) {
+    fn add(&mut self, line: Seen, text: &[u8]) {
         match line.kind {
             LineKind::Foundations => self.add_heights(after_colon(text)),
             LineKind::Front => {
@@ -258,16 +291,9 @@ impl Block {
             LineKind::Blank => self.up_to_blank = self.lines.len().saturating_add(1),
             _ => {}
         }
-        self.is_damaged = self.is_damaged || repeats > 0 || line.others > 0;
-        let mut bits = self.bits;
-        for placed in self.placed(line) {
-            if let Some(card) = placed.card {
-                bits |= bit_of(card);
-            }
-        }
-        let more = usize::from((bits & !self.bits).count_ones() as u16);
-        self.bits = bits;
-        self.count = self.count.saturating_add(more);
+        self.is_damaged = self.is_damaged || line.repeats > 0 || line.others > 0;
+        self.count = self.count.saturating_add(count_of(line.bits & !self.bits));
+        self.bits |= line.bits;
         let _ = self.lines.try_push(line);
     }
 
@@ -282,8 +308,9 @@ impl Block {
     }
 }
 
-fn bit_of(card: Card) -> u64 {
-    1 << card.number()
+// How many cards these bits are.
+fn count_of(bits: u64) -> usize {
+    usize::from(bits.count_ones() as u16)
 }
 
 // The heights of C D H S that the words say, and whether each word says one.

@@ -1,8 +1,8 @@
 //! The cards and the moves that words name, and those of a board in the orders in which lines name
 //! them.
 ghost use Rattle.std.specs.{List.{before_first, flat_map}, Option.{option_to_list}, Prelude.{◌++◌}};
-ghost use Rattle.std.specs.Prelude.{◌==◌, ◌↔◌, ◌≡◌, ◌≢◌, ◌⊎◌, [], All, drop, IfOk, IsTrue, OnOk};
-ghost use Rattle.std.specs.{Prelude.{slice_get, take}, Str.{str_to_ascii_lowercase}};
+ghost use Rattle.std.specs.Prelude.{◌==◌, ◌↔◌, ◌≡◌, ◌≢◌, ◌⊎◌, [], All, drop, IfOk, IsTrue, List};
+ghost use Rattle.std.specs.{Prelude.{OnOk, slice_get, take, ℕ}, Str.{str_to_ascii_lowercase}};
 ghost use Rattle.fc_board.specs.Boards.{IsWellFormed};
 ghost use Rattle.fc_text.specs.{Bytes.{number_sign}, Spelling.{card_spelled}};
 ghost use Rattle.fc_import.specs.Import.{ArePacked, by_columns, HasCards, in_cells, in_columns};
@@ -20,28 +20,31 @@ use std::alloc::{AllocError, Global};
 /// The end of the cards of a line or a column, which is no card.
 const END: u8 = 52;
 
-/// The cards that each line of a text names, with an end after each.
-pub(crate) fn named_lines(alloc: Global, text: &[u8]) -> Result<Vec<u8>, AllocError>
-    ensures { IfOk result (λ cards. cards.items ≡ named_lines text.now) }
-{
-    let mut cards = Vec::new(alloc);
-    for line in Lines::new(text) {
-        let named = named_cards(alloc, line.text)?;
-        push_ended(&mut cards, named.as_slice())?;
-    }
-    Ok(cards)
+/// The most cards of a board and ends of its columns and cells. A text may name more.
+const MOST: usize = 61;
+
+/// The cards that the lines of a text name, in their order, and the same with an end after those of
+/// each line.
+#[derive(Drop)]
+pub(crate) struct Named {
+    pub(crate) cards: Vec<u8>,
+    pub(crate) lines: Vec<u8>,
 }
 
-/// The cards that the lines of a text name, in their order.
-pub(crate) fn named_in(alloc: Global, text: &[u8]) -> Result<Vec<u8>, AllocError>
-    ensures { IfOk result (λ cards. cards.items ≡ named_in text.now) }
-{
-    let mut cards = Vec::new(alloc);
-    for line in Lines::new(text) {
-        let named = named_cards(alloc, line.text)?;
-        push_numbers(&mut cards, named.as_slice())?;
+impl Named {
+    pub(crate) fn by(alloc: Global, text: &[u8]) -> Result<Self, AllocError>
+        ensures cards { IfOk result (λ named. named.cards.items ≡ named_in text.now) }
+        ensures lines { IfOk result (λ named. named.lines.items ≡ named_lines text.now) }
+    {
+        let mut cards = Vec::with_capacity(alloc, MOST)?;
+        let mut lines = Vec::with_capacity(alloc, MOST)?;
+        for line in Lines::new(text) {
+            let named = named_cards(alloc, line.text)?;
+            push_numbers(&mut cards, named.as_slice())?;
+            push_ended(&mut lines, named.as_slice())?;
+        }
+        Ok(Named { cards, lines })
     }
-    Ok(cards)
 }
 
 // Appends the numbers of cards, and then an end if there are any.
@@ -91,7 +94,7 @@ fn cards_of_words(alloc: Global, line: &[u8]) -> Result<Vec<Card>, AllocError>
         ≡ flat_map (λ word. option_to_list (named_card word)) (plain_words line.now)) }
 {
     let plain = plain(alloc, line)?;
-    let mut cards = Vec::new(alloc);
+    let mut cards = Vec::with_capacity(alloc, 8)?;
     for token in Tokens::new(plain.as_slice()) {
         push_named(&mut cards, token.text)?;
     }
@@ -167,24 +170,20 @@ fn push_lower(letters: &mut Vec<u8>, word: &[u8]) -> Result<(), AllocError>
 /// row by row, and those of the cells first or last.
 pub(crate) fn has_cards<R: Rule>(
     alloc: Global,
-    lines: &[u8],
+    named: &Named,
     board: &Board<R>,
 ) -> Result<bool, AllocError>
-    ensures { IfOk result (λ has. IsTrue has → HasCards lines.now board.now) }
+    ensures { IfOk result (λ has. IsTrue has
+        → (lines : List ℕ) → named.now.cards.items ≡ named_in lines → HasCards lines board.now) }
 {
-    let named = named_in(alloc, lines)?;
+    let named = named.cards.as_slice();
     let cells = in_cells(alloc, board)?;
-    Ok(
-        is_around(
-            named.as_slice(),
-            cells.as_slice(),
-            in_columns(alloc, board)?.as_slice(),
-        ) || is_around(
-            named.as_slice(),
-            cells.as_slice(),
-            in_rows(alloc, board)?.as_slice(),
-        ),
-    )
+    let columns = in_columns(alloc, board)?;
+    if is_around(named, cells.as_slice(), columns.as_slice()) {
+        return Ok(true);
+    }
+    let rows = in_rows(alloc, board)?;
+    Ok(is_around(named, cells.as_slice(), rows.as_slice()))
 }
 
 // Whether the whole is one part after the other, in either order.
@@ -210,8 +209,8 @@ pub(crate) fn by_columns<R: Rule>(alloc: Global, board: &Board<R>) -> Result<Vec
     ensures cards { IfOk result (λ cards. cards.items ≡ by_columns board.now) }
     ensures well_formed { IsWellFormed R.game board.now }
 {
-    let mut cards = Vec::new(alloc);
     let in_cells = cards_in_cells(alloc, board.cells())?;
+    let mut cards = Vec::with_capacity(alloc, MOST)?;
     push_ended(&mut cards, in_cells.as_slice())?;
     for index in 0..8 {
         push_ended(&mut cards, board.column(index))?;
@@ -235,7 +234,7 @@ fn in_columns<R: Rule>(alloc: Global, board: &Board<R>) -> Result<Vec<u8>, Alloc
 {
     // The board has eight columns.
     let _ = board.heights();
-    let mut cards = Vec::new(alloc);
+    let mut cards = Vec::with_capacity(alloc, MOST)?;
     for index in 0..8 {
         push_numbers(&mut cards, board.column(index))?;
     }
@@ -246,43 +245,24 @@ fn in_columns<R: Rule>(alloc: Global, board: &Board<R>) -> Result<Vec<u8>, Alloc
 fn in_rows<R: Rule>(alloc: Global, board: &Board<R>) -> Result<Vec<u8>, AllocError>
     ensures { IfOk result (λ cards. cards.items ≡ in_rows board.now) }
 {
-    let mut cards = Vec::new(alloc);
+    let mut cards = Vec::with_capacity(alloc, MOST)?;
     for row in 0..52 {
-        push_row(alloc, &mut cards, board, row)?;
+        push_row(&mut cards, board, row)?;
     }
     Ok(cards)
 }
 
 // Appends the card of each column at this place, where it has one.
-fn push_row<R: Rule>(
-    alloc: Global,
-    cards: &mut Vec<u8>,
-    board: &Board<R>,
-    row: usize,
-) -> Result<(), AllocError>
+fn push_row<R: Rule>(cards: &mut Vec<u8>, board: &Board<R>, row: usize) -> Result<(), AllocError>
     ensures { OnOk result (cards.new.items ≡ cards.old.items
         ++ flat_map (λ column. option_to_list (slice_get column row)) board.now.columns) }
 {
-    let in_row = cards_in_row(alloc, board, row)?;
-    push_numbers(cards, in_row.as_slice())
-}
-
-// The card of each column at this place, where it has one.
-fn cards_in_row<R: Rule>(
-    alloc: Global,
-    board: &Board<R>,
-    row: usize,
-) -> Result<Vec<Card>, AllocError>
-    ensures { IfOk result (λ cards. cards.items
-        ≡ flat_map (λ column. option_to_list (slice_get column row)) board.now.columns) }
-{
     // The board has eight columns.
     let _ = board.heights();
-    let mut cards = Vec::new(alloc);
     for index in 0..8 {
-        push_some(&mut cards, card_at(board.column(index), row))?;
+        push_some(cards, card_at(board.column(index), row))?;
     }
-    Ok(cards)
+    Ok(())
 }
 
 fn card_at(column: &[Card], row: usize) -> Option<Card>
@@ -299,16 +279,18 @@ fn cards_in_cells(alloc: Global, cells: &[Option<Card>]) -> Result<Vec<Card>, Al
 {
     let mut cards = Vec::new(alloc);
     for cell in cells {
-        push_some(&mut cards, *cell)?;
+        if let Some(card) = *cell {
+            cards.push(card)?;
+        }
     }
     Ok(cards)
 }
 
-fn push_some(cards: &mut Vec<Card>, card: Option<Card>) -> Result<(), AllocError>
+fn push_some(cards: &mut Vec<u8>, card: Option<Card>) -> Result<(), AllocError>
     ensures { OnOk result (cards.new.items ≡ cards.old.items ++ option_to_list card) }
 {
     if let Some(card) = card {
-        cards.push(card)?;
+        cards.push(card.number())?;
     }
     Ok(())
 }

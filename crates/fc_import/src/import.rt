@@ -13,7 +13,7 @@ ghost use Rattle.fc_import.specs.inside.{KeepsFirst, Takes, TakesAsItIs, TakesFi
 use crate::block::Block;
 use crate::changes::Noted;
 use crate::layout::{LinesAre, Reading, layout_words, read};
-use crate::line::{LineKind, kind_of, line_len};
+use crate::line::{LineKind, line_len};
 use crate::lists::{ListRead, has_moves, is_list, is_move, moves_len, read_moves_on};
 use crate::made::{Form, Made, is_same};
 use crate::reasons::{board_reason, move_reason};
@@ -252,7 +252,7 @@ impl<R: Rule> Importer<R> {
     // What the text begins with.
     fn look_at(&self, text: &[u8], block: &mut Block) -> Piece {
         let line = first_line(text);
-        let kind = match kind_of(line) {
+        let kind = match block.begin(text) {
             LineKind::Foundations | LineKind::Front if self.goes_on_with_boards() => {
                 PieceKind::States
             }
@@ -266,7 +266,7 @@ impl<R: Rule> Importer<R> {
             | LineKind::Top => PieceKind::Prose,
             LineKind::Cards if is_list(line) => board_or_moves(text, block),
             LineKind::Foundations | LineKind::Cells | LineKind::Cards | LineKind::Front => {
-                block.fill(text);
+                block.go_on(text);
                 PieceKind::Board
             }
         };
@@ -550,9 +550,10 @@ impl<R: Rule> Importer<R> {
     }
 }
 
-// A line that may be one of cards or one of moves: cards, if a board comes of it.
+// A line that may be one of cards or one of moves, and that the block has: cards, if a board comes
+// of it.
 fn board_or_moves(text: &[u8], block: &mut Block) -> PieceKind {
-    block.fill(text);
+    block.go_on(text);
     if block.is_whole() {
         PieceKind::Board
     } else {

@@ -4,7 +4,7 @@ ghost use Rattle.std.specs.Prelude.{All, drop, IsNone, IsTrue};
 
 use crate::block::Block;
 use crate::line::{LineKind, Placed, Seen};
-use crate::playable::is_playable;
+use crate::playable::{MOST_DEALT, is_playable};
 use arrayvec::ArrayVec;
 use fc_board::{Board, Height, Rule, no_cards};
 use fc_card::Card;
@@ -96,10 +96,33 @@ pub(crate) fn read<R: Rule>(
         _ => drafted(block, first),
     };
     let rows = match second {
+        Some(Layout::Rows) if columns.is_some() && has_unplayable_row::<R>(block) => None,
         Some(layout) => drafted(block, layout),
         None => None,
     };
     choose(columns, rows, shown, lines_are)
+}
+
+// Whether no play could have put the cards of an eighth row on those above them.
+fn has_unplayable_row<R: Rule>(block: &Block) -> bool {
+    let mut above: Option<Card> = None;
+    let mut row: usize = 0;
+    for line in block.lines.as_slice() {
+        if line.kind == LineKind::Cards {
+            let first = match block.placed(*line) {
+                [first, ..] => first.card,
+                [] => None,
+            };
+            if let (Some(card), Some(above)) = (first, above) {
+                if row >= MOST_DEALT && !R::builds(card, above) {
+                    return true;
+                }
+            }
+            above = first;
+            row = row.saturating_add(1);
+        }
+    }
+    false
 }
 
 // Chooses between what the lines are as columns and as rows.
@@ -181,21 +204,25 @@ fn first_row(block: &Block) -> Seen {
 // Whether a line has a mark for no card among cards, or a place of the grid without a card before
 // its last one: columns have no such gaps.
 fn has_gaps(block: &Block) -> bool {
-    let grid = grid_of(block);
+    let grid = grid_by_first_row(block);
+    let mut is_wide = false;
     for line in block.lines.as_slice() {
         if line.kind == LineKind::Cards {
-            let placed = block.placed(*line);
-            let is_marked = placed.len() > 1 && placed.iter().any(|one| one.card.is_none());
-            let is_wide = match (grid, placed.last()) {
-                (Some(_), Some(last)) => column_in(grid, *last, 0) >= placed.len(),
-                _ => false,
-            };
-            if is_marked || is_wide {
+            if line.gaps > 0 && line.cards > 1 {
                 return true;
             }
+            is_wide = is_wide || goes_beyond(grid, block.placed(*line));
         }
     }
-    false
+    is_wide && grid_of(block).is_some()
+}
+
+// Whether the last card of a row is in a later column than there are cards.
+fn goes_beyond(grid: Option<Grid>, row: &[Placed]) -> bool {
+    match (grid, row.last()) {
+        (Some(_), Some(last)) => column_in(grid, *last, 0) >= row.len(),
+        _ => false,
+    }
 }
 
 // Whether the lines may be rows: none begins with a colon or has more than eight cards.
@@ -381,22 +408,48 @@ fn column_in(grid: Option<Grid>, placed: Placed, place: usize) -> usize {
     }
 }
 
-// Where the rows have their columns, if all their cards are at such places and a row has less.
+// Where the rows have their columns, if all their cards are at such places.
 fn grid_of(block: &Block) -> Option<Grid> {
-    let mut grid = Grid {
-        base: u16::MAX,
-        unit: u16::MAX,
-    };
-    for line in block.lines.as_slice() {
-        if line.kind == LineKind::Cards {
-            grid = grid.with_row(block.placed(*line), grid.base == u16::MAX)?;
-        }
-    }
-    if grid.unit >= 2 && fits_rows(block, grid) {
+    let grid = grid_by_first_row(block)?;
+    if fits_rows(block, grid) {
         Some(grid)
     } else {
         None
     }
+}
+
+// The grid that begins with the first card of any row, and is as wide as the first row is close;
+// none where a row has a mark for a gap.
+fn grid_by_first_row(block: &Block) -> Option<Grid> {
+    let mut base = u16::MAX;
+    for line in block.lines.as_slice() {
+        if line.kind == LineKind::Cards {
+            if let ([first, ..], 0) = (block.placed(*line), line.gaps) {
+                base = base.min(first.at);
+            } else {
+                return None;
+            }
+        }
+    }
+    let unit = least_step(block.placed(first_row(block)));
+    if unit >= 2 {
+        Some(Grid { base, unit })
+    } else {
+        None
+    }
+}
+
+// How far two cards of the row are from one another at least.
+fn least_step(row: &[Placed]) -> u16 {
+    let mut least = u16::MAX;
+    let mut before: Option<u16> = None;
+    for placed in row {
+        if let Some(before) = before {
+            least = least.min(placed.at.saturating_sub(before));
+        }
+        before = Some(placed.at);
+    }
+    least
 }
 
 fn fits_rows(block: &Block, grid: Grid) -> bool {
@@ -429,22 +482,6 @@ fn are_even(block: &Block) -> bool {
 }
 
 impl Grid {
-    // The grid that also has this row; none where a row has a mark for a gap. The first row says
-    // how wide a column is.
-    fn with_row(self, row: &[Placed], is_first: bool) -> Option<Grid> {
-        let mut grid = self;
-        let mut before: Option<u16> = None;
-        for placed in row {
-            placed.card?;
-            grid.base = grid.base.min(placed.at);
-            if let (Some(before), true) = (before, is_first) {
-                grid.unit = grid.unit.min(placed.at.saturating_sub(before));
-            }
-            before = Some(placed.at);
-        }
-        Some(grid)
-    }
-
     fn has(self, placed: Placed) -> bool {
         let beyond = placed.at.saturating_sub(self.base) % self.unit.max(1);
         beyond == 0 || self.unit > 3 && (beyond == 1 || beyond.saturating_add(1) == self.unit)

@@ -69,6 +69,11 @@ pub(crate) struct Seen {
     pub(crate) cards: usize,
     /// Words that are neither cards nor before a label's colon.
     pub(crate) others: usize,
+    pub(crate) gaps: usize,
+    /// How many of its cards were there before, in the line or above it.
+    pub(crate) repeats: usize,
+    /// Its cards by their numbers, as bits.
+    pub(crate) bits: u64,
 }
 
 impl Default for Seen {
@@ -80,6 +85,9 @@ impl Default for Seen {
             first: 0,
             cards: 0,
             others: 0,
+            gaps: 0,
+            repeats: 0,
+            bits: 0,
         }
     }
 }
@@ -98,7 +106,8 @@ pub(crate) fn kind_by_front(line: &[u8]) -> Option<LineKind> {
         [b'-', b'-', b'-', b' ', b'-', ..] => Some(LineKind::Ruler),
         [b'-', b'-', b' ', b' ', b'-', ..] => Some(LineKind::Top),
         [b'=', b'=', ..] | [b'-', b'=', ..] => Some(LineKind::Other),
-        _ => kind_by_name(front),
+        [b'A'..=b'Z' | b'a'..=b'z', ..] => kind_by_name(front),
+        _ => None,
     }
 }
 
@@ -158,16 +167,19 @@ fn is_among(name: &[u8], names: &[&[u8]]) -> bool {
     false
 }
 
-/// Whether the line ends with the four foundations of a drawing.
+/// Whether the line ends with the four foundations of a drawing, after 16 bytes without a dash.
 pub(crate) fn is_front(line: &[u8]) -> bool {
-    let Some(dash) = memchr(b'-', line) else {
+    let Some((cells, rest)) = line.split_at_checked(16) else {
         return false;
     };
-    let from = dash.saturating_sub(1);
-    matches!(
-        line.get(from..),
-        Some([b'H', b'-', _, b' ' | b'0', b' ' | b'C', ..])
-    ) && from >= 16
+    if rest.len() < 5 {
+        return false;
+    }
+    let Some(dash) = memchr(b'-', rest) else {
+        return false;
+    };
+    let home = rest.get(dash.saturating_sub(1)..).unwrap_or(b"");
+    matches!(home, [b'H', b'-', _, b' ' | b'0', b' ' | b'C', ..]) && memchr(b'-', cells).is_none()
 }
 
 /// What comes after the colon of a line with a name.
@@ -185,6 +197,8 @@ pub(crate) struct Tally {
     pub(crate) gaps: usize,
     pub(crate) others: usize,
     pub(crate) aces: usize,
+    /// The cards by their numbers, as bits.
+    pub(crate) bits: u64,
 }
 
 impl Tally {
@@ -194,6 +208,7 @@ impl Tally {
             gaps: 0,
             others: 0,
             aces: 0,
+            bits: 0,
         }
     }
 
@@ -210,15 +225,21 @@ impl Tally {
         tally
     }
 
+    /// Counts a card that is the next word, with no mark before it.
+    pub(crate) fn count_card(&mut self, card: Card) {
+        self.cards = self.cards.saturating_add(1);
+        self.bits |= bit_of(card);
+    }
+
     /// Counts a word. Words before the first card are a label if a colon, a dot or a bracket ends
     /// them.
     pub(crate) fn count(&mut self, word: &Word<'_>) {
         match &word.kind {
-            WordKind::Card(_) => {
+            WordKind::Card(card) => {
                 if self.cards == 0 && matches!(word.mark, b':' | b'.' | b')') {
                     self.others = 0;
                 }
-                self.cards = self.cards.saturating_add(1);
+                self.count_card(*card);
                 self.aces = self
                     .aces
                     .saturating_add(usize::from(matches!(word.text, [b'1', _])));
@@ -229,6 +250,10 @@ impl Tally {
     }
 }
 
+fn bit_of(card: Card) -> u64 {
+    1 << card.number()
+}
+
 /// What a line without a name is by its words.
 pub(crate) fn kind_by_words(line: &[u8], tally: Tally) -> LineKind {
     let Tally {
@@ -236,6 +261,7 @@ pub(crate) fn kind_by_words(line: &[u8], tally: Tally) -> LineKind {
         gaps,
         others,
         aces,
+        ..
     } = tally;
     let has_colon = line.trim_ascii_start().starts_with(b":");
     let sure = if has_colon {

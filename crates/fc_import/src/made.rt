@@ -14,7 +14,7 @@ ghost use Rattle.fc_import.specs.Notes.{after, name_by, SaysUnless};
 ghost use Rattle.fc_import.specs.Words.{named_lines, named_moves};
 ghost use Rattle.fc_import.specs.declared.tally.Fate.TheVariants.{ABoard};
 
-use crate::cards::{by_columns, has_cards, is_packed, named_in, named_lines, named_moves};
+use crate::cards::{Named, by_columns, has_cards, is_packed, named_moves};
 use crate::changes::{Change, Noted, change_of};
 use crate::playable::can_be;
 use crate::quiet::{are_no_board, are_prose, are_quiet};
@@ -107,7 +107,7 @@ impl<R: Rule> Made<R> {
             → Takes R.VARIANT R.game piece.now self.old self.new) }
         ensures kept { IfOk result (λ taken. taken ≡ false → self.new ≡ self.old) }
     {
-        if named_in(alloc, piece)?.is_empty() {
+        if Named::by(alloc, piece)?.cards.is_empty() {
             return Ok(false);
         }
         if !are_prose::<R>(alloc, piece)? {
@@ -334,10 +334,14 @@ impl<R: Rule> Made<R> {
             × (self.now.last ≡ Some board)
             × (SpellsOut R.game piece.now board ⊎ HasCards piece.now board)) }
     {
-        match &self.last {
-            Some(board) => Ok(spells_out(alloc, piece, board)? || has_cards(alloc, piece, board)?),
-            None => Ok(false),
+        let Some(board) = &self.last else {
+            return Ok(false);
+        };
+        let named = Named::by(alloc, piece)?;
+        if spells_out(alloc, piece, &named, board)? {
+            return Ok(true);
         }
+        has_cards(alloc, &named, board)
     }
 
     /// The list of these moves, if it is legal on the last board.
@@ -393,11 +397,12 @@ impl<R: Rule> Made<R> {
             → SpellsOut R.game piece.now board.now ⊎ HasCards piece.now board.now) }
         ensures kept { IfOk result (λ is. is ≡ false → self.new ≡ self.old) }
     {
-        if spells_out(alloc, piece, board)? {
+        let named = Named::by(alloc, piece)?;
+        if spells_out(alloc, piece, &named, board)? {
             self.say_change(alloc, piece, board)?;
             return Ok(true);
         }
-        if !has_cards(alloc, piece, board)? {
+        if !has_cards(alloc, &named, board)? {
             return Ok(false);
         }
         self.walk.push_note(piece, 0, words, &mut self.notes)?;
@@ -457,8 +462,7 @@ fn push_record<R: Rule>(
 {
     let view = BoardView::of(board);
     push_header(R::VARIANT, name, written)?;
-    view.push_to(written)?;
-    Ok(())
+    written.extend_from_slice(view.text().as_slice())
 }
 
 /// The name that the header gives, or nothing.
@@ -512,22 +516,27 @@ fn numbered(alloc: Global, name: &[u8], number: usize) -> Result<Vec<u8>, AllocE
 
 // Whether each line that names cards names those of the cells or of the next column of the board,
 // and none of these is empty.
-fn has_columns<R: Rule>(alloc: Global, lines: &[u8], board: &Board<R>) -> Result<bool, AllocError>
+fn has_columns<R: Rule>(alloc: Global, named: &Named, board: &Board<R>) -> Result<bool, AllocError>
     ensures has { IfOk result (λ has. IsTrue has
-        ↔ ((named_lines lines.now ≡ by_columns board.now) × IsPacked board.now)) }
+        ↔ ((named.now.lines.items ≡ by_columns board.now) × IsPacked board.now)) }
     ensures well_formed { IsWellFormed R.game board.now }
 {
     let columns = by_columns(alloc, board)?;
-    let named = named_lines(alloc, lines)?;
-    Ok(is_equal(named.as_slice(), columns.as_slice()) && is_packed(board))
+    Ok(is_equal(named.lines.as_slice(), columns.as_slice()) && is_packed(board))
 }
 
 // Whether `show` reads the lines as the board, or they are its cells and columns.
-fn spells_out<R: Rule>(alloc: Global, lines: &[u8], board: &Board<R>) -> Result<bool, AllocError>
+fn spells_out<R: Rule>(
+    alloc: Global,
+    lines: &[u8],
+    named: &Named,
+    board: &Board<R>,
+) -> Result<bool, AllocError>
+    requires { named.now.lines.items ≡ named_lines lines.now }
     ensures spells { IfOk result (λ is. IsTrue is ↔ SpellsOut R.game lines.now board.now) }
     ensures well_formed { IsWellFormed R.game board.now }
 {
-    if has_columns(alloc, lines, board)? {
+    if has_columns(alloc, named, board)? {
         return Ok(true);
     }
     match read_board::<R>(lines) {
@@ -558,7 +567,10 @@ fn board_needs_no_note<R: Rule>(
         ↔ BoardNeedsNoNote noted R.game lines.now board.now) }
 {
     match noted {
-        Noted::Doubts => spells_out(alloc, lines, board),
+        Noted::Doubts => {
+            let named = Named::by(alloc, lines)?;
+            spells_out(alloc, lines, &named, board)
+        }
         Noted::Changes | Noted::Strict => Ok(is_printed(lines, board)),
     }
 }

@@ -9,7 +9,7 @@ use std::alloc::{AllocError, Global};
 pub(crate) fn plain(alloc: Global, text: &[u8]) -> Result<Vec<u8>, AllocError>
     ensures { IfOk result (λ made. made.items ≡ plain text.now) }
 {
-    let mut plain = Vec::new(alloc);
+    let mut plain = Vec::with_capacity(alloc, text.len())?;
     for byte in text {
         plain.push(plain_byte(*byte))?;
     }

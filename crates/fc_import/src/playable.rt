@@ -7,7 +7,7 @@ use fc_card::Card;
 use fc_text::write_board;
 
 /// How many cards a deal puts into a column at most.
-const MOST_DEALT: usize = 7;
+pub(crate) const MOST_DEALT: usize = 7;
 
 /// Whether play can make the columns of the board, or the lines are the board as it is printed.
 pub(crate) fn can_be<R: Rule>(piece: &[u8], board: &Board<R>) -> bool

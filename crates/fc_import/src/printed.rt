@@ -37,11 +37,11 @@ impl<R: Rule> Made<R> {
     {
         let start = line_len(text);
         let line = &text[..start];
-        let Some(name) = printed_name(alloc, R::VARIANT, line)? else {
-            return Ok(None);
-        };
         let mut rest = &text[start..];
         let Some(board) = take_printed::<R>(&mut rest) else {
+            return Ok(None);
+        };
+        let Some(name) = printed_name(alloc, R::VARIANT, line)? else {
             return Ok(None);
         };
         let end = text.len() - rest.len();

@@ -1,7 +1,7 @@
 //! What the signs of a text stand for: letters of suits, ends of lines, blanks, or nothing.
 ghost use Rattle.std.specs.{List.{prefix_len}, Option.{is_some, unwrap_or}, Prelude.{◌%◌, ◌&&◌}};
-ghost use Rattle.std.specs.Prelude.{◌*◌, ◌++◌, ◌+◌, ◌<◌, ◌==◌, ◌≡◌, ◌≤◌, [], drop, IfOk, length};
-ghost use Rattle.std.specs.Prelude.{OnOk, slice_index, take};
+ghost use Rattle.std.specs.Prelude.{◌*◌, ◌++◌, ◌+◌, ◌<◌, ◌==◌, ◌≡◌, ◌≤◌, [], All, drop, IfOk};
+ghost use Rattle.std.specs.Prelude.{IsTrue, length, OnOk, slice_index, true};
 ghost use Rattle.fc_text.specs.Bytes.{line_feed};
 ghost use Rattle.fc_import.specs.{inside.{is_alone}, Words.{ends_line, is_between, is_card_sign}};
 ghost use Rattle.fc_import.specs.Words.{is_space, is_suit_sign, is_unseen, is_wide, number_of};
@@ -16,7 +16,22 @@ pub(crate) fn read_text(alloc: Global, bytes: Vec<u8>) -> Result<Vec<u8>, AllocE
     ensures { IfOk result (λ text. text.items ≡ text_read bytes.items) }
 {
     let decoded = decode(alloc, bytes)?;
+    if are_alone(decoded.as_slice()) {
+        return Ok(decoded);
+    }
     with_letters(alloc, decoded.as_slice())
+}
+
+// Whether each byte is read as it is. All are looked at, also after one that is not, so that many
+// are looked at at once.
+fn are_alone(text: &[u8]) -> bool
+    ensures { IsTrue result → All (λ byte. is_alone byte ≡ true) text.now }
+{
+    let mut are_alone = true;
+    for byte in text {
+        are_alone &= is_alone(*byte);
+    }
+    are_alone
 }
 
 // The text with what stands for each of its signs.
@@ -25,46 +40,29 @@ fn with_letters(alloc: Global, text: &[u8]) -> Result<Vec<u8>, AllocError>
 {
     let mut made = Vec::new(alloc);
     let mut at = 0;
-    let mut skipped = 0;
     while at < text.len() {
-        let (len, left) = take_front(&mut made, skipped, &text[at..])?;
+        let len = take_front(&mut made, &text[at..])?;
         at += len;
-        skipped = left;
     }
     Ok(made)
 }
 
-// Takes the bytes at the front of the text that are read as they are, and the one after them.
-// Before the text so many bytes belong to a sign. Returns how many were taken, and how many belong
-// to a sign after them.
-fn take_front(made: &mut Vec<u8>, skipped: usize, text: &[u8]) -> Result<(usize, usize), AllocError>
+// Takes the bytes at the front of the text that are read as they are, and the sign after them.
+// Returns how many bytes were taken.
+fn take_front(made: &mut Vec<u8>, text: &[u8]) -> Result<usize, AllocError>
     requires { 0 < length text.now }
-    ensures some { IfOk result (λ taken. 0 < taken.0) }
-    ensures within { IfOk result (λ taken. taken.0 ≤ length text.now) }
-    ensures takes { IfOk result (λ taken.
-        made.new.items ++ text_after taken.1 (drop taken.0 text.now)
-        ≡ made.old.items ++ text_after skipped text.now) }
+    ensures some { IfOk result (λ len. 0 < len) }
+    ensures within { IfOk result (λ len. len ≤ length text.now) }
+    ensures takes { IfOk result (λ len. made.new.items ++ text_after 0 (drop len text.now)
+        ≡ made.old.items ++ text_after 0 text.now) }
 {
-    let len = alone_len(text, skipped);
+    let len = run_len(text);
     made.extend_from_slice(&text[..len])?;
     if len == text.len() {
-        return Ok((len, skipped));
+        return Ok(len);
     }
-    let left = take_byte(made, skipped, &text[len..])?;
-    Ok((len + 1, left))
-}
-
-// How many bytes at the front of the text, before which so many belong to a sign, are read as they
-// are.
-fn alone_len(text: &[u8], skipped: usize) -> usize
-    ensures stays { text_after skipped text.now
-        ≡ take result text.now ++ text_after skipped (drop result text.now) }
-    ensures within { result ≤ length text.now }
-{
-    if skipped > 0 {
-        return 0;
-    }
-    run_len(text)
+    let count = take_sign(made, &text[len..])?;
+    Ok(len + count)
 }
 
 fn run_len(text: &[u8]) -> usize
@@ -81,16 +79,14 @@ fn is_alone(byte: u8) -> bool
     byte <= 10 || is_between(14, 127, byte)
 }
 
-// Takes the first byte of the text, before which so many belong to a sign, and returns how many do
-// after it.
-fn take_byte(made: &mut Vec<u8>, skipped: usize, text: &[u8]) -> Result<usize, AllocError>
+// Takes the sign at the front of the text, and returns how many bytes it has there.
+fn take_sign(made: &mut Vec<u8>, text: &[u8]) -> Result<usize, AllocError>
     requires { 0 < length text.now }
-    ensures { IfOk result (λ left. made.new.items ++ text_after left (drop 1 text.now)
-        ≡ made.old.items ++ text_after skipped text.now) }
+    ensures some { IfOk result (λ len. 0 < len) }
+    ensures within { IfOk result (λ len. len ≤ length text.now) }
+    ensures takes { IfOk result (λ len. made.new.items ++ text_after 0 (drop len text.now)
+        ≡ made.old.items ++ text_after 0 text.now) }
 {
-    if skipped > 0 {
-        return Ok(skipped - 1);
-    }
     let count = push_sign(
         made,
         text[0],
@@ -98,7 +94,7 @@ fn take_byte(made: &mut Vec<u8>, skipped: usize, text: &[u8]) -> Result<usize, A
         byte_at(text, 2),
         byte_at(text, 3),
     )?;
-    Ok(count - 1)
+    Ok(count.min(text.len()))
 }
 
 // Puts what stands for the sign that begins with these bytes, and returns how many bytes it has.

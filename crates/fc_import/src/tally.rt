@@ -4,8 +4,8 @@ ghost use Rattle.fc_import.specs.Import.{count_text, refusals, refused_by, tally
 ghost use Rattle.fc_import.specs.Notes.{counted, line_feeds, plus, tally_of};
 
 use crate::changes::Noted;
+use crate::walk::line_feeds;
 use fc_record::push_number;
-use memchr::memchr_iter;
 use std::alloc::AllocError;
 
 /// What becomes of a piece of a text.
@@ -83,15 +83,8 @@ pub(crate) fn refused_by(noted: Noted, tally: Tally, notes: &[u8]) -> usize
 {
     match noted {
         Noted::Doubts | Noted::Changes => tally.refusals(),
-        Noted::Strict => line_feeds(notes),
+        Noted::Strict => counted(0, line_feeds(notes)),
     }
-}
-
-// How many line feeds the text has.
-fn line_feeds(text: &[u8]) -> usize
-    ensures { result ≡ counted (line_feeds text.now) }
-{
-    counted(0, memchr_iter(b'\n', text).count())
 }
 
 /// The sum, as far as a count goes.

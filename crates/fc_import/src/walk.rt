@@ -2,11 +2,11 @@
 ghost use Rattle.std.specs.{Fmt.{decimal}, Prelude.{◌++◌, ◌-◌, ◌<◌, ◌≡◌, ◌≤◌, ◌⊎◌, codes}};
 ghost use Rattle.std.specs.Prelude.{if◌then◌else◌, length, OnOk};
 ghost use Rattle.fc_import.specs.inside.{place_of, printing, PutsNote};
-ghost use Rattle.fc_import.specs.{Notes.{line_after, place_text}, Words.{is_between}};
+ghost use Rattle.fc_import.specs.{Notes.{line_after, line_feeds, place_text}, Words.{is_between}};
 
 use crate::tally::counted;
 use fc_record::push_number;
-use memchr::{memchr_iter, memrchr};
+use memchr::memrchr;
 use std::alloc::{AllocError, Global};
 
 /// The name that the last header gives, or nothing, the number of its line, and that of the next
@@ -78,7 +78,18 @@ fn place_in(piece: &[u8], at: usize) -> usize
 pub(crate) fn line_after(line: usize, text: &[u8]) -> usize
     ensures { result ≡ line_after line text.now }
 {
-    counted(line, memchr_iter(b'\n', text).count())
+    counted(line, line_feeds(text))
+}
+
+/// How many line feeds the text has.
+pub(crate) fn line_feeds(text: &[u8]) -> usize
+    ensures { result ≡ line_feeds text.now }
+{
+    let mut count = 0;
+    for byte in text {
+        count += usize::from(*byte == b'\n');
+    }
+    count
 }
 
 // The number of the next character in the last line of the text, from 1.

@@ -55,9 +55,34 @@ impl<'a> Words<'a> {
         }
     }
 
+    /// How many marks that part groups come before the last word.
+    pub(crate) fn group(&self) -> usize {
+        self.group
+    }
+
     /// How many tabs come before the last word.
     pub(crate) fn tabs(&self) -> usize {
         self.tabs
+    }
+
+    /// The next word and where it begins, if it is a card of two letters, as most words of boards
+    /// are, with one blank before it or none. It may be no ace that is written with a 1.
+    pub(crate) fn take_pair(&mut self) -> Option<(Card, usize)> {
+        let left = self.line.get(self.at..).unwrap_or(b"");
+        let (start, left) = match left {
+            [b' ', rest @ ..] => (self.at.saturating_add(1), rest),
+            _ => (self.at, left),
+        };
+        let ([first, second] | [first, second, b' ', ..]) = left else {
+            return None;
+        };
+        match named_card(&[*first, *second]) {
+            Some(card) if *first != b'1' => {
+                self.at = start.saturating_add(2);
+                Some((card, start))
+            }
+            _ => None,
+        }
     }
 
     /// The next word, if there is one before a comment.
@@ -66,6 +91,9 @@ impl<'a> Words<'a> {
         let mut mark = 0;
         for at in self.at..line.len() {
             let byte = line[at];
+            if byte == b' ' {
+                continue;
+            }
             if is_letter(byte) {
                 return Some(self.word_at(at, mark));
             }
@@ -75,8 +103,9 @@ impl<'a> Words<'a> {
             if byte == b'#' {
                 break;
             }
-            self.tabs = self.tabs.saturating_add(usize::from(byte == b'\t'));
-            if byte != b' ' && byte != b'\t' {
+            if byte == b'\t' {
+                self.tabs = self.tabs.saturating_add(1);
+            } else {
                 mark = byte;
                 self.group = self.group.saturating_add(usize::from(parts_groups(byte)));
             }
@@ -86,15 +115,8 @@ impl<'a> Words<'a> {
     }
 
     fn word_at(&mut self, start: usize, mark: u8) -> Word<'a> {
-        let mut end = start;
-        for at in start..self.line.len() {
-            if !is_letter(self.line[at]) {
-                break;
-            }
-            end = at.saturating_add(1);
-        }
-        self.at = end;
-        let text = self.line.get(start..end).unwrap_or(b"");
+        self.at = end_of_letters(self.line, start.saturating_add(1));
+        let text = self.line.get(start..self.at).unwrap_or(b"");
         let kind = match named_card(text) {
             Some(card) => WordKind::Card(card),
             None => WordKind::Other,
@@ -118,6 +140,15 @@ impl<'a> Words<'a> {
             mark: 0,
         }
     }
+}
+
+fn end_of_letters(line: &[u8], start: usize) -> usize {
+    for at in start..line.len() {
+        if !is_letter(line[at]) {
+            return at;
+        }
+    }
+    line.len()
 }
 
 fn is_letter(byte: u8) -> bool {

@@ -1,10 +1,9 @@
 use Rattle.std.proofs.Common.{◌++◌, ◌∙◌, ◌≡◌, ap, append-nil, ap₂, List, map, subst, sym, ℕ}
-use Rattle.std.specs.List.{flat_map}
-use Rattle.std.specs.Option.{option_to_list}
-use Rattle.fc_text.specs.{Lines.{words, words_from}, Notation.{separates_tokens}}
-use Rattle.fc_import.specs.Words.{named_card, plain_words}
-use Rattle.fc_text.specs.Left.{tokens_left}
+use Rattle.std.specs.{List.{flat_map}, Option.{option_to_list}}
+use Rattle.fc_text.specs.{Left.{tokens_left}, Lines.{words, words_from}}
+use Rattle.fc_text.specs.Notation.{separates_tokens}
 use Rattle.fc_import.proofs.TakingLemmas.{one_taken, without_ends}
+use Rattle.fc_import.specs.Words.{named_card, plain_words}
 use Rattle.fc_import.proofs.cards.cards_of_words.Goals as goal
 
 abbrev cards_of : List ℕ → List ℕ
@@ -13,7 +12,7 @@ cards_of word = option_to_list (named_card word)
 pub loop-token-init : goal.loop-token-init
 loop-token-init c =
     let plain_is = c.as_slice.ensures.value ∙ c.in_ok-plain.ensures in
-    ap₂ (λ cards left. cards ++ flat_map cards_of (map (λ left. left.0.bytes) left)) c.new-cards.ensures.items
+    ap₂ (λ cards left. cards ++ flat_map cards_of (map (λ left. left.0.bytes) left)) c.in_ok-cards.ensures.items
     (ap tokens_left c.into_iter-token-iterator.ensures.into_iter_gives ∙ c.new-token-items.ensures.words)
     ∙ ap (flat_map cards_of) (without_ends (words_from separates_tokens 0 c.as_slice.result.now))
     ∙ ap (λ of. flat_map cards_of (words separates_tokens of)) plain_is

@@ -1,15 +1,12 @@
-use Rattle.std.proofs.Common.{◌++◌, ap, arith}
-use Rattle.std.specs.List.{flat_map}
-use Rattle.std.specs.Option.{option_to_list}
+use Rattle.std.{proofs.Common.{◌++◌, ap, arith}, specs.{List.{flat_map}, Option.{option_to_list}}}
 use Rattle.std.specs.Prelude.{slice_get}
 use Rattle.fc_card.specs.{places}
-use Rattle.fc_import.proofs.TakingLemmas.{all_places, one_place}
-use Rattle.fc_import.specs.Import.{in_rows}
+use Rattle.fc_import.{proofs.TakingLemmas.{all_places, one_place}, specs.Import.{in_rows}}
 use Rattle.fc_import.proofs.cards.in_rows.Goals as goal
 
 pub loop-row-init : goal.loop-row-init
 loop-row-init g c =
-    ap (λ cards. cards ++ flat_map (λ row. flat_map (λ column. option_to_list (slice_get column row)) c.args.board.now.columns) (places 52)) c.new-cards.ensures.items
+    ap (λ cards. cards ++ flat_map (λ row. flat_map (λ column. option_to_list (slice_get column row)) c.args.board.now.columns) (places 52)) c.in_ok-cards.ensures.items
 
 pub loop-row-preserved : goal.loop-row-preserved
 loop-row-preserved g c =

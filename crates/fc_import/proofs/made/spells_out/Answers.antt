@@ -11,7 +11,7 @@ returns-in-Ok-clause-spells g c =
           c.is_same.ensures.1
           (read_alone game lines c.in-Ok.read c.args.board.now c.in-Ok.ensures.board
           (λ columns. absurd (let e : false ≡ true =
-          sym c.if-branch.false ∙ c.in_ok-has_columns.ensures.has.1 columns in cc)) spelled)),
+          sym c.if-branch.false ∙ c.in_ok-has_columns.ensures.has.1 (c.requires ∙ columns.0, columns.1) in cc)) spelled)),
     )
 
 pub returns-in-Err-clause-spells : goal.returns-in-Err-clause-spells
@@ -21,5 +21,5 @@ returns-in-Err-clause-spells g c = (
       absurd
       (none_read g.R.Rule.game c.args.lines.now c.args.board.now c.in-Err.field-0 c.in-Err.ensures.fault
       (λ columns. absurd (let e : false ≡ true =
-      sym c.if-branch.false ∙ c.in_ok-has_columns.ensures.has.1 columns in cc)) spelled)),
+      sym c.if-branch.false ∙ c.in_ok-has_columns.ensures.has.1 (c.requires ∙ columns.0, columns.1) in cc)) spelled)),
 )

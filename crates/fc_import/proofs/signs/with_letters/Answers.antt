@@ -8,12 +8,11 @@ loop-at-preserved c =
     let text = c.args.text.now in
     let at = c.loop-at.at in
     let len = c.in_ok-len.len in
-    let left = c.in_ok-len.left in
     let made = c.loop-at.made.items in
     let grown = c.take_front.new.made.items in
     let within = subst (λ rest. len ≤ length rest) (take_rest text at) c.in_ok-len.ensures.within in
-    let takes = subst (λ rest. grown ++ text_after left (drop len rest) ≡ made ++ text_after c.loop-at.skipped rest) (take_rest text at) c.in_ok-len.ensures.takes in
+    let takes = subst (λ rest. grown ++ text_after 0 (drop len rest) ≡ made ++ text_after 0 rest) (take_rest text at) c.in_ok-len.ensures.takes in
     record {
       within = omega (arith, within, length-drop at text, c.loop-at-test.true);
-      so_far = ap (λ rest. grown ++ text_after left rest) (sym (drop-drop len at text)) ∙ takes ∙ c.loop-at.invariant.so_far;
+      so_far = ap (λ rest. grown ++ text_after 0 rest) (sym (drop-drop len at text)) ∙ takes ∙ c.loop-at.invariant.so_far;
     }

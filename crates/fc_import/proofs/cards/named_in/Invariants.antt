@@ -1,8 +1,0 @@
-use Rattle.std.proofs.Common.{◌++◌, ◌≡◌}
-use Rattle.std.specs.List.{flat_map}
-use Rattle.fc_text.specs.Left.{lines_left}
-use Rattle.fc_import.specs.Words.{named_cards, named_in}
-use Rattle.fc_import.proofs.cards.named_in.Given as goal
-
-abbrev pub invariant-loop-line : goal.invariant-loop-line
-invariant-loop-line l = l.cards.items ++ flat_map (λ line. named_cards line.bytes) (lines_left l.line-iterator) ≡ named_in l.text
