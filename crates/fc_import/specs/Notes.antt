@@ -59,10 +59,9 @@ line_after line text = counted (line + line_feeds text)
 
 -- the state after the lines of a piece of this fate, with this last board
 abbrev pub after : State → (piece : List ℕ) → (last : Option Board) → Fate → State
-after state piece last fate = record {
-  noted = state.noted;
+after state piece last fate = record state {
   last = last;
-  place = record { name = state.place.name; header = state.place.header; line = line_after state.place.line piece };
+  place = record state.place { line = line_after state.place.line piece };
   named = counted (state.named + (tally_of fate).boards);
   tally = plus state.tally (tally_of fate);
 }
@@ -73,12 +72,10 @@ name_by (Ok heading) = unwrap_or heading.name []
 name_by (Err fault) = []
 
 abbrev pub after_heading : Variant → State → (line : List ℕ) → State
-after_heading variant state line = record {
-  noted = state.noted;
+after_heading variant state line = record state {
   last = None;
   place = record { name = name_by (heading_of variant line); header = state.place.line; line = line_after state.place.line line };
   named = 0;
-  tally = state.tally;
 }
 
 -- -------- What is said. From: this project's profile; editors open a file at NAME:LINE:COLUMN.

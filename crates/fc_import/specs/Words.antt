@@ -43,41 +43,23 @@ number_of first second third fourth =
     then (262144 * (first % 8) + 4096 * (second % 64) + 64 * (third % 64) + fourth % 64, 4)
     else (first, 1)
 
--- ♠ ♡ ♢ ♣ ♤ ♥ ♦ ♧
-abbrev pub is_suit_sign : ℕ → Bool
-is_suit_sign number = is_between 0x2660 0x2667 number
-
--- the playing cards from 🂡 to 🃞, of which each suit has the ranks from 1 to 14, and a knight for 12
-abbrev pub is_card_sign : ℕ → Bool
-is_card_sign number = is_between 0x1F0A0 0x1F0DF number && (is_between 1 11 (number % 16) || is_between 13 14 (number % 16))
-
--- the letters, digits and marks that are as wide as signs of Chinese
-abbrev pub is_wide : ℕ → Bool
-is_wide number = is_between 0xFF01 0xFF5E number
-
--- line tabulation, form feed and carriage return, next line, and the separators of lines and of paragraphs
-abbrev pub ends_line : ℕ → Bool
-ends_line number = is_between 0x0B 0x0D number || number == 0x85 || is_between 0x2028 0x2029 number
-
--- marks that no reader sees: of direction, of joining, of how a sign looks, the soft hyphen and the byte order mark
-abbrev pub is_unseen : ℕ → Bool
-is_unseen number =
-    number == 0xAD || number == 0x61C || is_between 0x200C 0x200F number || is_between 0x202A 0x202E number || is_between 0x2060 0x206F number
-    || is_between 0xFE00 0xFE0F number || number == 0xFEFF
-
--- the spaces, dashes and quotes of general punctuation, the no-break space, and the space as wide as a sign of Chinese
-abbrev pub is_space : ℕ → Bool
-is_space number = number == 0xA0 || is_between 0x2000 0x205F number || number == 0x3000
-
--- what stands for a sign, if that is not the sign itself: the letter of a suit, the two letters of a card and a blank, a letter, a line feed, nothing, or a blank
+-- what stands for a sign, if that is not the sign itself:
+-- the letter of ♠ ♡ ♢ ♣ ♤ ♥ ♦ ♧;
+-- the two letters and a blank of a playing card from 🂡 to 🃞, of which each suit has the ranks from 1 to 14, and a knight for 12;
+-- the letter, digit or mark that is as wide as a sign of Chinese;
+-- a line feed for line tabulation, form feed and carriage return, next line, and the separators of lines and of paragraphs;
+-- nothing for marks that no reader sees: of direction, of joining, of how a sign looks, the soft hyphen and the byte order mark;
+-- a blank for the spaces, dashes and quotes of general punctuation, the no-break space, and the space as wide as a sign of Chinese
 abbrev pub stands_for : ℕ → Option (List ℕ)
 stands_for number =
-    if is_suit_sign number then Some (slice_index (codes "SHDC") (number % 4) ∷ [])
-    else if is_card_sign number then Some (slice_index (codes "?A23456789TJ?QK?") (number % 16) ∷ slice_index (codes "SHDC") (number / 16 - 0x1F0A) ∷ blank ∷ [])
-    else if is_wide number then Some ((number - 0xFEE0) ∷ [])
-    else if ends_line number then Some (line_feed ∷ [])
-    else if is_unseen number then Some []
-    else if is_space number then Some (blank ∷ [])
+    if is_between 0x2660 0x2667 number then Some (slice_index (codes "SHDC") (number % 4) ∷ [])
+    else if is_between 0x1F0A0 0x1F0DF number && (is_between 1 11 (number % 16) || is_between 13 14 (number % 16))
+    then Some (slice_index (codes "?A23456789TJ?QK?") (number % 16) ∷ slice_index (codes "SHDC") (number / 16 - 0x1F0A) ∷ blank ∷ [])
+    else if is_between 0xFF01 0xFF5E number then Some ((number - 0xFEE0) ∷ [])
+    else if is_between 0x0B 0x0D number || number == 0x85 || is_between 0x2028 0x2029 number then Some (line_feed ∷ [])
+    else if number == 0xAD || number == 0x61C || is_between 0x200C 0x200F number || is_between 0x202A 0x202E number
+    || is_between 0x2060 0x206F number || is_between 0xFE00 0xFE0F number || number == 0xFEFF then Some []
+    else if number == 0xA0 || is_between 0x2000 0x205F number || number == 0x3000 then Some (blank ∷ [])
     else None
 
 -- a byte by itself, or a sign of so many bytes with what stands for it

@@ -1,11 +1,10 @@
 //! What the signs of a text stand for: letters of suits, ends of lines, blanks, or nothing.
 ghost use Rattle.std.specs.{List.{prefix_len}, Option.{is_some, unwrap_or}, Prelude.{◌%◌, ◌&&◌}};
-ghost use Rattle.std.specs.Prelude.{◌*◌, ◌++◌, ◌+◌, ◌<◌, ◌==◌, ◌≡◌, ◌≤◌, [], All, drop, IfOk};
+ghost use Rattle.std.specs.Prelude.{◌*◌, ◌++◌, ◌+◌, ◌<◌, ◌==◌, ◌||◌, ◌≡◌, ◌≤◌, [], All, drop, IfOk};
 ghost use Rattle.std.specs.Prelude.{IsTrue, length, OnOk, slice_index, true};
 ghost use Rattle.fc_text.specs.Bytes.{line_feed};
-ghost use Rattle.fc_import.specs.{inside.{is_alone}, Words.{ends_line, is_between, is_card_sign}};
-ghost use Rattle.fc_import.specs.Words.{is_space, is_suit_sign, is_unseen, is_wide, number_of};
-ghost use Rattle.fc_import.specs.Words.{sign_of, stands_for, text_after, text_read};
+ghost use Rattle.fc_import.specs.{inside.{is_alone}, Words.{is_between, number_of, sign_of}};
+ghost use Rattle.fc_import.specs.Words.{stands_for, text_after, text_read};
 
 use crate::decoding::decode;
 use std::alloc::{AllocError, Global};
@@ -187,14 +186,15 @@ fn push_letters(made: &mut Vec<u8>, number: u32) -> Result<bool, AllocError>
 }
 
 fn is_suit_sign(number: u32) -> bool
-    ensures { result ≡ is_suit_sign number }
+    ensures { result ≡ is_between 0x2660 0x2667 number }
 {
     is_among(0x2660, 0x2667, number)
 }
 
 // Whether the sign is a playing card from U+1F0A1 on, and no knight and no joker.
 fn is_card_sign(number: u32) -> bool
-    ensures { result ≡ is_card_sign number }
+    ensures { result ≡ (is_between 0x1F0A0 0x1F0DF number
+        && (is_between 1 11 (number % 16) || is_between 13 14 (number % 16))) }
 {
     is_among(0x1F0A0, 0x1F0DF, number)
         && (is_among(1, 11, number % 16) || is_among(13, 14, number % 16))
@@ -202,19 +202,22 @@ fn is_card_sign(number: u32) -> bool
 
 // Whether the sign is one of ASCII as wide as a sign of Chinese.
 fn is_wide(number: u32) -> bool
-    ensures { result ≡ is_wide number }
+    ensures { result ≡ is_between 0xFF01 0xFF5E number }
 {
     is_among(0xFF01, 0xFF5E, number)
 }
 
 fn ends_line(number: u32) -> bool
-    ensures { result ≡ ends_line number }
+    ensures { result ≡ (is_between 0x0B 0x0D number || number == 0x85
+        || is_between 0x2028 0x2029 number) }
 {
     is_among(0x0B, 0x0D, number) || number == 0x85 || is_among(0x2028, 0x2029, number)
 }
 
 fn is_unseen(number: u32) -> bool
-    ensures { result ≡ is_unseen number }
+    ensures { result ≡ (number == 0xAD || number == 0x61C || is_between 0x200C 0x200F number
+        || is_between 0x202A 0x202E number || is_between 0x2060 0x206F number
+        || is_between 0xFE00 0xFE0F number || number == 0xFEFF) }
 {
     number == 0xAD
         || number == 0x61C
@@ -226,7 +229,7 @@ fn is_unseen(number: u32) -> bool
 }
 
 fn is_space(number: u32) -> bool
-    ensures { result ≡ is_space number }
+    ensures { result ≡ (number == 0xA0 || is_between 0x2000 0x205F number || number == 0x3000) }
 {
     number == 0xA0 || is_among(0x2000, 0x205F, number) || number == 0x3000
 }
