@@ -1,11 +1,12 @@
 -- Lemmas on pieces of a text, and on the words of texts.
 use Rattle.std.proofs.Common.{◌++◌, ◌+◌, ◌<◌, ◌∙◌, ◌∷◌, ◌≡◌, ◌≤◌, ◌⊎◌, [], All, ap, append-nil}
-use Rattle.std.proofs.Common.{append_assoc, arith, Bool, drop, false, if◌then◌else◌, inl, inr}
-use Rattle.std.proofs.Common.{IsTrue, length, List, map, None, refl, Some, subst, subst₂, sym, true}
-use Rattle.std.proofs.{Common.{ℕ}, lemmas.List.{at_drop_more, drop_all}}
-use Rattle.std.proofs.lemmas.List.Elements.{All-cons, All-nil}
+use Rattle.std.proofs.Common.{append_assoc, ap₂, arith, Bool, drop, false, if◌then◌else◌, inl, inr}
+use Rattle.std.proofs.Common.{IsTrue, length, List, map, None, refl, Some, subst, subst₂, suc, sym}
+use Rattle.std.proofs.{Common.{true, zero, ℕ}, lemmas.Bool.Decides.{leb_tells}}
+use Rattle.std.proofs.lemmas.List.{at_drop_more, drop_all, Elements.{All-cons, All-nil}}
 use Rattle.std.proofs.lemmas.List.FromFn.{get_or-range_with_len, length-range_with_len}
-use Rattle.std.specs.List.{flat_map}
+use Rattle.std.{proofs.lemmas.Option.{slice_get_past}, specs.List.{flat_map}}
+use Rattle.std.specs.{Option.{option_to_list}, Prelude.{slice_get}}
 use Rattle.{fc_board.specs.{Boards.{Board, IsWellFormed}, Games.{Game}}, fc_card.specs.{places}}
 use Rattle.fc_board.specs.declared.rule.Variant.{Variant}
 use Rattle.fc_text.proofs.ReadingLemmas.{faultless-from_Spells, Spells-board_of}
@@ -52,6 +53,28 @@ pub all_places : (of : ℕ → List ℕ) (count place : ℕ) (taken whole : List
 all_places of count place taken whole past is =
     let long : length (places count) ≤ place = omega (arith, length-range_with_len 0 count) in
     sym (append-nil taken) ∙ sym (ap (λ left. taken ++ flat_map of left) (drop_all place (places count) long)) ∙ is
+
+-- and so has it where no later place gives anything
+pub none_later : (of : ℕ → List ℕ) (count more place : ℕ) → count ≤ place + more → ((later : ℕ) → place ≤ later → of later ≡ [])
+    → (taken whole : List ℕ) → taken ++ flat_map of (drop place (places count)) ≡ whole → taken ≡ whole
+none_later of count zero place near none taken whole is = all_places of count place taken whole (omega (arith, near)) is
+none_later of count (suc more) place near none taken whole is = elim (leb_tells count place) [
+  | inl past ↦ all_places of count place taken whole past.1 is
+  | inr inside ↦
+      let here = sym (append-nil taken) ∙ sym (ap (λ front. taken ++ front) (none place (omega arith))) in
+      none_later of count more (place + 1) (omega (arith, near)) (λ later after. none later (omega (arith, after))) taken whole
+      (one_place of count place taken taken whole inside.1 is here)
+]
+
+-- a row past the ends of all columns has no card
+pub past_rows : (columns : List (List ℕ)) (row later : ℕ) → row ≤ later → All (λ column. length column ≤ row) columns
+    → flat_map (λ column. option_to_list (slice_get column later)) columns ≡ []
+past_rows [] row later after past = refl
+past_rows (column ∷ columns) row later after past =
+    let short : length column ≤ row = past 0 [] (omega arith) in
+    let low : length column ≤ later = omega (arith, short, after) in
+    ap₂ (λ front rest. front ++ rest) (ap option_to_list (slice_get_past column later low))
+    (past_rows columns row later after (λ place none inside. past (suc place) none (omega (arith, inside))))
 
 -- ---- taking pieces of a text
 

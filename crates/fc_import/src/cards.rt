@@ -1,8 +1,9 @@
 //! The cards and the moves that words name, and those of a board in the orders in which lines name
 //! them.
 ghost use Rattle.std.specs.{List.{before_first, flat_map}, Option.{option_to_list}, Prelude.{◌++◌}};
-ghost use Rattle.std.specs.Prelude.{◌==◌, ◌↔◌, ◌≡◌, ◌≢◌, ◌⊎◌, [], All, drop, IfOk, IsTrue, List};
-ghost use Rattle.std.specs.{Prelude.{OnOk, slice_get, take, ℕ}, Str.{str_to_ascii_lowercase}};
+ghost use Rattle.std.specs.Prelude.{◌==◌, ◌↔◌, ◌≡◌, ◌≢◌, ◌≤◌, ◌⊎◌, [], All, drop, IfOk, IsTrue};
+ghost use Rattle.std.specs.Prelude.{length, List, OnOk, slice_get, take, ℕ};
+ghost use Rattle.std.specs.Str.{str_to_ascii_lowercase};
 ghost use Rattle.fc_board.specs.Boards.{IsWellFormed};
 ghost use Rattle.fc_text.specs.{Bytes.{number_sign}, Spelling.{card_spelled}};
 ghost use Rattle.fc_import.specs.Import.{ArePacked, by_columns, HasCards, in_cells, in_columns};
@@ -247,9 +248,26 @@ fn in_rows<R: Rule>(alloc: Global, board: &Board<R>) -> Result<Vec<u8>, AllocErr
 {
     let mut cards = Vec::with_capacity(alloc, MOST)?;
     for row in 0..52 {
+        if are_past(board, row) {
+            return Ok(cards);
+        }
         push_row(&mut cards, board, row)?;
     }
     Ok(cards)
+}
+
+// Whether no column has a card at this place.
+fn are_past<R: Rule>(board: &Board<R>, row: usize) -> bool
+    ensures { IsTrue result → All (λ column. length column ≤ row) board.now.columns }
+{
+    // The board has eight columns.
+    let _ = board.heights();
+    for index in 0..8 {
+        if board.column(index).len() > row {
+            return false;
+        }
+    }
+    true
 }
 
 // Appends the card of each column at this place, where it has one.

@@ -237,7 +237,7 @@ impl<R: Rule> Importer<R> {
         ensures takes { IfOk result (λ len. Takes R.VARIANT R.game (take len text.now)
             self.old.made self.new.made) }
     {
-        if text[0] == b'F' {
+        if text[0] == b'F' && may_be_printed(text) {
             let len = lines_len(text, ten_lines(text));
             if self.take_printed(&text[..len])? {
                 return Ok(len);
@@ -574,6 +574,11 @@ fn lines_len(text: &[u8], least: usize) -> usize
         len += line_len(&text[len..]);
     }
     len
+}
+
+// Whether the first line is as long as that of the foundations of a printed board.
+fn may_be_printed(text: &[u8]) -> bool {
+    matches!(text.get(28), Some(b'\n'))
 }
 
 // How many bytes the first ten lines have.

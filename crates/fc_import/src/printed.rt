@@ -99,7 +99,7 @@ fn printed_name(alloc: Global, variant: Variant, line: &[u8]) -> Result<Option<V
     if name.is_empty() {
         return Ok(None);
     }
-    let mut header = Vec::new(alloc);
+    let mut header = Vec::with_capacity(alloc, line.len())?;
     push_header(variant, name.as_slice(), &mut header)?;
     if is_equal(line, header.as_slice()) {
         Ok(Some(name))

@@ -18,6 +18,6 @@ pub returns-else-is_equal-clause-found : goal.returns-else-is_equal-clause-found
 returns-else-is_equal-clause-found c = λ name one some is.
     let read = c.in_ok-name.ensures ∙ header_name_read c.args.variant name c.args.line.now (one, some) is in
     let printed = c.as_slice-2.ensures.value ∙ c.in_ok-push_header.ensures.printed
-    ∙ ap₂ (λ front name. front ++ header_text c.args.variant name) c.new-header.ensures.items
+    ∙ ap₂ (λ front name. front ++ header_text c.args.variant name) c.in_ok-header.ensures.items
     (c.as_slice.ensures.value ∙ read) in
     sym c.if-is_equal.false ∙ c.is_equal.ensures.1 (is ∙ sym printed)
