@@ -14,7 +14,9 @@ use crate::block::Block;
 use crate::changes::Noted;
 use crate::layout::{LinesAre, Reading, layout_words, read};
 use crate::line::{LineKind, line_len};
-use crate::lists::{ListRead, has_moves, is_list, is_move, moves_len, read_moves_on};
+use crate::lists::{
+    FIRST_RULE, ListRead, SOLVED, has_moves, is_list, is_move, moves_len, read_moves_on,
+};
 use crate::made::{Form, Made, is_same};
 use crate::reasons::{board_reason, move_reason};
 use crate::states::{moves_between, states_len};
@@ -53,12 +55,6 @@ const OTHER_CARDS: &[u8] = b"not imported: a word outside the columns and the ce
 const REWRITTEN: &[u8] = b"these moves are rewritten in fcanon's notation";
 
 const ONCE_MORE: &[u8] = b"this is the board before once more, with which a solution begins";
-
-/// The rule before a solution of Freecell Solver.
-const FIRST_RULE: &[u8] = b"-=-=-=-=-=";
-
-/// The line after its last move, or after none.
-const SOLVED: &[u8] = b"This game is solveable";
 
 /// What the lines at the front of a text look like.
 #[derive(Clone, Copy)]

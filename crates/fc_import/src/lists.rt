@@ -6,6 +6,12 @@ use fc_board::{Board, PlayFault, Rule};
 use fc_text::{Lines, MovesFault, Tokens, read_moves, read_runs};
 use std::alloc::{AllocError, Global};
 
+/// The line after the last move or board of a solution of Freecell Solver, or after none.
+pub(crate) const SOLVED: &[u8] = b"This game is solveable";
+
+/// The rule before a solution of Freecell Solver.
+pub(crate) const FIRST_RULE: &[u8] = b"-=-=-=-=-=";
+
 /// What the words of a line of moves are, one after another.
 #[derive(Clone, Copy)]
 enum Next {
@@ -343,12 +349,6 @@ fn words_of(alloc: Global, lines: &[u8]) -> Result<Vec<u8>, AllocError> {
     }
     Ok(words)
 }
-
-/// The line after the last move of a solution of Freecell Solver, or after none.
-const SOLVED: &[u8] = b"This game is solveable";
-
-/// The rule before a solution of Freecell Solver.
-const FIRST_RULE: &[u8] = b"-=-=-=-=-=";
 
 /// How many bytes the lines of moves at the front have. Between lines that begin with `Move` there
 /// may be rules, blank lines and boards.

@@ -4,16 +4,11 @@
 use crate::block::Block;
 use crate::layout::{LinesAre, Reading, read};
 use crate::line::{LineKind, kind_of};
-use crate::lists::ListRead;
+use crate::lists::{FIRST_RULE, ListRead, SOLVED};
 use crate::made::{Form, is_same};
 use fc_board::{Board, Rule};
 use fc_text::{Lines, MovesFault, read_board, read_runs};
 use std::alloc::{AllocError, Global};
-
-/// The rule before a solution, and the line after its last board.
-const FIRST_RULE: &[u8] = b"-=-=-=-=-=";
-
-const SOLVED: &[u8] = b"This game is solveable";
 
 /// How many bytes the boards of a solution at the front have, with the line after them.
 pub(crate) fn states_len(text: &[u8]) -> usize {

@@ -46,10 +46,11 @@ pub(crate) struct Words<'a> {
 }
 
 impl<'a> Words<'a> {
+    /// The words of a line. A colon at its front parts nothing.
     pub(crate) fn new(line: &'a [u8]) -> Self {
         Words {
             line,
-            at: 0,
+            at: usize::from(line.starts_with(b":")),
             group: 0,
             tabs: 0,
         }
@@ -66,13 +67,11 @@ impl<'a> Words<'a> {
     }
 
     /// The next word and where it begins, if it is a card of two letters, as most words of boards
-    /// are, with one blank before it or none, or a colon at the front. It may be no ace that is
-    /// written with a 1.
+    /// are, with one blank before it or none. It may be no ace that is written with a 1.
     pub(crate) fn take_pair(&mut self) -> Option<(Card, usize)> {
         let left = self.line.get(self.at..).unwrap_or(b"");
         let (start, left) = match left {
             [b' ', rest @ ..] => (self.at.saturating_add(1), rest),
-            [b':', b' ', rest @ ..] if self.at == 0 => (2, rest),
             _ => (self.at, left),
         };
         let ([first, second] | [first, second, b' ', ..]) = left else {
