@@ -22,7 +22,8 @@ use Rattle.fc_text.proofs.ListedLemmas.{Listed-Fit, Listed-RunFit}
 use Rattle.fc_text.proofs.PrintLemmas.{print-Listed, print_runs-Listed}
 use Rattle.fc_text.specs.{Notation.{IsRunToken, IsToken, Listed}, reader.{print_moves, print_runs}}
 
-pub image-Listed : (game : Game) (text columns cells : List ℕ) (moves : List Move) → game.cells ≤ 8 → AreOrders game columns cells
+pub image-Listed : (game : Game) (text columns cells : List ℕ) (moves : List Move) → game.cells ≤ 8
+    → AreOrders game columns cells
     → Listed (IsToken game) text moves
     → Listed (IsToken game) (print_moves (images columns cells moves)) (images columns cells moves)
 image-Listed game text columns cells moves few are listed =
@@ -30,7 +31,8 @@ image-Listed game text columns cells moves few are listed =
     print-Listed game (images columns cells moves) few (images-Fit game columns cells moves are (Listed-Fit game text moves listed))
     (let long = length-map moves (image columns cells) in omega arith)
 
-pub run_image-Listed : (game : Game) (text columns cells : List ℕ) (moves : List RunMove) → game.cells ≤ 8 → AreOrders game columns cells
+pub run_image-Listed : (game : Game) (text columns cells : List ℕ) (moves : List RunMove) → game.cells ≤ 8
+    → AreOrders game columns cells
     → Listed (IsRunToken game) text moves
     → Listed (IsRunToken game) (print_runs (run_images columns cells moves)) (run_images columns cells moves)
 run_image-Listed game text columns cells moves few are listed =
@@ -44,7 +46,8 @@ run_image-Listed game text columns cells moves few are listed =
 abbrev pub IsLeft : Option StepFault → Type 0
 IsLeft refused = (refused ≡ None) ⊎ (refused ≡ Some OverCapacity)
 
-left_over : (t : Bool) (fault : StepFault) (rest : Option StepFault) → (fault ≡ OverCapacity → ⊥) → IsLeft (fault_or t fault rest) →
+left_over : (t : Bool) (fault : StepFault) (rest : Option StepFault) → (fault ≡ OverCapacity → ⊥) →
+    IsLeft (fault_or t fault rest) →
     (t ≡ true) × IsLeft rest
 left_over true fault rest other is = (refl, is)
 left_over false fault rest other (inl none) = cc
@@ -72,7 +75,8 @@ module _ (game : Game) (kings_only : Bool) (by_rank : BuildsByRank game)
     builds : Builds game (first_of_last count (column_at board from)) last
     over : (onto_card game board from to said card last ≡ Some OverCapacity) ↔ (capacity game board to < count)
 
-  only_over : (card last : ℕ) → IsLeft (onto_card game board from to said card last) → IsOnlyOver card last (rank_of last - rank_of card)
+  only_over : (card last : ℕ) → IsLeft (onto_card game board from to said card last)
+      → IsOnlyOver card last (rank_of last - rank_of card)
   only_over card last left =
       let count = rank_of last - rank_of card in
       let column = column_at board from in
@@ -102,7 +106,8 @@ module _ (game : Game) (kings_only : Bool) (by_rank : BuildsByRank game)
   module _ (last : ℕ) (well : IsWellFormed game board) (inside : from < 8) (inside' : to < 8)
       (there : last_card (column_at board to) ≡ Some last) where
     module _ (count : ℕ) (some : 1 ≤ count) (goes : Builds game (first_of_last count (column_at board from)) last) where
-      by_cards : (under cards : List ℕ) → from ≢ to → column_at board from ≡ under ++ cards → length cards ≡ count → IsRun game cards
+      by_cards : (under cards : List ℕ) → from ≢ to → column_at board from ≡ under ++ cards
+          → length cards ≡ count → IsRun game cards
           → (capacity game board to < count) ↔ (¬ CanGoOver game board from to count)
       by_cards under [] apart parts size run = absurd (omega (arith, some, size))
       by_cards under (first ∷ later) apart parts size run =
@@ -115,7 +120,8 @@ module _ (game : Game) (kings_only : Bool) (by_rank : BuildsByRank game)
           (¬ ((moves : List Move) × Confined board from to cards board moves × MovesPlay game board moves
           (run_moved board from to (length (first ∷ later)))))) (sym same) law)
 
-      stays_by_cards : (after : Board) (moves : List Move) (under cards : List ℕ) → column_at board from ≡ under ++ cards
+      stays_by_cards : (after : Board) (moves : List Move) (under cards : List ℕ)
+          → column_at board from ≡ under ++ cards
           → length cards ≡ count → IsRun game cards → capacity game board to < count
           → Confined board from to (last_cards count (column_at board from)) board moves → MovesPlay game board moves after
           → FirstStays after count
@@ -138,7 +144,8 @@ module _ (game : Game) (kings_only : Bool) (by_rank : BuildsByRank game)
         let law = by_cards count is.some is.builds ends.under ends.cards apart ends.parts ends.size ends.run in
         (λ over. law.0 (is.over.0 over), λ none. is.over.1 (law.1 none))
 
-    stays_on_cards : (after : Board) (moves : List Move) (card : ℕ) → onto_card game board from to said card last ≡ Some OverCapacity
+    stays_on_cards : (after : Board) (moves : List Move) (card : ℕ)
+        → onto_card game board from to said card last ≡ Some OverCapacity
         → Confined board from to (last_cards (rank_of last - rank_of card) (column_at board from)) board moves
         → MovesPlay game board moves after → FirstStays after (rank_of last - rank_of card)
     stays_on_cards after moves card over confined plays =
@@ -154,7 +161,8 @@ module _ (game : Game) (kings_only : Bool) (by_rank : BuildsByRank game)
     on_found None apart (inr over) = cc
     on_found (Some card) apart left = on_cards card apart left
 
-    stays_on_found : (after : Board) (moves : List Move) (found : Option ℕ) → onto game board from to said found (Some last) ≡ Some OverCapacity
+    stays_on_found : (after : Board) (moves : List Move) (found : Option ℕ)
+        → onto game board from to said found (Some last) ≡ Some OverCapacity
         → Confined board from to (last_cards (counted_by game board from to said found (Some last)) (column_at board from)) board moves
         → MovesPlay game board moves after → FirstStays after (counted_by game board from to said found (Some last))
     stays_on_found after moves None over confined plays = cc
@@ -165,7 +173,8 @@ module _ (game : Game) (kings_only : Bool) (by_rank : BuildsByRank game)
   abbrev found : Option ℕ
   found = last_card (column_at board from)
 
-  found_on : (last : ℕ) → last_card (column_at board to) ≡ Some last → IsLeft (run_refusal game board (Run from to said))
+  found_on : (last : ℕ) → last_card (column_at board to) ≡ Some last
+      → IsLeft (run_refusal game board (Run from to said))
       → (not (eqb from to) ≡ true) × (run_refusal game board (Run from to said) ≡ onto game board from to said found (Some last))
   found_on last there left =
       let p = left_over (not (eqb from to)) SamePile _ (λ e. cc) left in
