@@ -20,6 +20,11 @@ QUESTIONS = [
 ]
 
 
+def title_of_proof(proof):
+    """Its place; the answers of a function have the function's."""
+    return "/".join(proof.parts).removesuffix("/Answers")
+
+
 class Book(Chapters):
     """What each page says."""
 
@@ -130,12 +135,12 @@ class Book(Chapters):
     # ---- wrong bodies
 
     def edit(self, edit):
-        what = "tried by make test" if edit.is_must_fail else "tried by make edits"
+        tried = "; tried by make test" if edit.is_must_fail else ""
         place = link(edit.piece.target, edit.piece.name) if edit.piece else escape(edit.said["file"])
         changes = "\n".join(f"{key}: {words}" for key, words in edit.changes)
         return section(edit.name, (
             paragraph(f"<b>{escape(edit.name)}</b>: {self.comment(edit.said['why'], edit.crate)}.")
-            + faint(f"In {place}; refused by {escape(edit.said.get('refused by', 'a goal'))}; {what}.")
+            + faint(f"In {place}; refused by {escape(edit.said.get('refused by', 'a goal'))}{tried}.")
             + code_block(escape(changes, False))))
 
     def edits_in(self, piece, edits, file):
@@ -154,7 +159,8 @@ class Book(Chapters):
                 by_piece = gathered((it.piece, None, it) for it in edits)
                 parts = [self.edits_in(piece, found, file) for (piece, _), found in by_piece.items()]
                 yield file, page(f"Wrong bodies of {crate}", self.ways_from(crate) + "".join(parts))
-        intro = paragraph("Each is a function with a mistake in it, which its contract does not allow: the prover refuses it.")
+        intro = paragraph("Each is a function with a mistake in it, which its contract does not allow: the prover refuses it. "
+                          "<code>make edits</code> tries them all, <code>make test</code> few.")
         yield "wrong.html", page("Wrong bodies", intro + items(counts))
 
     # ---- proofs
@@ -180,16 +186,15 @@ class Book(Chapters):
         return "".join([*parts, escape(text[done:], False)])
 
     def proof(self, proof, file):
-        path = "/".join(proof.parts)
-        return section(path, (
-            f"<h3>{escape(path)}</h3>\n" + paragraph(f"For {link(proof.piece.target, proof.piece.name)}." if proof.piece else "")
+        return section("/".join(proof.parts), (
+            f"<h3>{escape(title_of_proof(proof))}</h3>\n" + paragraph(f"For {link(proof.piece.target, proof.piece.name)}." if proof.piece else "")
             + folded("Lemmas that it imports", list(self.lemmas_of(proof, file))) + code_block(self.text_of_proof(proof))))
 
     def proof_pages(self):
         for crate, proofs in self.sources.proofs.items():
             if proofs:
                 file, ordered = f"proof-{crate}.html", sorted(proofs, key=lambda it: it.is_of_function)
-                ways = folded("Here", [link(f"#{'/'.join(it.parts)}", "/".join(it.parts)) for it in ordered])
+                ways = folded("Here", [link(f"#{'/'.join(it.parts)}", title_of_proof(it)) for it in ordered])
                 parts = [self.ways_from(crate), ways, *(self.proof(it, file) for it in ordered)]
                 yield file, page(f"Proofs of {crate}", "".join(parts))
 
