@@ -17,12 +17,14 @@ export class FcanonError extends Error {
   readonly place: number | null;
 }
 
-/** A way from one board of a game to another: a renaming of suits, orders of columns and cells. For postMessage the same
- * holds as of a Board. */
+/** A way from one board of a game to another: a renaming of suits, orders of columns and cells. It never changes, and
+ * structuredClone and postMessage make of it what `toJSON` does. */
 export class Passage {
   /** The passage of 20 bytes, which fcanon.h describes. */
   constructor(bytes: Uint8Array, game?: Game);
   readonly game: Game;
+  /** Its bytes as hexadecimal digits. */
+  readonly passage: string;
   /** A copy of the 20 bytes. */
   readonly bytes: Uint8Array;
   /** The passage that leads back. */
@@ -37,13 +39,14 @@ export class Passage {
   carryRun(run: string): string;
   /** What JSON.stringify writes of it: its bytes as hexadecimal digits. */
   toJSON(): { game: Game; passage: string };
-  /** The passage that `toJSON` gave this for. */
+  /** The passage that `toJSON` or structuredClone made this of. */
   static fromJSON(json: { game: Game; passage: string }): Passage;
   /** The passage as `fcanon canon` prints it. */
   toString(): string;
 }
 
-/** The sums of a board, from which the hash of its class is made. They never change. */
+/** The sums of a board, from which the hash of its class is made. They never change. structuredClone keeps none of them: post
+ * their board. */
 export class ClassSums {
   private constructor();
   readonly game: Game;
@@ -59,8 +62,8 @@ export class ClassSums {
 /** The bytes of the canonical boards of boards, of which each is 72 bytes. */
 export function canonicalizeAll(boards: Uint8Array, game?: Game): Uint8Array;
 
-/** A board of a game, on which each of the 52 cards is once. It never changes. What postMessage and structuredClone make of
- * it has no cards, and nothing can change that: post `toJSON()`, or `bytes` and `game`. */
+/** A board of a game, on which each of the 52 cards is once. It never changes. What structuredClone and postMessage make of it
+ * is what `toJSON` makes, and no Board: `fromJSON` takes it. */
 export class Board {
   /** The board that a text spells, by its lines as Freecell Solver prints them. */
   constructor(text: string | Uint8Array, game?: Game);
@@ -72,6 +75,8 @@ export class Board {
    * that of their cards, empty ones last. */
   static fromPacked(bytes: Uint8Array, game?: Game): Board;
   readonly game: Game;
+  /** Its text. */
+  readonly board: string;
   /** A copy of the 72 bytes. */
   readonly bytes: Uint8Array;
   /** A text that equal boards of a game share and no others, for a Map or a Set. */
@@ -113,7 +118,7 @@ export class Board {
   capacity(column: number): number;
   /** What JSON.stringify writes of it: its text. */
   toJSON(): { game: Game; board: string };
-  /** The board that `toJSON` gave this for. */
+  /** The board that `toJSON` or structuredClone made this of. */
   static fromJSON(json: { game: Game; board: string }): Board;
   /** The board as `fcanon show` prints it. */
   toString(): string;

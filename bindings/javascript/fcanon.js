@@ -46,6 +46,20 @@ function nameOf([from, to, count = 0]) {
 
 // ---- passages and boards
 
+// An own property of each board and of each passage, so that structuredClone makes of them what toJSON does.
+const AS_TEXT = {
+  enumerable: true,
+  get() {
+    return String(this);
+  },
+};
+const AS_DIGITS = {
+  enumerable: true,
+  get() {
+    return hexOf(this.bytes);
+  },
+};
+
 export class Passage {
   #bytes;
 
@@ -54,7 +68,7 @@ export class Passage {
     this.#bytes = Uint8Array.from(bytes);
     this.game = game;
     call('inverse', game, this.bytes, new Uint8Array(20));
-    Object.freeze(this);
+    Object.freeze(Object.defineProperty(this, 'passage', AS_DIGITS));
   }
 
   get bytes() {
@@ -95,7 +109,7 @@ export class Passage {
   }
 
   toJSON() {
-    return { game: this.game, passage: hexOf(this.#bytes) };
+    return { game: this.game, passage: this.passage };
   }
 
   static fromJSON({ game, passage }) {
@@ -170,7 +184,7 @@ export class Board {
   constructor(text, game = 'freecell') {
     this.#bytes = text instanceof Made ? text.bytes : bytesOf(text, game);
     this.game = game;
-    Object.freeze(this);
+    Object.freeze(Object.defineProperty(this, 'board', AS_TEXT));
   }
 
   static deal(number, game = 'freecell') {
@@ -199,7 +213,7 @@ export class Board {
   }
 
   toJSON() {
-    return { game: this.game, board: String(this) };
+    return { game: this.game, board: this.board };
   }
 
   static fromJSON({ game, board }) {

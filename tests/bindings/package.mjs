@@ -4,6 +4,7 @@
 import assert from 'node:assert';
 import { createRequire } from 'node:module';
 import { readFileSync } from 'node:fs';
+import { isDeepStrictEqual } from 'node:util';
 import init, { Board, FcanonError, GAMES, Passage } from 'fcanon';
 import initRuns, { COMMANDS, importText, run, Runs } from 'fcanon/runs';
 
@@ -17,9 +18,12 @@ for (const game of GAMES) {
   assert(Board.fromJSON(boardBack).equals(board) && boardBack.game === game);
   const back = Passage.fromJSON(passageBack);
   assert.deepEqual([back.bytes, back.game], [passage.bytes, game]);
-  assert(Board.fromJSON(structuredClone(board.toJSON())).equals(board));
+  assert.deepEqual(structuredClone([board, passage]), [board.toJSON(), passage.toJSON()]);
+  assert(Board.fromJSON(structuredClone(board)).equals(board));
+  assert(!isDeepStrictEqual(board, board.canonical()));
   assert(Board.fromBytes(structuredClone(board.bytes), game).equals(board));
   assert.throws(() => { board.game = 'freecell'; }, TypeError);
+  assert.throws(() => { board.board = text; }, TypeError);
 }
 
 for (const passage of ['', '00', '0g'.repeat(20)]) {
