@@ -1,10 +1,13 @@
 //! Finds the archive libfcanon.a: in the folder that `FCANON_LIB` names, or in `build` of the
 //! repository, or where pkg-config says that it is installed. Where `FCANON_PORTABLE` names a folder
-//! with fcanon-portable.c, the archive is made of that by the C compiler `CC` or `cc`. Where there is
-//! neither, the crate is still checked and documented, and a program is not linked.
+//! with fcanon-portable.c, or this one has it and no archive is found, the archive is made of that by a
+//! C compiler. Where there is neither, the crate is still checked and documented, and a program is not
+//! linked. What is found by itself is for this machine, so for another one it is not taken.
 use std::env::{var, var_os};
 use std::path::{Path, PathBuf};
 use std::process::Command;
+
+const NAMES: [&str; 4] = ["FCANON_LIB", "FCANON_PORTABLE", "CC", "AR"];
 
 fn installed() -> Option<PathBuf> {
     let got = Command::new("pkg-config").args(["--variable=libdir", "fcanon"]).output().ok()?;
@@ -17,28 +20,50 @@ fn run(command: &mut Command) {
     assert!(ended.success(), "{command:?}: {ended}");
 }
 
-/// The folder of the archive that is made of the library as one file of C.
+/// A tool for the target: that of `CC_aarch64_unknown_linux_gnu` or such, else of `CC`.
+fn tool(name: &str) -> Option<String> {
+    let target = var("TARGET").expect("cargo names the target").replace('-', "_");
+    println!("cargo:rerun-if-env-changed={name}_{target}");
+    var(format!("{name}_{target}")).or_else(|_| var(name)).ok()
+}
+
+/// The folder of the archive that is made of the library as one file of C. Beside a compiler
+/// `NAME-gcc` is `NAME-ar`.
 fn compiled(folder: &Path) -> PathBuf {
     let made = PathBuf::from(var_os("OUT_DIR").expect("cargo names the folder"));
     let (source, object) = (folder.join("fcanon-portable.c"), made.join("fcanon-portable.o"));
     println!("cargo:rerun-if-changed={}", source.display());
-    let compiler = var("CC").unwrap_or_else(|_| "cc".to_string());
+    let compiler = tool("CC").unwrap_or_else(|| "cc".to_string());
+    let beside = compiler.strip_suffix("gcc").unwrap_or_default().to_string() + "ar";
     let mut words = Command::new(compiler);
     words.args(["-std=c11", "-O2", "-fPIC", "-c"]).arg(source).arg("-I").arg(folder);
     run(words.arg("-o").arg(&object));
-    run(Command::new("ar").arg("crs").arg(made.join("libfcanon.a")).arg(object));
+    let archiver = tool("AR").unwrap_or(beside);
+    run(Command::new(archiver).arg("crs").arg(made.join("libfcanon.a")).arg(object));
     made
 }
 
+/// The folder with the archive, if there is one.
+fn found() -> Option<PathBuf> {
+    let own = Path::new(env!("CARGO_MANIFEST_DIR"));
+    let has_archive = |folder: &PathBuf| folder.join("libfcanon.a").exists();
+    if let Some(folder) = var_os("FCANON_LIB").map(PathBuf::from).filter(has_archive) {
+        return Some(folder);
+    }
+    if let Some(folder) = var_os("FCANON_PORTABLE") {
+        return Some(compiled(Path::new(&folder)));
+    }
+    let is_for_this_machine = var_os("HOST") == var_os("TARGET");
+    let places = [Some(own.join("../../../build")), installed()];
+    let there = places.into_iter().flatten().filter(|_| is_for_this_machine).find(has_archive);
+    there.or_else(|| own.join("fcanon-portable.c").exists().then(|| compiled(own)))
+}
+
 fn main() {
-    println!("cargo:rerun-if-env-changed=FCANON_LIB");
-    println!("cargo:rerun-if-env-changed=FCANON_PORTABLE");
-    println!("cargo:rerun-if-env-changed=CC");
-    let built = Path::new(env!("CARGO_MANIFEST_DIR")).join("../../../build");
-    let named = var_os("FCANON_LIB").map(PathBuf::from);
-    let made = var_os("FCANON_PORTABLE").map(|it| compiled(Path::new(&it)));
-    let places = [named, made, Some(built), installed()];
-    match places.into_iter().flatten().find(|folder| folder.join("libfcanon.a").exists()) {
+    for name in NAMES {
+        println!("cargo:rerun-if-env-changed={name}");
+    }
+    match found() {
         Some(folder) => {
             println!("cargo:rerun-if-changed={}", folder.join("libfcanon.a").display());
             println!("cargo:rustc-link-search=native={}", folder.display());
