@@ -42,7 +42,8 @@
 
 /* What compilers and linkers are told of the calls. A program may define two of these before this header:
  * FCANON_EXPORT, as __declspec(dllimport), and FCANON_CHECKED as nothing, where it leaves answers unread
- * that it knows to be 0. */
+ * that it knows to be 0. A C file that defines FCANON_EXPORT as static and includes fcanon-portable.c has
+ * the calls for itself, and no linker sees them. */
 #ifdef __GNUC__
 #define FCANON_ATTRIBUTES(list) __attribute__(list)
 #else
