@@ -9,7 +9,7 @@ use fcanon_sys::{fcanon_class_hash, fcanon_class_sums, fcanon_move_sums};
 /// use fcanon::{Board, Game, ON_CELL};
 /// let mut board = Board::deal(Game::FreeCell, 1)?;
 /// let mut sums = board.class_sums();
-/// let [.., below, card] = board.bytes().cards[..21] else { unreachable!() };
+/// let (below, card) = (board.bytes().cards[19], board.bytes().cards[20]);
 /// sums.move_card(card, below, ON_CELL)?;
 /// board.play("3a".parse()?)?;
 /// assert_eq!(sums, board.class_sums());
