@@ -1,4 +1,4 @@
-"""The page in browsers: a server that has it with the walk over it, and takes what that finds."""
+"""Pages in browsers: a server that has one with a walk over it, and takes what that finds."""
 
 import http.server
 import json
@@ -17,21 +17,18 @@ EXAMPLE = (EXAMPLES / "positions.collection").read_text()
 SECONDS = 300  # for Node, and for a browser's walk: either takes a few
 
 
-class Walks:
-    """Serves the page and the walk to browsers, and takes what they find."""
+class Served:
+    """Serves these files, by their paths, to browsers, and takes what they find."""
 
-    def __init__(self, asked):
-        files = {"/": HERE / "walk.html", "/page.html": PAGE}
-        files |= {f"/walks/{file.name}": file for file in (HERE / "walks").glob("*.mjs")}
+    def __init__(self, files):
         self.files = {path: file.read_bytes() for path, file in files.items()}
-        self.files["/given.json"] = json.dumps(asked).encode()
         self.found, self.came = {}, threading.Condition()
         walks = self
 
         class Handler(http.server.BaseHTTPRequestHandler):
             def answer(self, status, body=b""):
                 self.send_response(status)
-                kinds = {"mjs": "text/javascript", "json": "application/json"}
+                kinds = {"js": "text/javascript", "mjs": "text/javascript", "json": "application/json"}
                 self.send_header("Content-Type", kinds.get(self.path.rpartition(".")[2], "text/html"))
                 self.send_header("Content-Length", str(len(body)))
                 self.end_headers()
@@ -74,10 +71,19 @@ class Walks:
         return {f"{name} in {browser}": faults for name, faults in found.items()}
 
 
+class Walks(Served):
+    """The page of fcanon, and the walk over it."""
+
+    def __init__(self, asked):
+        files = {"/": HERE / "walk.html", "/page.html": PAGE}
+        super().__init__(files | {f"/walks/{file.name}": file for file in (HERE / "walks").glob("*.mjs")})
+        self.files["/given.json"] = json.dumps(asked).encode()
+
+
 def browsers():
     """Those that are here, of each kind one."""
     for kind in (["chromium", "chromium-browser", "google-chrome"], ["firefox-esr", "firefox"]):
         here = [name for name in kind if shutil.which(name)]
         yield from here[:1]
         if not here:
-            print(f"the page is not tried in {kind[0]}: it is not here")
+            print(f"no page is tried in {kind[0]}: it is not here")
