@@ -71,7 +71,7 @@ chaos: library needs-python3 needs-cc ## tries input made by chance, for so many
 edits: needs-rt needs-python3 ## tries all wrong bodies, or CRATE=fc_text, CRATE=fc_text/ten-as-ace
 	@tests/edits $(CRATE)
 
-mutants: needs-rt needs-python3 needs-cc ## says which wrong bodies the rows see, or of CRATE=fc_record
+mutants: needs-rt needs-python3 needs-cc ## says which wrong bodies the test cases see, or of CRATE=fc_record
 	@tests/mutants $(CRATE)
 
 # Nothing is proved here, so that root needs no toolchain.
