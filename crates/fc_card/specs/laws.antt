@@ -1,3 +1,4 @@
 -- Lemmas that the laws of traits cite.
 pub mod OrderLaws
 pub mod RenamingLaws
+pub mod SizeLaws

@@ -45,7 +45,7 @@ pub fn undone<G: Group>(first: &G, next: &G)
 /// at(i).
 pub fn items_are_where_the_order_says<U>(order: &Order, line: &ArrayVec<U, 8>, place: usize)
     requires order { IsOrder order.now }
-    requires can_act { CanReorder order.now line.now }
+    requires can_act { CanReorder (length order.now) line.now }
     requires inside { place < length order.now }
     ensures count { length (reordered order.now line.now).items ≡ length line.now.items }
     ensures item { slice_get (reordered order.now line.now).items place

@@ -27,7 +27,7 @@ fn identity<G: Group>(member: &G) -> G {
 
 // An action through its bound.
 fn image<T: Drop, A: Acts<T>>(member: &A, item: &T) -> T
-    requires { A.can_act member.now item.now }
+    requires { A.can_act (A.size member.now) item.now }
 {
     member.act(item)
 }
