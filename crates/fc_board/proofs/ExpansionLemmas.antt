@@ -2,19 +2,17 @@
 use Rattle.std.proofs.Common.{◌*◌, ◌++◌, ◌+◌, ◌-◌, ◌<◌, ◌^◌, ◌∙◌, ◌∷◌, ◌≡◌, ◌≢◌, ◌≤◌, ◌⊎◌, [], ap}
 use Rattle.std.proofs.Common.{arith, cond, drop, get_or, inl, inr, leb, length, List, None, refl}
 use Rattle.std.proofs.Common.{set, Some, subst, suc, sym, take, zero, ℕ}
+use Rattle.std.proofs.lemmas.{Bool.{cases_eq, cases_lt, Decides.{nat_tests}}, List.{append_assoc}}
+use Rattle.std.proofs.lemmas.List.{get_or-set_other, get_or-set_same, length-append, length-take}
+use Rattle.std.proofs.lemmas.List.{set-get_or, set-set, take_all}
 use Rattle.std.proofs.Math.Nat.{mul_assoc, mul_comm, pow-succ'}
-use Rattle.std.proofs.lemmas.Bool.{cases_eq, cases_lt}
-use Rattle.std.proofs.lemmas.Bool.Decides.{nat_tests}
-use Rattle.std.proofs.lemmas.List.{append_assoc, get_or-set_other, get_or-set_same, length-append}
-use Rattle.std.proofs.lemmas.List.{length-take, set-get_or, set-set, take_all}
 use Rattle.fc_board.proofs.AmongLemmas.{AllAmong, among_left, among_right}
 use Rattle.fc_board.proofs.ExpansionSteps.{across, away, back, last_pushed, Moved, Route, route_of}
-use Rattle.fc_board.proofs.ExpansionSteps.{route_then}
-use Rattle.fc_board.proofs.RunLemmas.{run_after}
+use Rattle.fc_board.proofs.{ExpansionSteps.{route_then}, RunLemmas.{run_after}}
 use Rattle.fc_board.specs.{Boards.{Board, IsWellFormed}, Games.{Builds, Fills, Game}}
+use Rattle.fc_board.specs.laws.ListWords.{IsRun}
 use Rattle.fc_board.specs.Moves.{expansion, half, move_between, over_cells}
 use Rattle.fc_board.specs.Steps.{Among, cell_at, column_at, IsOpenColumn, last_card, MayFollow}
-use Rattle.fc_board.specs.laws.ListWords.{IsRun}
 use Rattle.fc_board.specs.declared.moves.Move.{Move}
 use Rattle.fc_board.specs.declared.moves.Place.TheVariants.{Cell as ToCell, Column as ToColumn}
 use Rattle.fc_board.specs.declared.moves.Source.TheVariants.{Cell as FromCell, Column as FromColumn}
@@ -70,17 +68,17 @@ apart_take (suc n) (y ∷ xs) apart = (λ among. apart.0 (among_take n y xs amon
 
 -- ---- how many go in two parts
 
-double_pow : (reach n : ℕ) → reach * 2 ^ suc n ≡ (2 * reach) * 2 ^ n
+pub double_pow : (reach n : ℕ) → reach * 2 ^ suc n ≡ (2 * reach) * 2 ^ n
 double_pow reach n = rw (pow-succ' 2 n) (sym (mul_assoc reach 2 (2 ^ n)) ∙ ap (λ k. k * 2 ^ n) (mul_comm reach 2))
 
 pub pow_some : (reach n : ℕ) → reach ≤ reach * 2 ^ n
 pow_some reach zero = omega arith
 pow_some reach (suc n) = omega (arith, pow_some (2 * reach) n, double_pow reach n)
 
-half_when : (reach count helper : ℕ) (spare_columns : List ℕ) → count ≤ 2 * reach → half reach count (helper ∷ spare_columns) ≡ reach
+pub half_when : (reach count helper : ℕ) (spare_columns : List ℕ) → count ≤ 2 * reach → half reach count (helper ∷ spare_columns) ≡ reach
 half_when reach count helper spare_columns few = grind (arith, nat_tests)
 
-half_else : (reach count helper : ℕ) (spare_columns : List ℕ) → 2 * reach < count →
+pub half_else : (reach count helper : ℕ) (spare_columns : List ℕ) → 2 * reach < count →
     half reach count (helper ∷ spare_columns) ≡ half (2 * reach) count spare_columns
 half_else reach count helper spare_columns many = grind (arith, nat_tests)
 

@@ -78,6 +78,7 @@ over_cells from to [] = move_between (FromColumn from) (ToColumn to) ∷ []
 over_cells from to (cell ∷ cells) = move_between (FromColumn from) (ToCell cell) ∷ (over_cells from to cells ++ move_between (FromCell cell) (ToColumn to) ∷ [])
 
 -- the least of reach, twice reach, four times reach and so on that is half of the count or more; no more doublings are needed than there are helpers
+-- said again: half_is_the_least_of_its_kind
 abbrev pub half : ℕ → ℕ → List ℕ → ℕ
 half reach count [] = reach
 half reach count (helper ∷ spare_columns) = if nat_le count (2 * reach) then reach else half (2 * reach) count spare_columns

@@ -255,8 +255,8 @@ fn card_of(byte: u8) -> Card
     Card::of_number(byte.saturating_sub(1))
 }
 
-/// The bits of the cards that the bytes are, of the card of number n bit n. All bytes are looked at,
-/// so that no end is.
+/// The bits of the cards that the bytes are, of the card of number n bit n. All bytes are looked
+/// at, so that no end is.
 #[inline(always)]
 fn bits_of(bytes: &[u8; 52]) -> u64
     requires { All (λ byte. byte ≤ 52) bytes.now }

@@ -66,8 +66,8 @@ pub fn lists_lead_as_their_expansions<R: Rule>()
         → Plays R.game board (OneCard (expansions R.game board moves)) after }
 {}
 
-/// Over helper columns the first of them takes the least of reach, twice reach, four times reach and
-/// so on that is half of the count or more, if there are helpers enough.
+/// Over helper columns the first of them takes the least of reach, twice reach, four times reach
+/// and so on that is half of the count or more, if there are helpers enough.
 pub fn half_is_the_least_of_its_kind()
     ensures kind { (reach count : ℕ) (helpers : List ℕ) → (times : ℕ)
         × (times ≤ length helpers) × (half reach count helpers ≡ reach * 2 ^ times) }
