@@ -23,6 +23,8 @@ use Rattle.fc_record.specs.declared.record.RecordFault.{RecordFault}
 use Rattle.fc_record.specs.declared.record.RecordFaultKind.TheVariants.{StrayLine}
 use Rattle.fc_record.specs.declared.record.RecordFaultKind.TheVariants as kind
 use Rattle.fc_collect.proofs.ShareLemmas.{few_cells}
+use Rattle.fc_laws.proofs.HeaderSaysLemmas.{BadHeaderAt-from_err, err-from_BadHeaderAt}
+use Rattle.fc_laws.proofs.HeaderSaysLemmas.{HeaderSays-from_ok, ok-from_HeaderSays}
 
 not_ok : {X E : Type 0} {x : X} {e : E} → ◌≡◌ {A = Result X E} (Err e) (Ok x) → ⊥
 not_ok e = cc
@@ -189,7 +191,8 @@ module _ (variant : Variant) (bytes : List ℕ) (heading : Heading) (contents : 
           let same : found ≡ heading = cc in
           let held_same : held ≡ contents = cc in
           let reads = Reads-from_ok found.variant place_of_body (after_header bytes) held read in
-          let says : RecordSays variant bytes found held = record { header = with_header; board = reads.0; lists = reads.1 } in
+          let header = HeaderSays-from_ok variant bytes found with_header in
+          let says : RecordSays variant bytes found held = record { header = header; board = reads.0; lists = reads.1 } in
           rw (same, held_same) at says
 
       by_heading : (said : Result Heading RecordFault) → heading_of variant bytes ≡ said
@@ -199,7 +202,10 @@ module _ (variant : Variant) (bytes : List ℕ) (heading : Heading) (contents : 
           by_contents found (contents_of (game_of found.variant) place_of_body (after_header bytes)) with_header refl e
 
   pub accepted-from_Says : RecordSays variant bytes heading contents → reading_of variant bytes ≡ Accepted heading contents
-  accepted-from_Says says = rw (says.header, ok-from_Reads heading.variant place_of_body (after_header bytes) contents (says.board, says.lists))
+  accepted-from_Says says = rw (
+    ok-from_HeaderSays says.header,
+    ok-from_Reads heading.variant place_of_body (after_header bytes) contents (says.board, says.lists),
+  )
 
 -- ---- a record that is refused
 
@@ -213,10 +219,10 @@ module _ (variant : Variant) (bytes : List ℕ) where
   -- a record is refused exactly where it is faulty
   pub refused-from_IsFaulty : {name : Option (List ℕ)} {fault : RecordFault} → IsFaulty variant bytes name fault
       → reading_of variant bytes ≡ Refused name fault
-  refused-from_IsFaulty (bad_header fault e) = rw e
-  refused-from_IsFaulty (bad_board heading e fault faulty) = rw (e, faulty)
-  refused-from_IsFaulty (bad_line heading board fault e spelled faulty) = rw (
-    e,
+  refused-from_IsFaulty (bad_header place bad) = rw (err-from_BadHeaderAt bad variant)
+  refused-from_IsFaulty (bad_board heading says fault faulty) = rw (ok-from_HeaderSays says, faulty)
+  refused-from_IsFaulty (bad_line heading board fault says spelled faulty) = rw (
+    ok-from_HeaderSays says,
     faultless-from_Spells (game_of heading.variant) (board_part body) board spelled,
     fault-from_AreFaulty (game_of heading.variant) (few_cells heading.variant) faulty,
   )
@@ -237,16 +243,20 @@ module _ (variant : Variant) (bytes : List ℕ) where
           → reading_with heading (contents_with place found lists (board_of (game_of heading.variant) (board_part body))) ≡ Refused name fault
           → IsFaulty variant bytes name fault
       by_parts heading (Some found) lists with_header faulty said e =
-          as_said heading.name (fault_at (place + found.place) (kind.Board found.kind)) e (bad_board heading with_header found faulty)
+          as_said heading.name (fault_at (place + found.place) (kind.Board found.kind)) e
+          (bad_board heading (HeaderSays-from_ok variant bytes heading with_header) found faulty)
       by_parts heading None (Err found) with_header faultless said e =
-          as_said heading.name found e (bad_line heading (board_of (game_of heading.variant) (board_part body)) found with_header
+          as_said heading.name found e (bad_line heading (board_of (game_of heading.variant) (board_part body)) found
+          (HeaderSays-from_ok variant bytes heading with_header)
           (Spells-from_faultless (game_of heading.variant) (board_part body) faultless)
           (AreFaulty-from_fault (game_of heading.variant) (few_cells heading.variant) (list_lines place body) found said))
       by_parts heading None (Ok lists) with_header faultless said e = absurd (true≢false (sym (ap refuses e)))
 
       by_heading : (said : Result Heading RecordFault) → heading_of variant bytes ≡ said → reading_by said bytes ≡ Refused name fault
           → IsFaulty variant bytes name fault
-      by_heading (Err found) with_header e = as_said None found e (bad_header found with_header)
+      by_heading (Err found) with_header e =
+          let (place, same, bad) = BadHeaderAt-from_err variant bytes found with_header in
+          as_said None (fault_at place kind.BadHeader) (ap (Refused None) (sym same) ∙ e) (bad_header place bad)
       by_heading (Ok heading) with_header e =
           by_parts heading (first_fault (game_of heading.variant) (board_part body))
           (lists_of (game_of heading.variant) (list_lines place body)) with_header refl refl e

@@ -32,6 +32,7 @@ use Rattle.fc_collect.specs.Groups.{canonical_text, Member, members_among, passa
 use Rattle.fc_collect.specs.Limits.{most_countable}
 use Rattle.fc_collect.specs.Records.{has_content, output_of_records, records_of}
 use Rattle.fc_laws.proofs.AcceptanceLemmas.{Says-from_accepted}
+use Rattle.fc_laws.proofs.HeaderSaysLemmas.{ok-from_HeaderSays}
 use Rattle.fc_laws.proofs.MemberLemmas.{CanPrint, IsSaid, lists_can, members-said}
 use Rattle.fc_laws.proofs.PrintedRecordLemmas.{board_first, heading_again, lines-IsReadAs}
 use Rattle.fc_laws.proofs.PrintedRecordLemmas.{printed_heading, printed_variant}
@@ -116,7 +117,8 @@ canonical-IsReadAs variant number bytes heading contents small accepted =
     let read =
     lines-IsReadAs variant above (canonical_contents member)
     (AreLines-append IsPlain text (passage_line passage) plain (AreLines-line IsPlain line whole (refl, refl)))
-    (begins_with header_mark bytes) number heading small (heading_said variant bytes heading says.header) refl
+    (begins_with header_mark bytes) number heading small
+    (heading_said variant bytes heading (ok-from_HeaderSays says.header)) refl
     (ap has_content (append_assoc text (passage_line passage) (flat_map list_line lists))
     ∙ board_first game board (passage_line passage ++ flat_map list_line lists) well)
     spells (images_can game passage is.is_passage contents.lists (lists_can says.lists)) contents in

@@ -31,6 +31,7 @@ use Rattle.fc_record.specs.Grammar.{reading_of, skipped_line, without_header}
 use Rattle.fc_record.specs.RecordTexts.{ends_line, header_mark}
 use Rattle.fc_record.specs.declared.record.RecordFault.{RecordFault}
 use Rattle.fc_laws.proofs.AcceptanceLemmas.{accepted-from_Says, Says-from_accepted}
+use Rattle.fc_laws.proofs.HeaderSaysLemmas.{HeaderSays-from_ok, ok-from_HeaderSays}
 
 module _ (places : ℕ) where
   -- ---- rows, so many places later
@@ -383,7 +384,8 @@ accepted-comment_after variant bytes comment heading contents ends are accepted 
     omega (arith, length-append bytes more, length-append body more, ap length kept.2) in
     let reads = commented body comment kept.3 are (game_of heading.variant) contents.board contents.lists place (says.board, says.lists) in
     accepted-from_Says variant (bytes ++ more) heading contents (record {
-      header = heading_kept bytes more ends refl variant ∙ says.header;
+      header = HeaderSays-from_ok variant (bytes ++ more) heading
+          (heading_kept bytes more ends refl variant ∙ ok-from_HeaderSays says.header);
       board = rw kept.2 reads.0;
       lists = rw (← same_place, kept.2) reads.1;
     })

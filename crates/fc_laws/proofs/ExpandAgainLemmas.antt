@@ -35,6 +35,7 @@ use Rattle.fc_record.specs.{Printing.{verdict_line, verdict_words}, RecordTexts.
 use Rattle.fc_collect.{proofs.LimitLemmas.{IsNumbered}, specs.Groups.{Member, members_among}}
 use Rattle.fc_collect.specs.{Limits.{most_countable}, Records.{output_of_records, records_of}}
 use Rattle.fc_laws.proofs.AcceptanceLemmas.{Says-from_accepted}
+use Rattle.fc_laws.proofs.HeaderSaysLemmas.{ok-from_HeaderSays}
 use Rattle.fc_laws.proofs.ListAfterLemmas.{IsReadAs-comment, IsReadAs-list}
 use Rattle.fc_laws.proofs.MemberLemmas.{CanPrint, IsSaid, lists_can, member-Can}
 use Rattle.fc_laws.proofs.MemberLemmas.{member-IsWellFormed, members-said}
@@ -307,7 +308,7 @@ expanded-IsReadAs variant number bytes heading contents small accepted =
     let alone : Contents = record { board = contents.board; lists = [] } in
     let begun =
     lines-IsReadAs variant text alone (lines_of_board game contents.board well) has number heading small
-    (heading_said variant bytes heading says.header)
+    (heading_said variant bytes heading (ok-from_HeaderSays says.header))
     refl (board_first game contents.board [] well) (text_spells game contents.board well) (All-nil (CanPrint game)) contents in
     let all =
     lists_read heading.variant contents.board well variant has (printed_heading member) (ap game_of (sym (printed_variant member))) 1 contents.lists

@@ -10,6 +10,7 @@ use Rattle.fc_board.specs.declared.rule.Variant.{Variant}
 use Rattle.fc_text.proofs.{LineLemmas.{InLine}, PrintedTextLemmas.{text_spells}}
 use Rattle.fc_text.specs.{Bytes.{blank, number_sign}, Printed.{text_of}}
 use Rattle.fc_record.proofs.HeadingLemmas.{bytes_of_name, given_name, heading_said, IsInName}
+use Rattle.fc_record.proofs.PrintedListLemmas.{join_in_line}
 use Rattle.fc_record.proofs.PrintedPartLemmas.{IsPlain, lines_of_board}
 use Rattle.fc_record.proofs.TextLineLemmas.{AreLines-append, AreLines-line}
 use Rattle.fc_record.specs.Grammar.{Accepted, begins_with, Contents, Reading, reading_of}
@@ -23,8 +24,8 @@ use Rattle.fc_collect.specs.{Limits.{most_countable}, Records.{records_of, whole
 use Rattle.fc_laws.proofs.CanonicalAgainLemmas.{text_stays}
 use Rattle.fc_laws.proofs.CommentLemmas.{spelled-comment_before}
 use Rattle.fc_laws.proofs.GroupPlaceLemmas.{apart-groups, leaders-first, named_again, NamedAs}
+use Rattle.fc_laws.proofs.HeaderSaysLemmas.{ok-from_HeaderSays}
 use Rattle.fc_laws.proofs.MemberLemmas.{CanPrint, IsSaid, members-Numbered, members-said}
-use Rattle.fc_record.proofs.PrintedListLemmas.{join_in_line}
 use Rattle.fc_laws.proofs.PrintedRecordLemmas.{with_header-IsReadAs}
 use Rattle.fc_laws.proofs.ReadAgainLemmas.{codes_in_line, decimal_in_line, IsReadAs, Reads}
 use Rattle.fc_laws.proofs.{ReadAgainLemmas.{Reads-lines}, ShareAgainLemmas.{refusals_read}}
@@ -45,7 +46,7 @@ module _ (variant : Variant) where
   name_in_line member ((bytes, says), small) =
       All-weaker IsInName InLine (λ byte is e. absurd (omega (arith, is, e))) (name_of_member member)
       (bytes_of_name (name_of_member member) (given_name variant (begins_with header_mark bytes) member.number member.heading small
-      (heading_said variant bytes member.heading says.header)))
+      (heading_said variant bytes member.heading (ok-from_HeaderSays says.header))))
 
   -- what is in the line of the members after the number sign
   abbrev words_of_members : List Member → List ℕ
@@ -79,7 +80,8 @@ module _ (variant : Variant) where
       (AreLines-line IsPlain (number_sign ∷ words) (All-cons InLine number_sign words (λ e. absurd (omega (arith, e))) in_line) (refl, refl))
       (lines_of_board (game_of own) board well') in
       let given =
-      given_name variant (begins_with header_mark bytes) leader.number leader.heading small (heading_said variant bytes leader.heading says.header) in
+      given_name variant (begins_with header_mark bytes) leader.number leader.heading small
+      (heading_said variant bytes leader.heading (ok-from_HeaderSays says.header)) in
       let read = with_header-IsReadAs variant above contents plain own (name_of_member leader) given
       (spelled-comment_before (game_of own) words (text_of board) board in_line (text_spells (game_of own) board well'))
       (All-nil (CanPrint (game_of own))) in

@@ -27,6 +27,7 @@ use Rattle.fc_record.specs.{RecordTexts.{header_mark}, Tables.{first_win, is_win
 use Rattle.fc_record.specs.Tables.{json_string, number_or_null, table_fields, table_object}
 use Rattle.fc_collect.proofs.{KeyedLemmas.{chosen}, ShareLemmas.{few_cells}}
 use Rattle.fc_collect.specs.{Groups.{canonical_text, Member, members_among}, Records.{records_of}}
+use Rattle.fc_laws.proofs.HeaderSaysLemmas.{ok-from_HeaderSays}
 use Rattle.fc_laws.proofs.MemberLemmas.{member-IsWellFormed, member-said}
 use Rattle.fc_laws.proofs.SideBySideLemmas.{side_by_side-high}
 use Rattle.fc_laws.proofs.TableLawLemmas.{canonical_is_text, no_dash, object_of, object_of_fields}
@@ -271,7 +272,8 @@ table_document variant collection each name own board renaming columns cells lis
     win_flat win (1 + length contents.lists) (omega (arith, few))
     (rw (field 7) at (win_is (game_of heading.variant) contents.board 1 contents.lists)) in
     let flat = fields_flat name own board renaming columns cells lists win
-    (at _ 0 (name_high variant (begins_with header_mark bytes) each.number heading (heading_said variant bytes heading says.header)) (field 0))
+    (at _ 0 (name_high variant (begins_with header_mark bytes) each.number heading
+    (heading_said variant bytes heading (ok-from_HeaderSays says.header))) (field 0))
     (at _ 1 (word_high heading.variant) (field 1))
     (at _ 2 (side_by_side-high (canonical_text each) (canonical_is_text each well)) (field 2))
     (at _ 3 (letters_high suit_letters (codes_high suit_letters refl) passage.renaming

@@ -11,6 +11,7 @@ pub mod GroupPlaceLemmas
 pub mod GroupedTwiceLemmas
 pub mod HalfLemmas
 pub mod HeaderLemmas
+pub mod HeaderSaysLemmas
 pub mod HeadlineLemmas
 pub mod JoiningLemmas
 pub mod JsonLemmas

@@ -10,12 +10,12 @@ use Rattle.fc_board.specs.declared.rule.Variant.{Variant}
 use Rattle.fc_text.{proofs.LineLemmas.{first_line, InLine}, specs.Bytes.{line_feed, number_sign}}
 use Rattle.fc_text.specs.{Lines.{lines_from, Piece}, Rows.{is_empty, line_of}, Spelling.{Spells}}
 use Rattle.fc_record.proofs.ContentsLemmas.{begins_list}
+use Rattle.fc_record.proofs.PrintedListLemmas.{list_bytes, list_in_line}
 use Rattle.fc_collect.proofs.ShareLemmas.{few_cells}
 use Rattle.fc_laws.proofs.AcceptanceLemmas.{accepted-from_Says, Says-from_accepted}
 use Rattle.fc_laws.proofs.CommentLemmas.{accepted-comment_after, front_kept, heading_kept}
 use Rattle.fc_laws.proofs.CommentLemmas.{starts_within}
 use Rattle.fc_laws.proofs.{HeaderLemmas.{marks, marks-lines, starts_of}, MemberLemmas.{CanPrint}}
-use Rattle.fc_record.proofs.PrintedListLemmas.{list_bytes, list_in_line}
 use Rattle.fc_laws.proofs.PrintedRecordLemmas.{marked, no_header_mark}
 use Rattle.fc_laws.proofs.PrintedRecordLemmas as printed
 use Rattle.fc_record.proofs.TextLineLemmas.{ends-after, ends-drop, ends-line_feed, lines_after}
@@ -23,7 +23,9 @@ use Rattle.fc_record.specs.Grammar.{Accepted, after_header, AreLists, begins_wit
 use Rattle.fc_record.specs.Grammar.{Contents, Heading, IsList, list_lines, lists_start, next_list}
 use Rattle.fc_record.specs.{Grammar.{no_lines, reading_of, skipped_line}, Printing.{list_line}}
 use Rattle.fc_record.specs.RecordTexts.{ends_line, header_mark}
-use Rattle.{fc_collect.specs.Records.{has_content}, fc_laws.proofs.ReadAgainLemmas.{IsReadAs}}
+use Rattle.fc_collect.specs.Records.{has_content}
+use Rattle.fc_laws.proofs.HeaderSaysLemmas.{HeaderSays-from_ok, ok-from_HeaderSays}
+use Rattle.fc_laws.proofs.ReadAgainLemmas.{IsReadAs}
 
 -- one more line that is a list
 AreLists-list : {game : Game} {lines : List Piece} {lists : List MoveList} (line : Piece) (list : MoveList) → begins_list line ≡ true
@@ -108,7 +110,8 @@ accepted-list_after variant bytes heading contents list ends can accepted =
     omega (arith, length-append bytes more, length-append body more, ap length kept.2) in
     let reads = listed game (few_cells heading.variant) list can body kept.3 contents.board contents.lists place says.board says.lists in
     accepted-from_Says variant (bytes ++ more) heading (with_one_more contents list) (record {
-      header = heading_kept bytes more ends (no_header list) variant ∙ says.header;
+      header = HeaderSays-from_ok variant (bytes ++ more) heading
+          (heading_kept bytes more ends (no_header list) variant ∙ ok-from_HeaderSays says.header);
       board = rw kept.2 reads.0;
       lists = rw (← same_place, kept.2) reads.1;
     })

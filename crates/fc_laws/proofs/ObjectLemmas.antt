@@ -14,9 +14,9 @@ use Rattle.fc_card.specs.{card_text, rank_letter, rank_letters, rank_of, suit_le
 use Rattle.fc_card.specs.{suit_of}
 use Rattle.fc_board.specs.{Games.{Game, game_of}, Moves.{MoveList, OneCard, Runs}}
 use Rattle.fc_board.specs.declared.rule.Variant.{Variant}
-use Rattle.fc_text.{proofs.PlaceLemmas.{no_item_misses}, specs.Bytes.{is_gap, line_feed}}
+use Rattle.fc_text.{proofs.PlaceLemmas.{no_item_misses}, specs.Bytes.{line_feed}}
 use Rattle.fc_text.specs.Faults.{board_reason, cards_of_item, first_fault, first_faulty, items_of}
-use Rattle.fc_text.specs.{Faults.{lowest_missing, missing_card}, Lines.{Piece, words_from}}
+use Rattle.fc_text.specs.{Faults.{lowest_missing, missing_card}, Lines.{Piece}}
 use Rattle.fc_text.specs.{Notation.{BadToken, ListFault, TooMany}, Readings.{moves_read, runs_read}}
 use Rattle.fc_text.specs.declared.fault.{BoardFault.{BoardFault}, BoardFaultKind.{BoardFaultKind}}
 use Rattle.fc_text.specs.declared.fault.BoardFaultKind.TheVariants.{BadCard, BadFoundation}
@@ -25,10 +25,8 @@ use Rattle.fc_text.specs.declared.fault.BoardFaultKind.TheVariants.{RepeatedLine
 use Rattle.fc_text.specs.declared.fault.BoardFaultKind.TheVariants.{TooManyColumns}
 use Rattle.fc_record.{proofs.HeadingLemmas.{heading_said}, specs.Grammar.{after_header, AreFaulty}}
 use Rattle.fc_record.specs.Grammar.{bad_board, bad_header, bad_line, bad_list, begins_with}
-use Rattle.fc_record.specs.Grammar.{board_part, fault_at, has_two_marks, header_line, heading_by}
-use Rattle.fc_record.specs.Grammar.{heading_of, heading_of_words, is_name, IsFaulty, later_line}
-use Rattle.fc_record.specs.Grammar.{list_read, list_with, reading_of, Refused, stray_line}
-use Rattle.fc_record.specs.Grammar.{variant_named, with_header, without_header}
+use Rattle.fc_record.specs.Grammar.{board_part, has_two_marks, IsFaulty, later_line, list_read}
+use Rattle.fc_record.specs.Grammar.{list_with, reading_of, Refused, stray_line}
 use Rattle.fc_record.specs.Printing.{name_of, record_reason}
 use Rattle.fc_record.specs.{RecordTexts.{header_mark, RecordText}, Tables.{refusal_object}}
 use Rattle.fc_record.specs.declared.record.RecordFault.{RecordFault}
@@ -41,6 +39,7 @@ use Rattle.fc_laws.proofs.JsonLemmas.{letter_high, members_of, name_high, no_mor
 use Rattle.fc_laws.proofs.JsonLemmas.{one_more}
 use Rattle.fc_record.specs.declared.record.RecordFaultKind.TheVariants as kind
 use Rattle.fc_collect.proofs.ShareLemmas.{find-All}
+use Rattle.fc_laws.proofs.HeaderSaysLemmas.{ok-from_HeaderSays}
 
 -- ---- a missing card is one of the deck
 
@@ -113,30 +112,6 @@ reason_of read fault e high = rw e at high
 bad_header_high : IsHigh (codes "bad header")
 bad_header_high = codes_high (codes "bad header") refl
 
-heading_high : (variant : Variant) (bytes : List ℕ) → HasReason (heading_of variant bytes)
-heading_high variant bytes = by_test (begins_with header_mark bytes)
-  where
-    by_name : (b : Bool) (own : Variant) (name : Piece)
-        → HasReason (cond b (Ok (with_header own (Some name.bytes))) (Err (fault_at name.start kind.BadHeader)))
-    by_name true own name = bad_header_high
-    by_name false own name = bad_header_high
-
-    by_variant : (place : ℕ) (own : Option Variant) (words : List Piece) → HasReason (heading_by place own words)
-    by_variant place None words = bad_header_high
-    by_variant place (Some own) [] = bad_header_high
-    by_variant place (Some own) (name ∷ []) = by_name (is_name name.bytes) own name
-    by_variant place (Some own) (name ∷ further ∷ words) = bad_header_high
-
-    of_words : (end : ℕ) (words : List Piece) → HasReason (heading_of_words end words)
-    of_words end [] = bad_header_high
-    of_words end (word ∷ words) = by_variant word.start (variant_named word.bytes) words
-
-    by_test : (b : Bool)
-        → HasReason
-        (cond b (heading_of_words (length (header_line bytes)) (words_from is_gap 1 (drop 1 (header_line bytes)))) (Ok (without_header variant)))
-    by_test true = of_words (length (header_line bytes)) (words_from is_gap 1 (drop 1 (header_line bytes)))
-    by_test false = bad_header_high
-
 list_high : (game : Game) (place : ℕ) (line : List ℕ) → HasReason (list_read game place line)
 list_high game place line = by_form (has_two_marks line)
   where
@@ -160,14 +135,15 @@ lines_high (later_line good faulty) = lines_high faulty
 -- the name and the reason of a refusal
 refused_high : (variant : Variant) (bytes : List ℕ) (index : ℕ) {name : Option (List ℕ)} {fault : RecordFault} → IsFaulty variant bytes name fault
     → IsHigh (name_of index name) × IsHigh (record_reason fault.kind)
-refused_high variant bytes index (bad_header fault e) =
-    (decimal_is_high index, reason_of (heading_of variant bytes) fault e (heading_high variant bytes))
-refused_high variant bytes index (bad_board heading e fault found) = (
-  name_high variant (begins_with header_mark bytes) index heading (heading_said variant bytes heading e),
+refused_high variant bytes index (bad_header place bad) = (decimal_is_high index, bad_header_high)
+refused_high variant bytes index (bad_board heading says fault found) = (
+  name_high variant (begins_with header_mark bytes) index heading
+      (heading_said variant bytes heading (ok-from_HeaderSays says)),
   board_high (game_of heading.variant) (board_part (after_header bytes)) fault found,
 )
-refused_high variant bytes index (bad_line heading board fault e spelled faulty) =
-    (name_high variant (begins_with header_mark bytes) index heading (heading_said variant bytes heading e), lines_high faulty)
+refused_high variant bytes index (bad_line heading board fault says spelled faulty) =
+    let said = heading_said variant bytes heading (ok-from_HeaderSays says) in
+    (name_high variant (begins_with header_mark bytes) index heading said, lines_high faulty)
 
 -- ---- the object of a refusal
 

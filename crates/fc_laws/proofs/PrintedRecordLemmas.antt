@@ -28,16 +28,17 @@ use Rattle.fc_record.proofs.TextLineLemmas.{AreLines, AreLines-append, AreLines-
 use Rattle.fc_record.proofs.TextLineLemmas.{AreLines-line, ends-after, ends-line_feed, lines_after}
 use Rattle.fc_record.specs.Grammar.{Accepted, after_header, AreLists, begins_with, board_part}
 use Rattle.fc_record.specs.Grammar.{Contents, Heading, IsList, list_lines, list_mark, lists_start}
-use Rattle.fc_record.specs.Grammar.{next_list, no_lines, Reading, reading_of, with_header}
-use Rattle.fc_record.specs.{Grammar.{without_header}, Printing.{after_blank, header_text}}
-use Rattle.fc_record.specs.Printing.{heading_line, list_line, marks_of, name_of, printed}
-use Rattle.fc_record.specs.{Printing.{show_lines}, RecordTexts.{header_mark, RecordText}}
+use Rattle.fc_record.specs.Grammar.{next_list, no_header, no_lines, Reading, reading_of}
+use Rattle.fc_record.specs.{Grammar.{with_header, without_header}, Printing.{after_blank}}
+use Rattle.fc_record.specs.Printing.{header_text, heading_line, list_line, marks_of, name_of}
+use Rattle.fc_record.specs.{Printing.{printed, show_lines}, RecordTexts.{header_mark, RecordText}}
 use Rattle.fc_collect.proofs.ShareLemmas.{few_cells}
 use Rattle.fc_collect.specs.{Groups.{Member, members_among, name_of_member}, inside.{member_of}}
 use Rattle.fc_collect.specs.Limits.{most_countable}
 use Rattle.fc_collect.specs.Records.{has_content, output_of_records, records_of}
 use Rattle.fc_laws.proofs.AcceptanceLemmas.{accepted-from_Says, Says-from_accepted}
 use Rattle.fc_laws.proofs.HeaderLemmas.{marks, marks-lines, starts_of}
+use Rattle.fc_laws.proofs.HeaderSaysLemmas.{HeaderSays-from_ok, ok-from_HeaderSays}
 use Rattle.fc_laws.proofs.{MemberLemmas.{CanPrint, lists_can}, ReadAgainLemmas.{all_again}}
 use Rattle.fc_laws.proofs.ReadAgainLemmas.{AreReadAs, IsReadAs, ReadsAgain, same_printed, Stays}
 
@@ -149,7 +150,8 @@ module _ (other : Variant) (above : List ℕ) (contents : Contents) (are : AreLi
       let place = length text - length (after_header text) in
       let reads = body_read (game_of variant) (few_cells variant) above contents.lists are can place contents.board spells in
       accepted-from_Says other text (with_header variant (Some name)) contents (record {
-        header = header_read variant other name (above ++ lists_text) given;
+        header = HeaderSays-from_ok other text (with_header variant (Some name))
+            (header_read variant other name (above ++ lists_text) given);
         board = subst (λ body. Spells (game_of variant) (board_part body) contents.board) (sym gone) reads.0;
         lists = subst (λ body. AreLists (game_of variant) (list_lines place body) contents.lists) (sym gone) reads.1;
       })
@@ -164,7 +166,7 @@ module _ (other : Variant) (above : List ℕ) (contents : Contents) (are : AreLi
       let place = length text - length (after_header text) in
       let reads = body_read (game_of other) (few_cells other) above contents.lists are can place contents.board spells in
       accepted-from_Says other text (without_header other) contents (record {
-        header = rw unmarked;
+        header = no_header unmarked;
         board = subst (λ body. Spells (game_of other) (board_part body) contents.board) (sym whole) reads.0;
         lists = subst (λ body. AreLists (game_of other) (list_lines place body) contents.lists) (sym whole) reads.1;
       })
@@ -177,7 +179,8 @@ pub shown-with_header : (variant other : Variant) (number : ℕ) (bytes : List �
 shown-with_header variant other number bytes heading contents accepted has_header small =
     let says = Says-from_accepted variant bytes heading contents accepted in
     let name = name_of number heading.name in
-    let given = given_name variant (begins_with header_mark bytes) number heading small (heading_said variant bytes heading says.header) in
+    let given = given_name variant (begins_with header_mark bytes) number heading small
+    (heading_said variant bytes heading (ok-from_HeaderSays says.header)) in
     let well = says.board.well_formed in
     let text = text_of contents.board in
     ap (λ b. reading_of other (cond b (header_text heading.variant name) [] ++ text ++ flat_map list_line contents.lists)) has_header
@@ -190,8 +193,8 @@ pub shown-without_header : (variant : Variant) (number : ℕ) (bytes : List ℕ)
     → reading_of variant (show_lines number heading contents) ≡ Accepted heading contents
 shown-without_header variant number bytes heading contents accepted none =
     let says = Says-from_accepted variant bytes heading contents accepted in
-    by_heading (begins_with header_mark bytes) heading (heading_said variant bytes heading says.header) none says.board.well_formed
-    (lists_can says.lists)
+    by_heading (begins_with header_mark bytes) heading
+    (heading_said variant bytes heading (ok-from_HeaderSays says.header)) none says.board.well_formed (lists_can says.lists)
   where
     by_heading : (has : Bool) (heading : Heading) → IsHeading variant has heading → heading.has_header ≡ false
         → IsWellFormed (game_of heading.variant) contents.board → All (CanPrint (game_of heading.variant)) contents.lists
@@ -335,7 +338,7 @@ shown-IsReadAs variant number bytes heading contents small accepted =
     let text = text_of contents.board in
     rw (append_assoc (heading_line number heading) text (flat_map list_line contents.lists)) (lines-IsReadAs variant text contents
     (lines_of_board game contents.board well) (begins_with header_mark bytes) number heading small
-    (heading_said variant bytes heading says.header) refl (board_first game contents.board (flat_map list_line contents.lists) well)
+    (heading_said variant bytes heading (ok-from_HeaderSays says.header)) refl (board_first game contents.board (flat_map list_line contents.lists) well)
     (text_spells game contents.board well) (lists_can says.lists) contents)
 
 pub shown-records : (variant : Variant) → ReadsAgain variant show_lines shown_again

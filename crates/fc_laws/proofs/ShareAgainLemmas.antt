@@ -15,6 +15,7 @@ use Rattle.fc_record.specs.RecordTexts.{header_mark, RecordText}
 use Rattle.fc_collect.specs.Groups.{grouped, groups_of, Member, member_lines, members_among}
 use Rattle.fc_collect.specs.Groups.{name_of_member, owner_among, share_lines, solution_line}
 use Rattle.fc_collect.specs.{Limits.{most_countable}, Records.{records_of, whole_output}}
+use Rattle.fc_laws.proofs.HeaderSaysLemmas.{ok-from_HeaderSays}
 use Rattle.fc_laws.proofs.MemberLemmas.{CanPrint, IsSaid, member-said, members-Numbered}
 use Rattle.fc_laws.proofs.PrintedRecordLemmas.{with_header-IsReadAs}
 use Rattle.fc_laws.proofs.ReadAgainLemmas.{IsReadAs, Reads, Reads-comment, Reads-lines, refusal_is}
@@ -92,7 +93,7 @@ module _ (variant : Variant) where
         let text = text_of member.contents.board in
         let given =
         given_name variant (begins_with header_mark bytes) member.number member.heading known.number
-        (heading_said variant bytes member.heading says.header) in
+        (heading_said variant bytes member.heading (ok-from_HeaderSays says.header)) in
         rw (known.given.line, append_assoc header text (flat_map list_line known.lists)) (with_header-IsReadAs variant text
         (record { board = member.contents.board; lists = known.lists })
         (lines_of_board game member.contents.board well) member.heading.variant (name_of_member member) given

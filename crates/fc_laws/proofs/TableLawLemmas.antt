@@ -27,6 +27,7 @@ use Rattle.fc_record.specs.Tables.{side_by_side, table_fields, table_line, table
 use Rattle.fc_collect.{proofs.KeyedLemmas.{chosen, text_is}, specs.Groups.{belong_together}}
 use Rattle.fc_collect.specs.Groups.{canonical_text, Member, members_among, passage_of}
 use Rattle.fc_collect.specs.{inside.{HasBoard}, Records.{records_of}}
+use Rattle.fc_laws.proofs.HeaderSaysLemmas.{ok-from_HeaderSays}
 use Rattle.fc_laws.proofs.MemberLemmas.{member-IsWellFormed, member-said}
 use Rattle.fc_laws.proofs.SideBySideLemmas.{IsBoardText, side_by_side-apart, side_by_side-cmp}
 use Rattle.fc_laws.proofs.SideBySideLemmas.{side_by_side-high}
@@ -258,7 +259,7 @@ eight_columns variant collection member there =
     let (bytes, says) = member-said variant (records_of collection) member there in
     let are =
     fields_are variant (begins_with header_mark bytes) member (member-IsWellFormed variant (records_of collection) member there)
-    (heading_said variant bytes member.heading says.header) in (
+    (heading_said variant bytes member.heading (ok-from_HeaderSays says.header)) in (
       join_with_byte tab (fields_of member),
       within_line name (drop 1 (fields_of member)) are,
       refl,

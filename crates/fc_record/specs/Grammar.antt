@@ -77,6 +77,7 @@ abbrev pub without_header : Variant → Heading
 without_header variant = record { variant = variant; has_header = false; name = None }
 
 -- what a header says; without one the record has the variant that the run is given
+-- said again: headers_say_their_game_and_name
 abbrev pub heading_of : Variant → List ℕ → Result Heading RecordFault
 heading_of variant bytes =
     if begins_with header_mark bytes then heading_of_words (length (header_line bytes)) (words_from is_gap 1 (drop 1 (header_line bytes)))
@@ -188,6 +189,33 @@ contents_seen contents = record { board = contents.board; lists = contents.lists
 
 -- -------- What it is for a record to be accepted, by what its parts spell and list, and to be refused, by the first part that is at fault. From: this project's profile; the text of the board is Freecell Solver's, and the moves are in standard notation.
 
+-- the record begins with a header line, whose words after the mark are these
+abbrev pub HasHeader : List ℕ → List Piece → Type 0
+HasHeader bytes words =
+    (begins_with header_mark bytes ≡ true) × (words_from is_gap 1 (drop 1 (header_line bytes)) ≡ words)
+
+-- the first of these words names the game of this variant, and the later ones are these
+abbrev pub HasGame : List ℕ → Variant → List Piece → Type 0
+HasGame bytes own later = (word : Piece) × HasHeader bytes (word ∷ later) × (variant_named word.bytes ≡ Some own)
+
+-- there is no header, and the record is of this variant; or its header has the word of a game alone, or this and a name
+pub data HeaderSays (variant : Variant) (bytes : List ℕ) : Heading → Type 0 where
+  no_header : begins_with header_mark bytes ≡ false → HeaderSays variant bytes (without_header variant)
+  game_alone : (own : Variant) → HasGame bytes own [] → HeaderSays variant bytes (with_header own None)
+  game_and_name : (own : Variant) (name : Piece) → HasGame bytes own (name ∷ []) → is_name name.bytes ≡ true
+      → HeaderSays variant bytes (with_header own (Some name.bytes))
+
+-- the header is bad at the end of its line, where it has no word; at its first word, where that names no game;
+-- at its second, where that is no name; or at its third
+pub data BadHeaderAt (bytes : List ℕ) : ℕ → Type 0 where
+  no_word : HasHeader bytes [] → BadHeaderAt bytes (length (header_line bytes))
+  no_game : (word : Piece) (later : List Piece) → HasHeader bytes (word ∷ later) → variant_named word.bytes ≡ None
+      → BadHeaderAt bytes word.start
+  no_name : (own : Variant) (name : Piece) (later : List Piece) → HasGame bytes own (name ∷ later)
+      → is_name name.bytes ≡ false → BadHeaderAt bytes name.start
+  third_word : (own : Variant) (name third : Piece) (later : List Piece) → HasGame bytes own (name ∷ third ∷ later)
+      → is_name name.bytes ≡ true → BadHeaderAt bytes third.start
+
 -- the line lists these moves, those of one card after one mark and those of several after two
 abbrev pub IsList : Game → List ℕ → MoveList → Type 0
 IsList game line (OneCard moves) = (has_two_marks line ≡ false) × Listed (IsToken game) (drop 1 line) moves
@@ -203,7 +231,7 @@ pub data AreLists (game : Game) : List Piece → List MoveList → Type 0 where
 
 -- the header says this, the board text spells the board, and the lines from the first list on are the lists
 pub record RecordSays (variant : Variant) (bytes : List ℕ) (heading : Heading) (contents : Contents) : Type 0 where
-  pub header : heading_of variant bytes ≡ Ok heading
+  pub header : HeaderSays variant bytes heading
   pub board : Spells (game_of heading.variant) (board_part (after_header bytes)) contents.board
   pub lists : AreLists (game_of heading.variant) (list_lines (length bytes - length (after_header bytes)) (after_header bytes)) contents.lists
 
@@ -218,8 +246,11 @@ pub data AreFaulty (game : Game) : List Piece → RecordFault → Type 0 where
 
 -- the header is at fault, which leaves no name; or, where it is read, the board text; or else one of the lines from the first list on
 pub data IsFaulty (variant : Variant) (bytes : List ℕ) : Option (List ℕ) → RecordFault → Type 0 where
-  bad_header : (fault : RecordFault) → heading_of variant bytes ≡ Err fault → IsFaulty variant bytes None fault
-  bad_board : (heading : Heading) → heading_of variant bytes ≡ Ok heading → (fault : BoardFault) → first_fault (game_of heading.variant) (board_part (after_header bytes)) ≡ Some fault
+  bad_header : (place : ℕ) → BadHeaderAt bytes place → IsFaulty variant bytes None (fault_at place kind.BadHeader)
+  bad_board : (heading : Heading) → HeaderSays variant bytes heading → (fault : BoardFault)
+      → first_fault (game_of heading.variant) (board_part (after_header bytes)) ≡ Some fault
       → IsFaulty variant bytes heading.name (fault_at (length bytes - length (after_header bytes) + fault.place) (kind.Board fault.kind))
-  bad_line : (heading : Heading) (board : Board) (fault : RecordFault) → heading_of variant bytes ≡ Ok heading → Spells (game_of heading.variant) (board_part (after_header bytes)) board
-      → AreFaulty (game_of heading.variant) (list_lines (length bytes - length (after_header bytes)) (after_header bytes)) fault → IsFaulty variant bytes heading.name fault
+  bad_line : (heading : Heading) (board : Board) (fault : RecordFault) → HeaderSays variant bytes heading
+      → Spells (game_of heading.variant) (board_part (after_header bytes)) board
+      → AreFaulty (game_of heading.variant) (list_lines (length bytes - length (after_header bytes)) (after_header bytes)) fault
+      → IsFaulty variant bytes heading.name fault

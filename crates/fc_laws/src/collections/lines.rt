@@ -1,6 +1,6 @@
 //! Laws of what a record says and of what is printed for it.
-ghost use Rattle.std.specs.{List.{All, find}, Prelude.{◌++◌, ◌+◌, ◌↔◌, ◌∷◌, ◌≡◌, ◌≢◌, ◌≤◌, []}};
-ghost use Rattle.std.specs.Prelude.{Err, false, List, None, Ok, Option, Some, true, ℕ};
+ghost use Rattle.std.specs.{List.{All, find}, Prelude.{◌++◌, ◌+◌, ◌↔◌, ◌∷◌, ◌≡◌, ◌≢◌, ◌≤◌, ◌⊎◌}};
+ghost use Rattle.std.specs.Prelude.{[], Err, false, List, None, Ok, Option, Some, true, ℕ};
 ghost use Rattle.fc_board.specs.{Boards.{Board, IsWellFormed}, Games.{Game, game_of, renamings_of}};
 ghost use Rattle.fc_board.specs.Moves.{MoveList};
 ghost use Rattle.fc_board.specs.declared.rule.Variant.{Variant};
@@ -10,12 +10,13 @@ ghost use Rattle.fc_text.specs.Notation.{BadTokenAt, IsRunToken, IsToken, TooMan
 ghost use Rattle.fc_text.specs.Spelling.{Spells};
 ghost use Rattle.fc_text.specs.declared.fault.BoardFault.{BoardFault as FoundFault};
 ghost use Rattle.fc_canon.specs.{Canonical, Chosen, chosen_passage, least_text};
-ghost use Rattle.fc_record.specs.Grammar.{Accepted, begins_with, Contents, Heading, IsFaulty};
-ghost use Rattle.fc_record.specs.Grammar.{IsList, list_mark, list_read, reading_of, RecordSays};
-ghost use Rattle.fc_record.specs.Grammar.{Refused, with_header, without_header};
+ghost use Rattle.fc_record.specs.Grammar.{Accepted, BadHeaderAt, begins_with, Contents, fault_at};
+ghost use Rattle.fc_record.specs.Grammar.{HeaderSays, Heading, heading_of, IsFaulty, IsList};
+ghost use Rattle.fc_record.specs.Grammar.{list_mark, list_read, reading_of, RecordSays, Refused};
+ghost use Rattle.fc_record.specs.Grammar.{with_header, without_header};
 ghost use Rattle.fc_record.specs.{Printing.{name_of, show_lines}, RecordTexts.{ends_line}};
 ghost use Rattle.fc_record.specs.declared.record.RecordFault.{RecordFault};
-ghost use Rattle.fc_record.specs.declared.record.RecordFaultKind.TheVariants.{BadToken};
+ghost use Rattle.fc_record.specs.declared.record.RecordFaultKind.TheVariants.{BadHeader, BadToken};
 ghost use Rattle.fc_record.specs.declared.record.RecordFaultKind.TheVariants.{Board as BoardFault};
 ghost use Rattle.fc_record.specs.declared.record.RecordFaultKind.TheVariants.{TooManyMoves};
 ghost use Rattle.fc_collect.specs.{Limits.{most_countable}, Pieces.{header_starts}};
@@ -35,6 +36,19 @@ pub fn records_are_refused_for_their_first_fault()
     ensures { (variant : Variant) (bytes : List ℕ) (name : Option (List ℕ)) (fault : RecordFault)
         → reading_of variant bytes ≡ Refused name fault
         ↔ IsFaulty variant bytes name fault }
+{}
+
+/// A header is read exactly where it says something: nothing but the game that is handed in, the
+/// word of a game, or this and a name. It is refused exactly where it is bad, and one of both holds.
+pub fn headers_say_their_game_and_name()
+    ensures says { (variant : Variant) (bytes : List ℕ) (heading : Heading)
+        → heading_of variant bytes ≡ Ok heading ↔ HeaderSays variant bytes heading }
+    ensures bad { (variant : Variant) (bytes : List ℕ) (fault : RecordFault)
+        → heading_of variant bytes ≡ Err fault
+        ↔ ((place : ℕ) × (fault ≡ fault_at place BadHeader) × BadHeaderAt bytes place) }
+    ensures either { (variant : Variant) (bytes : List ℕ)
+        → ((heading : Heading) × HeaderSays variant bytes heading)
+        ⊎ ((place : ℕ) × BadHeaderAt bytes place) }
 {}
 
 /// What `canon` prints is the canonical text of each board, and the passage that is chosen.
