@@ -1,5 +1,5 @@
 -- Lemmas on counts of cards that two numbers hold by their bits.
-use Rattle.std.proofs.Common.{◌%◌, ◌*◌, ◌++◌, ◌+◌, ◌-◌, ◌/◌, ◌<◌, ◌==◌, ◌^◌, ◌↔◌, ◌∙◌, ◌∷◌, ◌≡◌}
+use Rattle.std.proofs.Common.{◌%◌, ◌*◌, ◌++◌, ◌+◌, ◌/◌, ◌<◌, ◌==◌, ◌^◌, ◌↔◌, ◌∙◌, ◌∷◌, ◌≡◌}
 use Rattle.std.proofs.Common.{◌≢◌, ◌≤◌, [], All, ap, arith, Bool, cond, false, get_or, inl, inr}
 use Rattle.std.proofs.Common.{length, List, MatchOption, min, None, Option, refl, slice_index, Some}
 use Rattle.std.proofs.Common.{SomeIff, subst, sym, take, true, ℕ}
@@ -11,7 +11,7 @@ use Rattle.std.proofs.lemmas.List.Sums.{sum_by-append}
 use Rattle.std.proofs.lemmas.Nat.{and_le_r, or_lt, pow_below}
 use Rattle.std.proofs.lemmas.Nat.Bits.{and_pow, bit_at-lt, bit_at-pow_other, bit_at-pow_same}
 use Rattle.std.proofs.lemmas.Nat.Bits.{bit_at-trailing_ones, bit_at-trailing_zeros, bit_at-zero}
-use Rattle.std.proofs.lemmas.Nat.Bits.{bit_at_and, bit_at_ones, bit_at_or, same_from_bits}
+use Rattle.std.proofs.lemmas.Nat.Bits.{bit_at_and, bit_at_ones, bit_at_or}
 use Rattle.std.proofs.lemmas.Nat.Bits.{same_from_bits_below}
 use Rattle.std.specs.Int.{bit_at, trailing_ones, trailing_zeros, w64}
 use Rattle.std.specs.Int.Bits.{bit_and, bit_or}
@@ -59,52 +59,18 @@ one_added old new place card is in_deck more other other_in_deck =
     let bit = ap (λ bits. bit_at bits other) (one_bit place card is in_deck) ∙ bit_of_one card other in
     omega (arith, more other other_in_deck, bit)
 
--- ---- one card that is counted once more
-set_already : (number card : ℕ) → bit_at number card ≡ 1 → bit_or number (2 ^ card) ≡ number
-set_already number card set = same_from_bits (bit_or number (2 ^ card)) number (λ i. elim (cases_eq i card) [
-  | inl same ↦ omega (arith, bit_at_or number (2 ^ card) i, ap (bit_at number) same, set, bit_at-lt (2 ^ card) i)
-  | inr other ↦ omega (arith, bit_at_or number (2 ^ card) i, bit_at-pow_other card i other)
-])
-
-or_none : (number : ℕ) → bit_or number 0 ≡ number
-or_none number = same_from_bits (bit_or number 0) number (λ i. omega (arith, bit_at_or number 0 i, bit_at-zero i))
-
--- the card has a count already, or it has none
-pub record Inserted (once twice new_once new_twice card count : ℕ) : Type 0 where
-  pub kept : AreCounts new_once new_twice
-  pub counted : Counts (counts_of once twice) (counts_of new_once new_twice) (card ∷ [])
-  pub before : min (slice_index (counts_of once twice) card) 1 ≡ count
-
-module _ (once twice place card : ℕ) (are : AreCounts once twice) (is : place ≡ card) (in_deck : IsCard card) where
-  bit : ℕ
-  bit = 1 * 2 ^ place % 18446744073709551616
-
-  inserted : (both count : ℕ) → bit_and once bit ≡ both → bit_at once card ≡ count → Inserted once twice (bit_or once bit) (bit_or twice both) card count
-  unfolding bit
-  inserted both count and set = subst (λ both. Inserted once twice (bit_or once bit) (bit_or twice both) card count) and (record {
-    kept = AreCounts-add once twice bit are (one_below place card is in_deck);
-    counted = one_added (counts_of once twice) (counts_of (bit_or once bit) (bit_or twice (bit_and once bit))) place card is in_deck (λ other within. added once twice bit other are within);
-    before = omega (arith, count_at once twice card in_deck, are.again card, set, bit_at-lt once card);
-  })
-
-  pub again_inserted : bit_or once (1 * 2 ^ place % 18446744073709551616) ≡ once → Inserted once twice once (bit_or twice (1 * 2 ^ place % 18446744073709551616)) card 1
-  unfolding bit
-  again_inserted same =
-      let one = one_bit place card is in_deck in
-      let set : bit_at once card ≡ 1 = omega (arith, ap (λ n. bit_at n card) (sym same ∙ ap (bit_or once) one), bit_at_or once (2 ^ card) card, bit_at-pow_same card, bit_at-lt once card) in
-      let both : bit_and once bit ≡ bit = ap (bit_and once) one ∙ and_pow once card ∙ ap (λ n. n * 2 ^ card) set ∙ (let once_only : 1 * 2 ^ card ≡ 2 ^ card = omega arith in once_only) ∙ sym one in
-      subst (λ new. Inserted once twice new (bit_or twice bit) card 1) same (inserted bit 1 both set)
-
-  pub first_inserted : bit_or once (1 * 2 ^ place % 18446744073709551616) ≢ once → Inserted once twice (bit_or once (1 * 2 ^ place % 18446744073709551616)) twice card 0
-  unfolding bit
-  first_inserted other =
-      let one = one_bit place card is in_deck in
-      let set : bit_at once card ≡ 0 = elim (cases_eq (bit_at once card) 1) [
-        | inl set ↦ absurd (other (ap (bit_or once) one ∙ set_already once card set))
-        | inr none ↦ omega (arith, none, bit_at-lt once card)
-      ] in
-      let both : bit_and once bit ≡ 0 = ap (bit_and once) one ∙ and_pow once card ∙ ap (λ n. n * 2 ^ card) set ∙ (let nothing : 0 * 2 ^ card ≡ 0 = omega arith in nothing) in
-      subst (λ new. Inserted once twice (bit_or once bit) new card 0) (or_none twice) (inserted 0 0 both set)
+-- the bit of a card is not set where the card has no count
+pub none_of_card : (once twice place card : ℕ) → AreCounts once twice → place ≡ card → IsCard card
+    → (bit_and once (1 * 2 ^ place % 18446744073709551616) ≡ 0) ↔ (slice_index (counts_of once twice) card ≡ 0)
+none_of_card once twice place card are is in_deck =
+    let one = one_bit place card is in_deck in
+    let count = count_at once twice card in_deck in (
+      λ none. omega (arith, count, are.again card, ap (λ n. bit_at n card) (sym (ap (bit_and once) one) ∙ none), bit_at_and once (2 ^ card) card, bit_at-pow_same card, bit_at-zero card),
+      λ none.
+          let unset : bit_at once card ≡ 0 = omega (arith, count, none) in
+          let nothing : 0 * 2 ^ card ≡ 0 = omega arith in
+          ap (bit_and once) one ∙ and_pow once card ∙ ap (λ n. n * 2 ^ card) unset ∙ nothing,
+    )
 
 -- ---- cards in a row
 -- new counts these cards besides, which are cards of the deck
@@ -145,8 +111,12 @@ AreCountsOf-append old new cards more are counted is = record {
 }
 
 -- ---- the first cards of a suit
+-- the bits of no club, of the ace of clubs, and so on up to all clubs
+abbrev clubs_up_to : List ℕ
+clubs_up_to = 0 ∷ 1 ∷ 17 ∷ 273 ∷ 4369 ∷ 69905 ∷ 1118481 ∷ 17895697 ∷ 286331153 ∷ 4581298449 ∷ 73300775185 ∷ 1172812402961 ∷ 18764998447377 ∷ 300239975158033 ∷ []
+
 abbrev suit_bits : ℕ → ℕ → ℕ
-suit_bits suit height = (1 * 2 ^ (4 * height) % 18446744073709551616 - 1) / 15 * 2 ^ suit % 18446744073709551616
+suit_bits suit height = get_or clubs_up_to height 0 * 2 ^ suit % 18446744073709551616
 
 abbrev suit_test : ℕ → ℕ → ℕ → Bool
 suit_test suit height card = bit_at (suit_bits suit height) card == cond (is_up_to suit height card) 1 0

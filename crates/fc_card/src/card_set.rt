@@ -91,13 +91,9 @@ impl CardSet {
         ensures in_deck { IsCard card }
     {
         let bit = 1 << card.number();
-        let once = self.once | bit;
-        if once == self.once {
-            self.twice |= bit;
-            return false;
-        }
-        self.once = once;
-        true
+        let is_first = self.once & bit == 0;
+        self.add(bit);
+        is_first
     }
 
     /// Counts each of the cards once more.
@@ -164,6 +160,24 @@ impl CardSet {
     }
 }
 
+/// The bits of no club, of the ace of clubs, and so on up to all clubs.
+static CLUBS_UP_TO: [u64; 14] = [
+    0,
+    0x1,
+    0x11,
+    0x111,
+    0x1111,
+    0x1_1111,
+    0x11_1111,
+    0x111_1111,
+    0x1111_1111,
+    0x1_1111_1111,
+    0x11_1111_1111,
+    0x111_1111_1111,
+    0x1111_1111_1111,
+    0x1_1111_1111_1111,
+];
+
 /// A bit of each of the first cards of the suit, from the ace on so many: of the card of number n
 /// bit n.
 #[inline(always)]
@@ -173,6 +187,6 @@ fn bits_up_to(suit: Suit, height: u8) -> u64
     ensures bits { (card : ℕ) → IsCard card → bit_at result card
         ≡ (if is_up_to (suit_number suit) height card then 1 else 0) }
 {
-    let clubs = ((1 << (4 * height)) - 1) / 15;
+    let clubs = CLUBS_UP_TO[usize::from(height)];
     clubs << suit.number()
 }

@@ -12,7 +12,7 @@ few H = omega arith
 few S = omega arith
 
 pub returns-clause-below : goal.returns-clause-below
-returns-clause-below c = rw c.number.ensures (suit_bits-below (suit_number c.args.suit) c.args.height (few c.args.suit) c.requires)
+returns-clause-below c = rw (c.number.ensures, c.from.ensures) (suit_bits-below (suit_number c.args.suit) c.args.height (few c.args.suit) c.requires)
 
 pub returns-clause-bits : goal.returns-clause-bits
-returns-clause-bits c = rw c.number.ensures (λ card in_deck. suit_bits-is_up_to (suit_number c.args.suit) c.args.height card (few c.args.suit) c.requires in_deck)
+returns-clause-bits c = rw (c.number.ensures, c.from.ensures) (λ card in_deck. suit_bits-is_up_to (suit_number c.args.suit) c.args.height card (few c.args.suit) c.requires in_deck)
