@@ -34,7 +34,9 @@ impl<R: Rule> Board<R> {
         ensures refused { IfErr result
             (λ fault. run_refusal R.game self.now (One mv) ≡ Some fault) }
     {
-        self.movable_card(mv)?;
+        if let Some(fault) = self.refusal(mv) {
+            return Err(fault);
+        }
         let mut moves = ArrayVec::new();
         moves.push(mv);
         Ok(moves)

@@ -23,7 +23,25 @@ impl<R: Rule> Board<R> {
         ensures unchanged { IfErr result (λ _. self.new ≡ self.old) }
         ensures well_formed { IsWellFormed R.game self.new }
     {
-        let card = self.movable_card(mv)?;
+        if let Some(fault) = self.refusal(mv) {
+            return Err(fault);
+        }
+        self.step_allowed(mv);
+        Ok(())
+    }
+
+    /// Moves one card as `step` does, where the game is known to allow the move: no test is made
+    /// again.
+    #[inline(always)]
+    pub fn step_allowed(&mut self, mv: Move)
+        requires fits { Fits R.game mv }
+        requires allowed { refusal R.game self.old mv ≡ None }
+        ensures step { Step R.game self.old mv self.new }
+        ensures well_formed { IsWellFormed R.game self.new }
+    {
+        let Some(card) = self.card_at(mv.from) else {
+            unreachable!();
+        };
         take_off(&mut self.cells, &mut self.columns, mv.from);
         put_on(
             &mut self.heights,
@@ -32,7 +50,6 @@ impl<R: Rule> Board<R> {
             card,
             mv.to,
         );
-        Ok(())
     }
 
     /// Whether the game allows the move.
@@ -40,24 +57,23 @@ impl<R: Rule> Board<R> {
         requires fits { Fits R.game mv }
         ensures allowed { result ≡ is_none (refusal R.game self.now mv) }
     {
-        self.movable_card(mv).is_ok()
+        self.refusal(mv).is_none()
     }
 
-    /// The card that the move takes, or why the game refuses the move.
+    /// Why the game refuses the move.
     #[inline(always)]
-    pub(super) fn movable_card(&self, mv: Move) -> Result<Card, StepFault>
+    pub(super) fn refusal(&self, mv: Move) -> Option<StepFault>
         requires { Fits R.game mv }
-        ensures card { IfOk result (λ card. card_at self.now mv.from ≡ Some card) }
-        ensures allowed { IfOk result (λ _. refusal R.game self.now mv ≡ None) }
-        ensures refused { IfErr result (λ fault. refusal R.game self.now mv ≡ Some fault) }
+        ensures value { result ≡ refusal R.game self.now mv }
+        ensures well_formed { IsWellFormed R.game self.now }
     {
+        let found = self.card_at(mv.from);
         if is_same_pile(mv.from, mv.to) {
-            return Err(StepFault::SamePile);
+            return Some(StepFault::SamePile);
         }
-        let card = self.card_at(mv.from).ok_or(StepFault::EmptySource)?;
-        match self.place_refusal(card, mv.to) {
-            Some(fault) => Err(fault),
-            None => Ok(card),
+        match found {
+            Some(card) => self.place_refusal(card, mv.to),
+            None => Some(StepFault::EmptySource),
         }
     }
 
@@ -65,7 +81,8 @@ impl<R: Rule> Board<R> {
     #[inline(always)]
     pub fn card_at(&self, source: Source) -> Option<Card>
         requires { SourceFits R.game source }
-        ensures { result ≡ card_at self.now source }
+        ensures value { result ≡ card_at self.now source }
+        ensures well_formed { IsWellFormed R.game self.now }
     {
         match source {
             Source::Column(column) => self.columns.column(usize::from(column)).last().copied(),
