@@ -1,7 +1,6 @@
 //! Boards in 32 bytes, whatever the order of their columns and of their cells.
 mod digits;
 mod number;
-mod order;
 mod pieces;
 mod row;
 
