@@ -22,6 +22,7 @@ PLACES = PROGRAM=$(PROGRAM) DESTDIR=$(DESTDIR) PREFIX=$(PREFIX) BIN=$(BIN) \
 	BINDINGS=$(BINDINGS) BASH_COMPLETIONS=$(BASH_COMPLETIONS) \
 	ZSH_COMPLETIONS=$(ZSH_COMPLETIONS) FISH_COMPLETIONS=$(FISH_COMPLETIONS)
 CRATE =
+MADE =
 MINUTES = 60
 LAST = 32000
 
@@ -68,11 +69,11 @@ chaos: library needs-python3 needs-cc ## tries input made by chance, for so many
 	@tests/library/chaos build
 	@tests/chaos build/fcanon $(MINUTES)
 
-edits: needs-rt needs-python3 ## tries all wrong bodies, or CRATE=fc_text, CRATE=fc_text/ten-as-ace
-	@tests/edits $(CRATE)
+edits: needs-rt needs-python3 ## tries all wrong bodies, or CRATE=fc_text, or MADE=60 that a machine makes
+	@made="$(MADE)"; tests/edits $${made:+--made $$made} $(CRATE)
 
-mutants: needs-rt needs-python3 needs-cc ## says which wrong bodies the test cases see, or of CRATE=fc_record
-	@tests/mutants $(CRATE)
+mutants: needs-rt needs-python3 needs-cc ## says which wrong bodies the test cases see, or of CRATE=.., MADE=60
+	@made="$(MADE)"; tests/mutants $${made:+--made $$made} $(CRATE)
 
 # Nothing is proved here, so that root needs no toolchain.
 install: ## copies what is built below PREFIX=/usr/local

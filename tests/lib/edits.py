@@ -2,14 +2,17 @@
 
 import re
 
-from lib.paths import CRATES
+from lib.paths import CRATES, TESTS
 
 FUNCTION = re.compile(r"\s*(?:pub(?:\((?:crate|super)\))? )?(?:const )?(?:unsafe )?(?:extern \"C\" )?fn (\w+)")
 ITEM = re.compile(r"(?:pub(?:\((?:crate|super)\))? )?(?:static|const|struct|enum|impl|trait)\b")
 
 
 class Edit:
-    """A wrong body, or the right twin of one: its name and, for each text that it replaces, the file, the text and the new one."""
+    """A wrong body, or the right twin of one: its name and, for each text that it replaces, the file, the text and the new one.
+
+    A twin may have an answer of its own in a file of proofs, where `\\n` stands for the end of a line.
+    """
 
     def __init__(self, name, pairs, right=False):
         self.name = name
@@ -18,7 +21,7 @@ class Edit:
 
     def function(self, crate):
         """The name of the function that the edit is in, or None if it is in none, or in several."""
-        names = {enclosing((crate / file).read_text(), old) for file, old, _ in self.pairs}
+        names = {enclosing((crate / file).read_text(), old) for file, old, _ in self.pairs if file.endswith(".rt")}
         return names.pop() if len(names) == 1 else None
 
     def plant(self, crate):
@@ -27,7 +30,7 @@ class Edit:
             text = (crate / file).read_text()
             if text.count(old) != 1:
                 return False
-            (crate / file).write_text(text.replace(old, new))
+            (crate / file).write_text(text.replace(old, new.replace("\\n", "\n") if file.endswith(".antt") else new))
         return True
 
 
@@ -99,3 +102,14 @@ def chosen_of(names, edits):
         else:
             chosen[crate] = sorted({*chosen.get(crate, []), *wanted})
     return chosen, unknown
+
+
+def survivors():
+    """Why the mutants survive that tests/survivors names, by their names: each line that is not indented is the reason of those below."""
+    found, reason = {}, ""
+    for line in (TESTS / "survivors").read_text().splitlines():
+        if line.startswith(" "):
+            found |= dict.fromkeys(line.split(), reason)
+        elif not line.startswith("#"):
+            reason = line
+    return found

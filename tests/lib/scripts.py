@@ -2,6 +2,8 @@
 
 import subprocess
 import time
+from importlib.machinery import SourceFileLoader
+from importlib.util import module_from_spec, spec_from_loader
 from typing import NamedTuple
 
 
@@ -35,3 +37,11 @@ def program_file(file, text):
     file.write_text(text)
     file.chmod(0o755)
     return file
+
+
+def module_of(file):
+    """A script as a module, which has the script's functions and does not run it."""
+    loader = SourceFileLoader(file.parent.name + "_" + file.name, str(file))
+    module = module_from_spec(spec_from_loader(loader.name, loader))
+    loader.exec_module(module)
+    return module
