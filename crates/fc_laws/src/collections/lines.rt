@@ -38,8 +38,9 @@ pub fn records_are_refused_for_their_first_fault()
         ↔ IsFaulty variant bytes name fault }
 {}
 
-/// A header is read exactly where it says something: nothing but the game that is handed in, the
-/// word of a game, or this and a name. It is refused exactly where it is bad, and one of both holds.
+/// A header is read as what it says: the word of a game, or this and a name. Where there is none,
+/// the game is the one that is handed in. Any other header is refused at the place where it is
+/// bad.
 pub fn headers_say_their_game_and_name()
     ensures says { (variant : Variant) (bytes : List ℕ) (heading : Heading)
         → heading_of variant bytes ≡ Ok heading ↔ HeaderSays variant bytes heading }
