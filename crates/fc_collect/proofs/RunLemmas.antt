@@ -12,17 +12,7 @@ use Rattle.fc_board.specs.declared.rule.Variant.{Variant}
 use Rattle.fc_record.specs.{Grammar.{Contents, Heading}, Printing.{is_refused}}
 use Rattle.fc_record.specs.RecordTexts.{RecordText}
 use Rattle.fc_record.specs.declared.record.RecordFault.{RecordFault}
-use Rattle.fc_collect.{
-  proofs.{PrintingLemmas.{outputs_after-append}, RecordLemmas.{begun-append, begun-number}},
-  proofs.RecordLemmas.{begun-place, cut-append, finished_among-append, records_among-last},
-  specs.{Groups.{Member}, inside.{begun_in, ConsumedRead, cut_in, FillsWindow, Finished}},
-  specs.inside.{finished_in, Finishes, IsAllowed, last_output, printed_after, records_in},
-  specs.{inside.{SendsSome, TakeUpFault, text_at}, Limits.{AreCountable}, Promises.{Begins}},
-  specs.Promises.{CountsRecords, IsSmall, IsWithinLimits, ReadsAsCounted, ResultCounts, ResultFits},
-  specs.{Promises.{Transfers}, Records.{begun, cut, finished, finished_from, first_of, if_record}},
-  specs.Records.{outputs_after, records_among, records_from},
-  specs.Streams.{counts_of, GrowsBy, HasRoom, inner_of, one_more_if},
-}
+use Rattle.fc_collect.{proofs.{PrintingLemmas.{outputs_after-append}, RecordLemmas.{begun-append, begun-number}}, proofs.RecordLemmas.{begun-place, cut-append, finished_among-append, records_among-last}, specs.{Groups.{Member}, inside.{begun_in, ConsumedRead, cut_in, FillsWindow, Finished}}, specs.inside.{finished_in, Finishes, IsAllowed, last_output, printed_after, records_in}, specs.{inside.{SendsSome, TakeUpFault, text_at}, Limits.{AreCountable}, Promises.{Begins}}, specs.Promises.{IsSmall, IsWithinLimits, OutputOf, Printing, ReadsAsCounted, ResultCounts}, specs.{Promises.{ResultFits, Transfers, whole_of}, Records.{begun, cut, finished, finished_from}}, specs.Records.{first_of, if_record, outputs_after, records_among}, specs.Streams.{counts_of, GrowsBy, HasRoom, inner_of, one_more_if, StreamBytes}}
 use Rattle.fc_collect.specs.declared.engine.progress.Progress.{Progress}
 use Rattle.fc_collect.specs.declared.streams.{counted.Counted.{Counted}, faults.RunFault.{RunFault}}
 use Rattle.fc_collect.specs.declared.streams.faults.RunFault.TheVariants.{Memory, Read}
@@ -46,9 +36,13 @@ run_of refusal lines variant limits = record { limits = limits; output_of = prin
 abbrev pub output_to : Run → (read : List ℕ) → List ℕ
 output_to run read = outputs_after run.output_of [] (finished_from run.limits read)
 
+-- what is printed, where this is at the end
+abbrev pub printing_by : Run → (ending : List RecordText → List ℕ) → Printing
+printing_by run ending = record { output = outputs_after run.output_of []; ending = ending; refuses = run.refuses }
+
 -- what is printed for all records, as they come and at the end
 abbrev pub all_output : Run → (ending : List RecordText → List ℕ) → (read : List ℕ) → List ℕ
-all_output run ending read = outputs_after run.output_of [] (records_from run.limits read) ++ ending (records_from run.limits read)
+all_output run ending = whole_of run.limits (printing_by run ending)
 
 -- both streams, with what the input has left and what is written to the output
 pub record Ends (R W : Type 0) : Type 0 where
@@ -60,6 +54,10 @@ pub record Ends (R W : Type 0) : Type 0 where
 -- both streams, as they are now
 abbrev pub ends_of : {R W : Type 0} → (remaining : R → Option (List ℕ)) → (contents : W → Option (List ℕ)) → Counted R → Counted W → Ends R W
 ends_of remaining contents input output = record { input = input; left = remaining (inner_of input); output = output; written = contents (inner_of output) }
+
+-- the bytes of both streams, from the start on
+abbrev pub bytes_from : {R W : Type 0} → Ends R W → (left after : Option (List ℕ)) → StreamBytes
+bytes_from start left after = record { input = start.left; left = left; before = start.written; after = after }
 
 -- the streams, the place in the collection, and what is held and pending, after so many turns
 pub record State (R W : Type 0) : Type 0 where
@@ -219,7 +217,7 @@ pub limits_none : (limits : Limits) → AreCountable limits → IsWithinLimits l
 limits_none limits some = record { bytes = omega (arith, some.place); texts = All-cons (IsSmall limits) (first_of limits) [] (record { bytes = omega arith; number = some.some }) (All-nil (IsSmall limits)) }
 
 pub bytes_none : (run : Run) → AreCountable run.limits → (ending : List RecordText → List ℕ) (input output : Option (List ℕ))
-    → Transfers (ResultFits run.limits (outputs_after run.output_of []) run.refuses ending) input input output output (Err Memory)
+    → Transfers (ResultFits run.limits (printing_by run ending)) (record { input = input; left = input; before = output; after = output }) (Err Memory)
 bytes_none run some ending input output = record {
   read = [];
   written = [];
@@ -293,7 +291,7 @@ pub take_up_bytes : {R W : Type 0} (run : Run) (ending : List RecordText → Lis
     → Running run keeps start old
     → FillsWindow old.held joined old.ends.left left given → searched ≡ length old.held
     → ((seen : List RecordText) → keeps seen → TakeUpFault run.limits (outputs_after run.output_of seen) old.progress joined searched old.ends.written after fault)
-    → Transfers (ResultFits run.limits (outputs_after run.output_of []) run.refuses ending) start.left left start.written after (Err fault)
+    → Transfers (ResultFits run.limits (printing_by run ending)) (bytes_from start left after) (Err fault)
 take_up_bytes run ending keeps start old left after joined given searched fault so_far filled all fits = by_fault fault (fits (finished_from run.limits so_far.read) so_far.holds)
   where
     read : List ℕ
@@ -327,8 +325,8 @@ take_up_bytes run ending keeps start old left after joined given searched fault 
     Begun : List ℕ → Type 0
     Begun written = IsWithinLimits run.limits (read ++ more) × Begins written (all_output run ending (read ++ more))
 
-    some_out : (fault : RunFault) → ((written : List ℕ) → Begun written → ResultFits run.limits (outputs_after run.output_of []) run.refuses ending (read ++ more) left written (Err fault))
-        → IsAllowed run.limits old.progress joined searched × SendsSome (outputs_after run.output_of (finished_from run.limits read) (records_in old.progress joined searched)) [] old.ends.written after → Transfers (ResultFits run.limits (outputs_after run.output_of []) run.refuses ending) start.left left start.written after (Err fault)
+    some_out : (fault : RunFault) → ((written : List ℕ) → Begun written → ResultFits run.limits (printing_by run ending) (record { read = read ++ more; left = left; written = written }) (Err fault))
+        → IsAllowed run.limits old.progress joined searched × SendsSome (outputs_after run.output_of (finished_from run.limits read) (records_in old.progress joined searched)) [] old.ends.written after → Transfers (ResultFits run.limits (printing_by run ending)) (bytes_from start left after) (Err fault)
     some_out fault fits f = record {
       read = read ++ more;
       written = output_to run read ++ f.1.written;
@@ -337,7 +335,7 @@ take_up_bytes run ending keeps start old left after joined given searched fault 
       fits = fits (output_to run read ++ f.1.written) (limits_joined joins so_far.within f.0, follows f.1.written f.1.begins);
     }
 
-    by_fault : (fault : RunFault) → TakeUpFault run.limits (outputs_after run.output_of (finished_from run.limits read)) old.progress joined searched old.ends.written after fault → Transfers (ResultFits run.limits (outputs_after run.output_of []) run.refuses ending) start.left left start.written after (Err fault)
+    by_fault : (fault : RunFault) → TakeUpFault run.limits (outputs_after run.output_of (finished_from run.limits read)) old.progress joined searched old.ends.written after fault → Transfers (ResultFits run.limits (printing_by run ending)) (bytes_from start left after) (Err fault)
     by_fault Read f = absurd f
     by_fault Write f = some_out Write (λ written fits. fits) f
     by_fault Memory f = some_out Memory (λ written fits. fits) f
@@ -366,7 +364,7 @@ pub finish_bytes : {R W : Type 0} (run : Run) (ending : List RecordText → List
     → given ≡ 0 → FillsWindow old.held joined old.ends.left left given → shown ≡ joined
     → ((seen : List RecordText) → keeps seen → old.progress.number ≡ run.limits.number + length seen → old.progress.refused ≡ count_by run.refuses seen
     → Finishes run.limits.number (last_output (outputs_after run.output_of seen) ending seen (text_at old.progress shown)) run.refuses old.progress (text_at old.progress shown) old.ends.written after result)
-    → Transfers (ResultFits run.limits (outputs_after run.output_of []) run.refuses ending) start.left left start.written after result
+    → Transfers (ResultFits run.limits (printing_by run ending)) (bytes_from start left after) result
 finish_bytes run ending keeps start old left after joined shown given result so_far none filled is_shown fits =
     by_result result (subst (λ text. Finishes run.limits.number (last_output (outputs_after run.output_of seen) ending seen text) run.refuses old.progress text old.ends.written after result)
     is_last (fits seen so_far.holds (begun_number run.limits so_far.read old.held old.progress so_far.begins) so_far.refused))
@@ -395,8 +393,11 @@ finish_bytes run ending keeps start old left after joined shown given result so_
     begins : (front : List ℕ) → Begins front output → Begins (output_to run read ++ front) (all_output run ending read)
     begins front (rest, e) = (rest, append_assoc (output_to run read) front rest ∙ ap (λ l. output_to run read ++ l) e ∙ sym (whole_last run ending read))
 
-    counts : (summary : Summary) → Finished run.limits.number output run.refuses old.progress last old.ends.written after summary → CountsRecords run.limits run.refuses read summary
-    counts summary f = record {
+    whole : (summary : Summary) → Finished run.limits.number output run.refuses old.progress last old.ends.written after summary
+        → OutputOf run.limits (printing_by run ending) read (output_to run read ++ output) summary
+    whole summary f = record {
+      within = so_far.within;
+      whole = sym (whole_last run ending read);
       records =
           let number = begun_number run.limits read old.held old.progress so_far.begins in
           let more : length (seen ++ if_record last) ≡ length seen + length (if_record last) = length-append seen (if_record last) in
@@ -411,8 +412,8 @@ finish_bytes run ending keeps start old left after joined shown given result so_
     Begun : List ℕ → Type 0
     Begun written = IsWithinLimits run.limits read × Begins written (all_output run ending read)
 
-    some_out : (fault : RunFault) → ((written : List ℕ) → Begun written → ResultFits run.limits (outputs_after run.output_of []) run.refuses ending read left written (Err fault))
-        → SendsSome output [] old.ends.written after → Transfers (ResultFits run.limits (outputs_after run.output_of []) run.refuses ending) start.left left start.written after (Err fault)
+    some_out : (fault : RunFault) → ((written : List ℕ) → Begun written → ResultFits run.limits (printing_by run ending) (record { read = read; left = left; written = written }) (Err fault))
+        → SendsSome output [] old.ends.written after → Transfers (ResultFits run.limits (printing_by run ending)) (bytes_from start left after) (Err fault)
     some_out fault fits f = record {
       read = read;
       written = output_to run read ++ f.written;
@@ -421,13 +422,13 @@ finish_bytes run ending keeps start old left after joined shown given result so_
       fits = fits (output_to run read ++ f.written) (so_far.within, begins f.written f.begins);
     }
 
-    by_result : (result : Result Summary RunFault) → Finishes run.limits.number output run.refuses old.progress last old.ends.written after result → Transfers (ResultFits run.limits (outputs_after run.output_of []) run.refuses ending) start.left left start.written after result
+    by_result : (result : Result Summary RunFault) → Finishes run.limits.number output run.refuses old.progress last old.ends.written after result → Transfers (ResultFits run.limits (printing_by run ending)) (bytes_from start left after) result
     by_result (Ok summary) f = record {
       read = read;
       written = output_to run read ++ output;
       consumed = consumed;
       appended = appended output f.written;
-      fits = (so_far.within, filled.ended none, sym (whole_last run ending read), counts summary f);
+      fits = (filled.ended none, whole summary f);
     }
     by_result (Err Read) f = absurd f.0
     by_result (Err Write) f = some_out Write (λ written fits. fits) f.1

@@ -5,7 +5,7 @@ use Rattle.std.specs.Prelude.{true, ℕ}
 use Rattle.fc_record.specs.RecordTexts.{RecordText}
 use Rattle.fc_collect.specs.Limits.{most_record_bytes}
 use Rattle.fc_collect.specs.Records.{cut, finished_from, first_of, records_from}
-use Rattle.fc_collect.specs.Streams.{CallCounts, GrowsBy, is_flushed}
+use Rattle.fc_collect.specs.Streams.{CallCounts, GrowsBy, is_flushed, StreamBytes}
 use Rattle.fc_collect.specs.declared.streams.{counted.Counted.{Counted}, faults.RunFault.{RunFault}}
 use Rattle.fc_collect.specs.declared.streams.faults.RunFault.TheVariants.{Read, ReaderNeverEnds}
 use Rattle.fc_collect.specs.declared.streams.faults.RunFault.TheVariants.{TooLarge, Write}
@@ -78,24 +78,41 @@ pub record ReadsAsCounted {R A : Type 0} (limits : Limits) (old new : Counted R)
 
 -- ---- bytes
 
--- the counts of a run are those of the records that were read
-pub record CountsRecords (limits : Limits) (refuses : RecordText → Bool) (read : List ℕ) (summary : Summary) : Type 0 where
-  pub records : summary.records ≡ length (records_from limits read)
-  pub refused : summary.refused ≡ count_by refuses (records_from limits read)
+-- what a run transferred: the bytes that went in, those that its input has left, and the bytes that went out
+pub record Transfer : Type 0 where
+  pub read : List ℕ
+  pub left : Option (List ℕ)
+  pub written : List ℕ
 
--- how what was read, what the input has left and what was written go with each result, where this is printed for records as they come, and that at the end for all of them
-abbrev pub ResultFits : Limits → (List RecordText → List ℕ) → (RecordText → Bool) → (List RecordText → List ℕ) → List ℕ → Option (List ℕ) → List ℕ → Result Summary RunFault → Type 0
-ResultFits limits output refuses ending read left written (Ok summary) =
-    IsWithinLimits limits read × IsAtEnd left × (written ≡ output (records_from limits read) ++ ending (records_from limits read)) × CountsRecords limits refuses read summary
-ResultFits limits output refuses ending read left written (Err Read) = IsWithinLimits limits read × (written ≡ output (finished_from limits read))
-ResultFits limits output refuses ending read left written (Err ReaderNeverEnds) = IsWithinLimits limits read × (written ≡ output (finished_from limits read))
-ResultFits limits output refuses ending read left written (Err TooLarge) = (¬ IsWithinLimits limits read) × Begins written (output (records_from limits read) ++ ending (records_from limits read))
-ResultFits limits output refuses ending read left written (Err fault) = IsWithinLimits limits read × Begins written (output (records_from limits read) ++ ending (records_from limits read))
+-- what is printed for records as they come, and at the end for all of them; and which are refused
+pub record Printing : Type 0 where
+  pub output : List RecordText → List ℕ
+  pub ending : List RecordText → List ℕ
+  pub refuses : RecordText → Bool
+
+-- all that is printed for the records of these bytes
+abbrev pub whole_of : Limits → Printing → (read : List ℕ) → List ℕ
+whole_of limits printing read = printing.output (records_from limits read) ++ printing.ending (records_from limits read)
+
+-- what was read passes no limit, all that is printed for its records was written, and they were counted
+pub record OutputOf (limits : Limits) (printing : Printing) (read written : List ℕ) (summary : Summary) : Type 0 where
+  pub within : IsWithinLimits limits read
+  pub whole : written ≡ whole_of limits printing read
+  pub records : summary.records ≡ length (records_from limits read)
+  pub refused : summary.refused ≡ count_by printing.refuses (records_from limits read)
+
+-- how each result goes with what was transferred. A run that stops in reading has written what is printed for the records that a header ends; at another fault the output may end anywhere
+abbrev pub ResultFits : Limits → Printing → Transfer → Result Summary RunFault → Type 0
+ResultFits limits printing bytes (Ok summary) = IsAtEnd bytes.left × OutputOf limits printing bytes.read bytes.written summary
+ResultFits limits printing bytes (Err Read) = IsWithinLimits limits bytes.read × (bytes.written ≡ printing.output (finished_from limits bytes.read))
+ResultFits limits printing bytes (Err ReaderNeverEnds) = IsWithinLimits limits bytes.read × (bytes.written ≡ printing.output (finished_from limits bytes.read))
+ResultFits limits printing bytes (Err TooLarge) = (¬ IsWithinLimits limits bytes.read) × Begins bytes.written (whole_of limits printing bytes.read)
+ResultFits limits printing bytes (Err fault) = IsWithinLimits limits bytes.read × Begins bytes.written (whole_of limits printing bytes.read)
 
 -- some bytes went in and some went out, and they fit the result
-pub record Transfers (Fits : (read : List ℕ) → (left : Option (List ℕ)) → (written : List ℕ) → Result Summary RunFault → Type 0) (input left before after : Option (List ℕ)) (result : Result Summary RunFault) : Type 0 where
+pub record Transfers (Fits : Transfer → Result Summary RunFault → Type 0) (streams : StreamBytes) (result : Result Summary RunFault) : Type 0 where
   pub read : List ℕ
   pub written : List ℕ
-  pub consumed : Consumes input left read
-  pub appended : Appends before after written
-  pub fits : Fits read left written result
+  pub consumed : Consumes streams.input streams.left read
+  pub appended : Appends streams.before streams.after written
+  pub fits : Fits (record { read = read; left = streams.left; written = written }) result

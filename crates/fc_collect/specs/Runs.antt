@@ -10,16 +10,17 @@ use Rattle.fc_record.specs.RecordTexts.{RecordText}
 use Rattle.fc_record.specs.Tables.{refusal_object, table_header, table_line, table_object}
 use Rattle.fc_collect.specs.Groups.{belong_together, figures, figures_line, figures_object}
 use Rattle.fc_collect.specs.Groups.{group_lines, grouped, Member, members_among, passage_between}
-use Rattle.fc_collect.specs.Groups.{share_lines, summary_of, unique_output}
-use Rattle.fc_collect.specs.Promises.{ReadsAsCounted, ResultFits, Transfers, WritesAsCounted}
-use Rattle.fc_collect.specs.{Records.{outputs_after}, Streams.{inner_of}}
+use Rattle.fc_collect.specs.{Groups.{share_lines, summary_of, unique_output}, Promises.{Printing}}
+use Rattle.fc_collect.specs.Promises.{ReadsAsCounted, ResultFits, Transfer, Transfers}
+use Rattle.fc_collect.specs.{Promises.{WritesAsCounted}, Records.{outputs_after}}
+use Rattle.fc_collect.specs.Streams.{bytes_of, Stream, StreamBytes}
 use Rattle.fc_collect.specs.declared.commands.CountFormat.{CountFormat, TheVariants.{Words}}
 use Rattle.fc_collect.specs.declared.commands.Format.{Format, TheVariants.{Header, Json, Lines}}
 use Rattle.fc_collect.specs.declared.commands.RunKind.{RunKind, TheVariants.{Canon, Check, Count}}
 use Rattle.fc_collect.specs.declared.commands.RunKind.TheVariants.{Expand, Group, Same, Share, Show}
 use Rattle.fc_collect.specs.declared.commands.RunKind.TheVariants.{Symmetries, Table, Unique}
-use Rattle.fc_collect.specs.declared.streams.{counted.Counted.{Counted}, faults.RunFault.{RunFault}}
-use Rattle.fc_collect.specs.declared.streams.{faults.Summary.{Summary}, limits.Limits.{Limits}}
+use Rattle.fc_collect.specs.declared.streams.faults.{RunFault.{RunFault}, Summary.{Summary}}
+use Rattle.fc_collect.specs.declared.streams.limits.Limits.{Limits}
 use Rattle.fc_collect.specs.declared.commands.CountFormat.TheVariants as count
 
 -- -------- What `same` prints for each accepted record after the first: the passage from the first one's board, or that there is none. From: this project's profile.
@@ -84,14 +85,16 @@ ending_of_kind kind variant = λ records. []
 
 -- -------- What a run promises. From: this project's profile.
 
--- what it transfers within these limits, by the input's bytes and those that it has left, the output's before and after, and the result
-abbrev pub TransfersWithin : Limits → RunKind → Variant → (input left before after : Option (List ℕ)) → Result Summary RunFault → Type 0
-TransfersWithin limits kind variant = Transfers (ResultFits limits (output_of_kind kind variant) (is_refused variant) (ending_of_kind kind variant))
+-- what a run of this kind prints, and which records it refuses
+abbrev pub printing_of : RunKind → Variant → Printing
+printing_of kind variant = record { output = output_of_kind kind variant; ending = ending_of_kind kind variant; refuses = is_refused variant }
 
--- what it promises over an input, of which some bytes remain, and an output, which holds some: its counts, and what it transfers
-pub record RunsWithin {R W : Type 0} (limits : Limits) (remaining : R → Option (List ℕ)) (contents : W → Option (List ℕ))
-    (transfers : (input left before after : Option (List ℕ)) → Result Summary RunFault → Type 0)
-    (input left : Counted R) (before after : Counted W) (result : Result Summary RunFault) : Type 0 where
-  pub read_counted : ReadsAsCounted limits input left result
-  pub write_counted : WritesAsCounted before after result
-  pub wrote : transfers (remaining (inner_of input)) (remaining (inner_of left)) (contents (inner_of before)) (contents (inner_of after)) result
+-- what it transfers within these limits
+abbrev pub TransfersWithin : Limits → RunKind → Variant → StreamBytes → Result Summary RunFault → Type 0
+TransfersWithin limits kind variant = Transfers (ResultFits limits (printing_of kind variant))
+
+-- what a run promises: how the counts of its streams grow, and that what it transfers fits its result
+pub record RunsWithin {R W : Type 0} (limits : Limits) (Fits : Transfer → Result Summary RunFault → Type 0) (input : Stream R) (output : Stream W) (result : Result Summary RunFault) : Type 0 where
+  pub read_counted : ReadsAsCounted limits input.old input.new result
+  pub write_counted : WritesAsCounted output.old output.new result
+  pub wrote : Transfers Fits (bytes_of input output) result

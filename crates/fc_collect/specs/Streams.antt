@@ -1,6 +1,6 @@
--- What a counting reader or writer shows, the stream inside it, four counts and whether it is flushed, and what calls make of these.
+-- What a counting reader or writer shows, the stream inside it, four counts and whether it is flushed, and what calls make of these; and streams before and after.
 use Rattle.std.specs.Prelude.{◌+◌, ◌-◌, ◌<◌, ◌==◌, ◌^◌, ◌∷◌, ◌≡◌, [], Bool, Err, false}
-use Rattle.std.specs.Prelude.{if◌then◌else◌, List, min, Ok, Result, ℕ}
+use Rattle.std.specs.Prelude.{if◌then◌else◌, List, min, Ok, Option, Result, ℕ}
 use Rattle.fc_collect.specs.declared.streams.counted.Counted.{Counted}
 
 abbrev pub inner_of : {T : Type 0} → Counted T → T
@@ -47,3 +47,24 @@ pub record HasRoom {T : Type 0} (counted : Counted T) : Type 0 where
   pub fills : (counts_of counted).fills < 2 ^ 63
   pub ends : (counts_of counted).ends < 2 ^ 63
   pub flushes : (counts_of counted).flushes < 2 ^ 63
+
+-- a stream before and after, and the bytes that its inside tells of: those that an input has left, or those that an output holds
+pub record Stream (T : Type 0) : Type 0 where
+  pub bytes : T → Option (List ℕ)
+  pub old : Counted T
+  pub new : Counted T
+
+-- the bytes that the input had and those that it has left, those that the output held and those that it holds
+pub record StreamBytes : Type 0 where
+  pub input : Option (List ℕ)
+  pub left : Option (List ℕ)
+  pub before : Option (List ℕ)
+  pub after : Option (List ℕ)
+
+abbrev pub bytes_of : {R W : Type 0} → Stream R → Stream W → StreamBytes
+bytes_of input output = record {
+  input = input.bytes (inner_of input.old);
+  left = input.bytes (inner_of input.new);
+  before = output.bytes (inner_of output.old);
+  after = output.bytes (inner_of output.new);
+}

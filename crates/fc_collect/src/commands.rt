@@ -1,8 +1,7 @@
 //! The runs of the commands over collections.
 ghost use Rattle.std.specs.Prelude.{◌≡◌};
-ghost use Rattle.fc_collect.specs.Limits.{AreCountable, standard};
-ghost use Rattle.fc_collect.specs.Runs.{count_format, RunsWithin, TransfersWithin};
-ghost use Rattle.fc_collect.specs.Streams.{HasRoom};
+ghost use Rattle.fc_collect.specs.{Limits.{AreCountable, standard}, Promises.{ResultFits}};
+ghost use Rattle.fc_collect.specs.{Runs.{count_format, printing_of, RunsWithin}, Streams.{HasRoom}};
 ghost use Rattle.fc_collect.specs.declared.commands.Format.TheVariants.{Lines};
 ghost use Rattle.fc_collect.specs.declared.commands.RunKind.TheVariants.{Canon, Check, Expand};
 ghost use Rattle.fc_collect.specs.declared.commands.RunKind.TheVariants.{Group, Share, Show, Table};
@@ -102,9 +101,9 @@ pub fn run_show<Rd: Read, Wr: Write>(
 ) -> Result<Summary, RunFault>
     requires input_low { HasRoom input.old }
     requires output_low { HasRoom output.old }
-    ensures { RunsWithin standard Rd.remaining Wr.contents
-        (TransfersWithin standard Show variant)
-        input.old input.new output.old output.new result }
+    ensures { RunsWithin standard (ResultFits standard (printing_of Show variant))
+        (record { bytes = Rd.remaining; old = input.old; new = input.new })
+        (record { bytes = Wr.contents; old = output.old; new = output.new }) result }
 {
     run_whole(alloc, RunKind::Show, variant, input, output)
 }
@@ -119,9 +118,9 @@ pub fn run_canon<Rd: Read, Wr: Write>(
 ) -> Result<Summary, RunFault>
     requires input_low { HasRoom input.old }
     requires output_low { HasRoom output.old }
-    ensures { RunsWithin standard Rd.remaining Wr.contents
-        (TransfersWithin standard Canon variant)
-        input.old input.new output.old output.new result }
+    ensures { RunsWithin standard (ResultFits standard (printing_of Canon variant))
+        (record { bytes = Rd.remaining; old = input.old; new = input.new })
+        (record { bytes = Wr.contents; old = output.old; new = output.new }) result }
 {
     run_whole(alloc, RunKind::Canon, variant, input, output)
 }
@@ -135,9 +134,9 @@ pub fn run_check<Rd: Read, Wr: Write>(
 ) -> Result<Summary, RunFault>
     requires input_low { HasRoom input.old }
     requires output_low { HasRoom output.old }
-    ensures { RunsWithin standard Rd.remaining Wr.contents
-        (TransfersWithin standard Check variant)
-        input.old input.new output.old output.new result }
+    ensures { RunsWithin standard (ResultFits standard (printing_of Check variant))
+        (record { bytes = Rd.remaining; old = input.old; new = input.new })
+        (record { bytes = Wr.contents; old = output.old; new = output.new }) result }
 {
     run_whole(alloc, RunKind::Check, variant, input, output)
 }
@@ -151,9 +150,9 @@ pub fn run_expand<Rd: Read, Wr: Write>(
 ) -> Result<Summary, RunFault>
     requires input_low { HasRoom input.old }
     requires output_low { HasRoom output.old }
-    ensures { RunsWithin standard Rd.remaining Wr.contents
-        (TransfersWithin standard Expand variant)
-        input.old input.new output.old output.new result }
+    ensures { RunsWithin standard (ResultFits standard (printing_of Expand variant))
+        (record { bytes = Rd.remaining; old = input.old; new = input.new })
+        (record { bytes = Wr.contents; old = output.old; new = output.new }) result }
 {
     run_whole(alloc, RunKind::Expand, variant, input, output)
 }
@@ -168,9 +167,9 @@ pub fn run_group<Rd: Read, Wr: Write>(
 ) -> Result<Summary, RunFault>
     requires input_low { HasRoom input.old }
     requires output_low { HasRoom output.old }
-    ensures { RunsWithin standard Rd.remaining Wr.contents
-        (TransfersWithin standard Group variant)
-        input.old input.new output.old output.new result }
+    ensures { RunsWithin standard (ResultFits standard (printing_of Group variant))
+        (record { bytes = Rd.remaining; old = input.old; new = input.new })
+        (record { bytes = Wr.contents; old = output.old; new = output.new }) result }
 {
     run_whole(alloc, RunKind::Group, variant, input, output)
 }
@@ -185,9 +184,9 @@ pub fn run_share<Rd: Read, Wr: Write>(
 ) -> Result<Summary, RunFault>
     requires input_low { HasRoom input.old }
     requires output_low { HasRoom output.old }
-    ensures { RunsWithin standard Rd.remaining Wr.contents
-        (TransfersWithin standard Share variant)
-        input.old input.new output.old output.new result }
+    ensures { RunsWithin standard (ResultFits standard (printing_of Share variant))
+        (record { bytes = Rd.remaining; old = input.old; new = input.new })
+        (record { bytes = Wr.contents; old = output.old; new = output.new }) result }
 {
     run_whole(alloc, RunKind::Share, variant, input, output)
 }
@@ -202,9 +201,9 @@ pub fn run_unique<Rd: Read, Wr: Write>(
 ) -> Result<Summary, RunFault>
     requires input_low { HasRoom input.old }
     requires output_low { HasRoom output.old }
-    ensures { RunsWithin standard Rd.remaining Wr.contents
-        (TransfersWithin standard Unique variant)
-        input.old input.new output.old output.new result }
+    ensures { RunsWithin standard (ResultFits standard (printing_of Unique variant))
+        (record { bytes = Rd.remaining; old = input.old; new = input.new })
+        (record { bytes = Wr.contents; old = output.old; new = output.new }) result }
 {
     run_whole(alloc, RunKind::Unique, variant, input, output)
 }
@@ -219,9 +218,9 @@ pub fn run_table<Rd: Read, Wr: Write>(
 ) -> Result<Summary, RunFault>
     requires input_low { HasRoom input.old }
     requires output_low { HasRoom output.old }
-    ensures { RunsWithin standard Rd.remaining Wr.contents
-        (TransfersWithin standard (Table Lines) variant)
-        input.old input.new output.old output.new result }
+    ensures { RunsWithin standard (ResultFits standard (printing_of (Table Lines) variant))
+        (record { bytes = Rd.remaining; old = input.old; new = input.new })
+        (record { bytes = Wr.contents; old = output.old; new = output.new }) result }
 {
     run_whole(alloc, RunKind::Table(Format::Lines), variant, input, output)
 }
@@ -236,9 +235,9 @@ fn run_whole<Rd: Read, Wr: Write>(
 ) -> Result<Summary, RunFault>
     requires input_low { HasRoom input.old }
     requires output_low { HasRoom output.old }
-    ensures { RunsWithin standard Rd.remaining Wr.contents
-        (TransfersWithin standard kind variant)
-        input.old input.new output.old output.new result }
+    ensures { RunsWithin standard (ResultFits standard (printing_of kind variant))
+        (record { bytes = Rd.remaining; old = input.old; new = input.new })
+        (record { bytes = Wr.contents; old = output.old; new = output.new }) result }
 {
     let limits = Limits::STANDARD;
     run_within(alloc, kind, variant, limits, Seed::KNOWN, input, output)
@@ -258,9 +257,9 @@ pub fn run_within<Rd: Read, Wr: Write>(
     requires limits { AreCountable limits }
     requires input_low { HasRoom input.old }
     requires output_low { HasRoom output.old }
-    ensures { RunsWithin limits Rd.remaining Wr.contents
-        (TransfersWithin limits kind variant)
-        input.old input.new output.old output.new result }
+    ensures { RunsWithin limits (ResultFits limits (printing_of kind variant))
+        (record { bytes = Rd.remaining; old = input.old; new = input.new })
+        (record { bytes = Wr.contents; old = output.old; new = output.new }) result }
 {
     let config = RunConfig {
         variant,
@@ -302,9 +301,10 @@ fn run_table_within<Rd: Read, Wr: Write>(
     requires limits { AreCountable config.limits }
     requires input_low { HasRoom input.old }
     requires output_low { HasRoom output.old }
-    ensures { RunsWithin config.limits Rd.remaining Wr.contents
-        (TransfersWithin config.limits (Table format) config.variant)
-        input.old input.new output.old output.new result }
+    ensures { RunsWithin config.limits
+        (ResultFits config.limits (printing_of (Table format) config.variant))
+        (record { bytes = Rd.remaining; old = input.old; new = input.new })
+        (record { bytes = Wr.contents; old = output.old; new = output.new }) result }
 {
     match format {
         Format::Lines => run_records::<EachRecord<TableLines>, _, _>(alloc, config, input, output),

@@ -6,7 +6,8 @@ ghost use Rattle.fc_collect.specs.inside.{ConsumesRead, ended, Finishes, IsAllow
 ghost use Rattle.fc_collect.specs.inside.{output_counts, printed_after, Remembers, text_at};
 ghost use Rattle.fc_collect.specs.Limits.{AreCountable};
 ghost use Rattle.fc_collect.specs.Promises.{ReadsAsCounted, ResultFits, Transfers, WritesAsCounted};
-ghost use Rattle.fc_collect.specs.{Records.{outputs_after}, Streams.{GrowsBy, HasRoom, inner_of}};
+ghost use Rattle.fc_collect.specs.Records.{outputs_after};
+ghost use Rattle.fc_collect.specs.Streams.{bytes_of, GrowsBy, HasRoom, inner_of};
 
 use crate::{Counted, Limits, MOST_RECORD_BYTES, RunConfig, RunFault, Summary};
 use std::alloc::Global;
@@ -44,11 +45,15 @@ pub fn run_records<C: Command, Rd: Read, Wr: Write>(
     requires output_low { HasRoom output.old }
     ensures read_counted { ReadsAsCounted config.limits input.old input.new result }
     ensures write_counted { WritesAsCounted output.old output.new result }
-    ensures wrote { Transfers (ResultFits config.limits
-        (outputs_after (printed_after C.Refusal.text C.lines config.variant) [])
-        (is_refused config.variant) (ended C.ending config.variant))
-        (Rd.remaining (inner_of input.old)) (Rd.remaining (inner_of input.new))
-        (Wr.contents (inner_of output.old)) (Wr.contents (inner_of output.new)) result }
+    ensures wrote { Transfers
+        (ResultFits config.limits (record {
+          output = outputs_after (printed_after C.Refusal.text C.lines config.variant) [];
+          ending = ended C.ending config.variant;
+          refuses = is_refused config.variant;
+        }))
+        (bytes_of
+        (record { bytes = Rd.remaining; old = input.old; new = input.new })
+        (record { bytes = Wr.contents; old = output.old; new = output.new })) result }
 {
     let mut window = Window::new(alloc)?;
     let pending = Vec::with_capacity(alloc, PENDING_ROOM)?;

@@ -7,13 +7,12 @@ use Rattle.std.proofs.lemmas.List.Elements.{All-append, All-cons, All-head, All-
 use Rattle.std.specs.{Io.KnownBytes.{Consumes}, Prelude.{⊤}}
 use Rattle.fc_board.{proofs.BoardLemmas.{All-left, All-right}, specs.Games.{Game, game_of}}
 use Rattle.fc_board.specs.declared.rule.Variant.{Variant}
-use Rattle.fc_record.specs.{Printing.{is_refused}, RecordTexts.{RecordText}}
+use Rattle.fc_record.specs.RecordTexts.{RecordText}
 use Rattle.fc_collect.proofs.RecordLemmas.{cut-append, cut-induction}
 use Rattle.fc_collect.specs.Limits.{most_bytes, most_reads, standard}
 use Rattle.fc_collect.specs.Promises.{IsSmall, IsWithinLimits, ReadsAsCounted, ResultFits}
 use Rattle.fc_collect.specs.Records.{begun, cut, finished, first_of}
-use Rattle.fc_collect.specs.Runs.{ending_of_kind, output_of_kind, TransfersWithin}
-use Rattle.fc_collect.specs.Streams.{CallCounts, GrowsBy}
+use Rattle.fc_collect.specs.{Runs.{printing_of, TransfersWithin}, Streams.{CallCounts, GrowsBy}}
 use Rattle.fc_collect.specs.declared.commands.RunKind.TheVariants.{Show}
 use Rattle.fc_collect.specs.declared.streams.{counted.Counted.{Counted}, faults.RunFault.{RunFault}}
 use Rattle.fc_collect.specs.declared.streams.faults.RunFault.TheVariants.{Memory, Read}
@@ -21,7 +20,8 @@ use Rattle.fc_collect.specs.declared.streams.faults.RunFault.TheVariants.{Reader
 use Rattle.fc_collect.specs.declared.streams.faults.RunFault.TheVariants.{Write}
 use Rattle.fc_collect.specs.declared.streams.faults.Summary.{Summary}
 use Rattle.fc_import.specs.Import.{collection, Imported, IsImportedAs, IsPrinted, IsShown, Makes}
-use Rattle.fc_import.specs.Import.{no_board, no_board_line, refusals, refused_by, too_much, too_much_line, with_tally}
+use Rattle.fc_import.specs.Import.{no_board, no_board_line, refusals, refused_by, too_much}
+use Rattle.fc_import.specs.Import.{too_much_line, with_tally}
 use Rattle.fc_import.specs.inside.{more_counts, MoreFits, ReadsMore, ReadsToEnd}
 use Rattle.fc_import.specs.{Notes.{counted, State}, Words.{text_read}}
 use Rattle.fc_import.specs.declared.changes.Noted.{Noted}
@@ -137,12 +137,13 @@ front_within x y within =
 
 module _ (variant : Variant) (text : List ℕ) (records : ℕ) (shown : IsShown variant text records) where
   -- a run of `show` that reads a beginning of what is shown finds it within limits
-  pub within_limits : (left before after : Option (List ℕ)) (result : Result Summary RunFault) → TransfersWithin standard Show variant (Some text) left before after result → result ≢ Err TooLarge
+  pub within_limits : (left before after : Option (List ℕ)) (result : Result Summary RunFault)
+      → TransfersWithin standard Show variant (record { input = Some text; left = left; before = before; after = after }) result → result ≢ Err TooLarge
   within_limits None before after result transfers is = transfers.consumed
   within_limits (Some rest) before after result transfers is =
-      let fits = subst (ResultFits standard (output_of_kind Show variant) (is_refused variant) (ending_of_kind Show variant) transfers.read (Some rest) transfers.written) is transfers.fits in
+      let fits = subst (ResultFits standard (printing_of Show variant) (record { read = transfers.read; left = Some rest; written = transfers.written })) is transfers.fits in
       let whole : shown.read ≡ transfers.read ++ rest = sym (append-nil shown.read) ∙ sym shown.consumed ∙ transfers.consumed in
-      fits.0 (front_within transfers.read rest (subst (IsWithinLimits standard) whole shown.fits.0))
+      fits.0 (front_within transfers.read rest (subst (IsWithinLimits standard) whole shown.fits.1.within))
 
 -- ---- what is made
 

@@ -11,7 +11,7 @@ use Rattle.fc_text.specs.{Bytes.{line_feed}, Lines.{lines_from}, Notation.{most_
 use Rattle.fc_text.specs.{Printed.{text_of}, Spelling.{Spells}}
 use Rattle.fc_record.specs.{Grammar.{begins_with, is_name}, Printing.{header_text, list_line}}
 use Rattle.fc_record.specs.RecordTexts.{ends_line as ends_lines, header_mark}
-use Rattle.fc_collect.specs.{Limits.{most_bytes, standard}, Promises.{Begins}}
+use Rattle.fc_collect.specs.{Limits.{most_bytes, standard}, Promises.{Begins, Transfer}}
 use Rattle.fc_collect.specs.Runs.{TransfersWithin}
 use Rattle.fc_collect.specs.declared.commands.RunKind.TheVariants.{Show}
 use Rattle.fc_collect.specs.declared.streams.faults.RunFault.{RunFault}
@@ -208,7 +208,8 @@ too_much_line = codes "fcanon: not imported: this makes more than one collection
 
 -- `show` takes the whole text as so many records, prints it as it is, and refuses none of them
 abbrev pub IsShown : Variant → (text : List ℕ) → (records : ℕ) → Type 0
-IsShown variant text records = TransfersWithin standard Show variant (Some text) (Some []) (Some []) (Some text) (Ok (record { records = records; refused = 0 }))
+IsShown variant text records =
+    TransfersWithin standard Show variant (record { input = Some text; left = Some []; before = Some []; after = Some text }) (Ok (record { records = records; refused = 0 }))
 
 -- what is made of the text that these bytes are read as, what is said of it, and the summary
 pub data Makes (variant : Variant) (noted : Noted) (bytes : List ℕ) : (made said : List ℕ) → Summary → Type 0 where
@@ -223,8 +224,8 @@ pub data Makes (variant : Variant) (noted : Noted) (bytes : List ℕ) : (made sa
   too_much : (state : State) (made notes : List ℕ) → IsImportedAs variant noted (text_read bytes) state made notes → ((records : ℕ) → ¬ IsShown variant made records)
       → Makes variant noted bytes [] (notes ++ too_much_line) (record { records = 1; refused = 1 })
 
--- how what was read, what the input has left and what was written go with each result of an import that said this: all was read, at most 16 MiB, and what is made of it was written or, where a write failed, a beginning of that; else nothing was written or said, and more than 16 MiB are `TooLarge`
-abbrev pub ImportFits : Variant → Noted → (said read : List ℕ) → (left : Option (List ℕ)) → (written : List ℕ) → Result Summary RunFault → Type 0
-ImportFits variant noted said read left written (Ok summary) = IsAtEnd left × (length read ≤ most_bytes) × Makes variant noted read written said summary
-ImportFits variant noted said read left written (Err Write) = IsAtEnd left × (length read ≤ most_bytes) × ((made : List ℕ) × (summary : Summary) × Makes variant noted read made said summary × Begins written made)
-ImportFits variant noted said read left written (Err fault) = (written ≡ []) × (said ≡ []) × ((fault ≡ TooLarge) ↔ (most_bytes < length read))
+-- how each result goes with what an import transferred, which said this: all was read, at most 16 MiB, and what is made of it was written or, where a write failed, a beginning of that; else nothing was written or said, and more than 16 MiB are `TooLarge`
+abbrev pub ImportFits : Variant → Noted → (said : List ℕ) → Transfer → Result Summary RunFault → Type 0
+ImportFits variant noted said bytes (Ok summary) = IsAtEnd bytes.left × (length bytes.read ≤ most_bytes) × Makes variant noted bytes.read bytes.written said summary
+ImportFits variant noted said bytes (Err Write) = IsAtEnd bytes.left × (length bytes.read ≤ most_bytes) × ((made : List ℕ) × (summary : Summary) × Makes variant noted bytes.read made said summary × Begins bytes.written made)
+ImportFits variant noted said bytes (Err fault) = (bytes.written ≡ []) × (said ≡ []) × ((fault ≡ TooLarge) ↔ (most_bytes < length bytes.read))

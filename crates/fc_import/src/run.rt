@@ -2,8 +2,7 @@
 ghost use Rattle.std.specs.Prelude.{◌++◌, ◌+◌, ◌-◌, ◌<◌, ◌^◌, ◌≡◌, ◌≤◌, [], Err, IfOk, length};
 ghost use Rattle.std.specs.Prelude.{List, ℕ};
 ghost use Rattle.fc_collect.specs.Limits.{most_bytes, standard};
-ghost use Rattle.fc_collect.specs.Promises.{ReadsAsCounted, Transfers, WritesAsCounted};
-ghost use Rattle.fc_collect.specs.Runs.{RunsWithin};
+ghost use Rattle.fc_collect.specs.{Promises.{ReadsAsCounted, WritesAsCounted}, Runs.{RunsWithin}};
 ghost use Rattle.fc_collect.specs.Streams.{counts_of, GrowsBy, HasRoom, inner_of};
 ghost use Rattle.fc_collect.specs.declared.streams.faults.RunFault.TheVariants.{Write as WriteFault};
 ghost use Rattle.fc_import.specs.Import.{ImportFits, Makes, with_tally};
@@ -44,9 +43,9 @@ pub fn run_import<Rd: Read, Wr: Write>(
     requires input_low { HasRoom input.old }
     requires output_low { HasRoom output.old }
     requires silent { said.old.items ≡ [] }
-    ensures runs { RunsWithin standard Rd.remaining Wr.contents
-        (Transfers (ImportFits variant noted said.new.items))
-        input.old input.new output.old output.new result }
+    ensures runs { RunsWithin standard (ImportFits variant noted said.new.items)
+        (record { bytes = Rd.remaining; old = input.old; new = input.new })
+        (record { bytes = Wr.contents; old = output.old; new = output.new }) result }
     ensures ended { result ≡ Err WriteFault
         → (counts_of input.new).ends ≡ (counts_of input.old).ends + 1 }
 {

@@ -1,11 +1,9 @@
 -- The numbers by which C knows games, tasks and formats, and what a run over memory hands over.
 use Rattle.std.specs.Prelude.{◌++◌, ◌<◌, ◌==◌, ◌∷◌, ◌≡◌, ◌≤◌, ◌⊎◌, [], drop, if◌then◌else◌, length}
 use Rattle.std.specs.Prelude.{List, slice_index_or, ℕ}
-use Rattle.{fc_board.specs.declared.rule.Variant.{Variant}, fc_record.specs.Printing.{is_refused}}
+use Rattle.{fc_board.specs.declared.rule.Variant.{Variant}, fc_import.specs.Import.{Makes}}
 use Rattle.fc_collect.specs.Limits.{largest, most_bytes, standard}
-use Rattle.fc_collect.specs.Promises.{Begins, CountsRecords, IsWithinLimits}
-use Rattle.fc_collect.specs.Records.{records_from}
-use Rattle.fc_collect.specs.Runs.{count_format, ending_of_kind, output_of_kind}
+use Rattle.fc_collect.specs.{Promises.{Begins, IsWithinLimits}, Runs.{count_format}}
 use Rattle.fc_collect.specs.declared.{
   commands.{Format.{Format, TheVariants.{Header, Json, Lines}}, RunKind.{RunKind}},
   commands.RunKind.TheVariants.{Canon, Check, Count, Expand, Group, Same, Share, Show, Symmetries},
@@ -13,9 +11,9 @@ use Rattle.fc_collect.specs.declared.{
   streams.faults.RunFault.{RunFault, TheVariants.{Memory, Read, ReaderNeverEnds, TooLarge, Write}},
   streams.{faults.Summary.{Summary}, limits.Limits.{Limits}},
 }
-use Rattle.{fc_import.specs.Import.{Makes}, fcanon_runs.specs.declared.output.Written.{Written}}
 use Rattle.fc_import.specs.declared.{changes.Noted.TheVariants.{Doubts}, layout.LinesAre.{LinesAre}}
 use Rattle.fc_import.specs.declared.layout.LinesAre.TheVariants.{Columns, Rows, Unsaid}
+use Rattle.fcanon_runs.specs.declared.output.Written.{Written}
 
 -- ======== The numbers by which C knows games, tasks, formats and faults. From: this project's profile.
 
@@ -45,12 +43,6 @@ fault_answer Read = 14
 fault_answer ReaderNeverEnds = 14
 
 -- ======== What a run over memory hands over. From: this project's profile.
-
--- this text is what a run prints of the input, which is within its limits, and these are its counts
-pub record OutputOf (limits : Limits) (kind : RunKind) (variant : Variant) (input text : List ℕ) (summary : Summary) : Type 0 where
-  pub within : IsWithinLimits limits input
-  pub whole : text ≡ output_of_kind kind variant (records_from limits input) ++ ending_of_kind kind variant (records_from limits input)
-  pub counts : CountsRecords limits (is_refused variant) input summary
 
 -- the counts without the length
 abbrev pub counted : Written → Summary

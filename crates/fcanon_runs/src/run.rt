@@ -1,8 +1,9 @@
 //! A run of a command over a collection in memory.
 ghost use Rattle.std.specs.Prelude.{◌<◌, ◌≡◌, ◌≢◌, ◌≤◌, ◌⊎◌, IfErr, IfOk, length};
-ghost use Rattle.{fc_board.specs.Games.{variant_at}, fc_collect.specs.Limits.{AreCountable}};
+ghost use Rattle.fc_board.specs.Games.{variant_at};
+ghost use Rattle.fc_collect.specs.{Limits.{AreCountable}, Promises.{OutputOf}, Runs.{printing_of}};
 ghost use Rattle.fcanon_runs.specs.{fault_answer, FaultOf, HandsOver, kind_at, limits_at};
-ghost use Rattle.fcanon_runs.specs.{NeedsRoom, OutputOf};
+ghost use Rattle.fcanon_runs.specs.{NeedsRoom};
 
 use crate::numbers::{NO_FORMAT, NO_GAME, NO_TASK, answer_to, kind_of};
 use crate::output::{Written, hand_over};
@@ -37,12 +38,14 @@ pub extern "C" fn fcanon_run(
     written: &mut Written,
 ) -> u32
     ensures done { result ≡ 0 → HandsOver
-        (OutputOf (limits_at request.now.any_size) (kind_at request.now.task request.now.format)
-        (variant_at request.now.game) input.now)
+        (OutputOf (limits_at request.now.any_size)
+        (printing_of (kind_at request.now.task request.now.format) (variant_at request.now.game))
+        input.now)
         output.old output.new written.new }
     ensures no_room { result ≡ 9 → NeedsRoom
-        (OutputOf (limits_at request.now.any_size) (kind_at request.now.task request.now.format)
-        (variant_at request.now.game) input.now)
+        (OutputOf (limits_at request.now.any_size)
+        (printing_of (kind_at request.now.task request.now.format) (variant_at request.now.game))
+        input.now)
         output.old written.new }
     ensures fault { 11 < result → FaultOf (limits_at request.now.any_size) input.now result }
     ensures no_game { 3 ≤ request.now.game → result ≡ 1 }
@@ -98,7 +101,7 @@ fn run_over(
     input: &[u8],
 ) -> Result<Printed, RunFault>
     requires { AreCountable limits }
-    ensures done { IfOk result (λ printed. OutputOf limits kind variant input.now
+    ensures done { IfOk result (λ printed. OutputOf limits (printing_of kind variant) input.now
         printed.text.items printed.summary) }
     ensures fault { IfErr result (λ fault. FaultOf limits input.now (fault_answer fault)) }
 {

@@ -276,13 +276,15 @@ pub fn what_share_prints_is_read_again()
 pub fn an_unmoved_output_was_due_nothing()
     ensures due { (limits : LimitsValue) (kind : RunKind) (variant : Variant)
         (read held : List ℕ) (summary : Summary)
-        → TransfersWithin limits kind variant (Some read) (Some []) (Some held) (Some held)
+        → TransfersWithin limits kind variant
+        (record { input = Some read; left = Some []; before = Some held; after = Some held })
         (Ok summary)
         → output_of_kind kind variant (records_from limits read)
         ++ ending_of_kind kind variant (records_from limits read) ≡ [] }
     ensures show { (limits : LimitsValue) (variant : Variant)
         (read held : List ℕ) (summary : Summary)
-        → TransfersWithin limits Show variant (Some read) (Some []) (Some held) (Some held)
+        → TransfersWithin limits Show variant
+        (record { input = Some read; left = Some []; before = Some held; after = Some held })
         (Ok summary)
         → records_from limits read ≡ [] }
 {}
@@ -294,17 +296,21 @@ pub fn an_unmoved_output_was_due_nothing()
 pub fn the_output_of_another_input_does_not_fit()
     ensures one { (limits : LimitsValue) (kind : RunKind) (variant : Variant)
         (read held after other : List ℕ) (summary counts : Summary)
-        → TransfersWithin limits kind variant (Some read) (Some []) (Some held) (Some after)
+        → TransfersWithin limits kind variant
+        (record { input = Some read; left = Some []; before = Some held; after = Some after })
         (Ok summary)
-        → TransfersWithin limits kind variant (Some read) (Some []) (Some held) (Some other)
+        → TransfersWithin limits kind variant
+        (record { input = Some read; left = Some []; before = Some held; after = Some other })
         (Ok counts)
         → (after ≡ other) × (summary ≡ counts) }
     ensures show { (variant : Variant) (read another held after : List ℕ)
         (summary counts : Summary)
-        → TransfersWithin standard Show variant (Some read) (Some []) (Some held)
-        (Some after) (Ok summary)
-        → TransfersWithin standard Show variant (Some another) (Some []) (Some held)
-        (Some after) (Ok counts)
+        → TransfersWithin standard Show variant
+        (record { input = Some read; left = Some []; before = Some held; after = Some after })
+        (Ok summary)
+        → TransfersWithin standard Show variant
+        (record { input = Some another; left = Some []; before = Some held; after = Some after })
+        (Ok counts)
         → map (λ member. Accepted (if member.heading.has_header
         then with_header member.heading.variant (Some (name_of_member member))
         else member.heading) member.contents) (members_among variant (records_of read))

@@ -1,6 +1,5 @@
 -- Each turn keeps what holds between turns, and each exit fits it.
 use Rattle.std.proofs.{Common.{◌∙◌, ap, arith, length}, lemmas.Result.{err_from_is_err_and}}
-use Rattle.fc_record.specs.Printing.{is_refused}
 use Rattle.fc_collect.proofs.RunLemmas.{begun_later, begun_number, bytes_none, counts_failed}
 use Rattle.fc_collect.proofs.RunLemmas.{counts_none, filled_none, finish_bytes, finish_counts}
 use Rattle.fc_collect.proofs.RunLemmas.{held_total, next_turn, run_of, small_begun, take_up_bytes}

@@ -16,11 +16,11 @@ left_empty [] more e = refl
 left_empty (byte ∷ text) more e = absurd (cc)
 
 nothing_due : (limits : Limits) (kind : RunKind) (variant : Variant) (read held : List ℕ) (summary : Summary)
-    → TransfersWithin limits kind variant (Some read) (Some []) (Some held) (Some held) (Ok summary)
+    → TransfersWithin limits kind variant (record { input = Some read; left = Some []; before = Some held; after = Some held }) (Ok summary)
     → output_of_kind kind variant (records_from limits read) ++ ending_of_kind kind variant (records_from limits read) ≡ []
 nothing_due limits kind variant read held summary run =
-    let (within, ended, is, counts) = run.fits in
-    rw (run.consumed, append-nil run.read) (sym is ∙ append_cancel_left held run.written [] (sym run.appended ∙ sym (append-nil held)))
+    let (ended, out) = run.fits in
+    rw (run.consumed, append-nil run.read) (sym out.whole ∙ append_cancel_left held run.written [] (sym run.appended ∙ sym (append-nil held)))
 
 -- what `show` prints for a record is not empty
 shown_some : (text : RecordText) (reading : Reading) → printed_by show_lines text reading ≡ [] → ⊥

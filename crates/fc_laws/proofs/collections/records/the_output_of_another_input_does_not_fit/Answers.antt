@@ -24,11 +24,12 @@ module _ (limits : Limits) (kind : RunKind) (variant : Variant) where
     refused : summary.refused ≡ count_by (is_refused variant) (records_from limits read)
 
   wrote : (read held after : List ℕ) (summary : Summary)
-      → TransfersWithin limits kind variant (Some read) (Some []) (Some held) (Some after) (Ok summary) → Wrote read held after summary
+      → TransfersWithin limits kind variant (record { input = Some read; left = Some []; before = Some held; after = Some after }) (Ok summary)
+      → Wrote read held after summary
   wrote read held after summary run =
-      let (within, ended, is, counts) = run.fits in
+      let (ended, out) = run.fits in
       rw (run.consumed, append-nil run.read)
-      (record { within = within; written = rw (run.appended, is); records = counts.records; refused = counts.refused })
+      (record { within = out.within; written = rw (run.appended, out.whole); records = out.records; refused = out.refused })
 
 same_summary : (summary counts : Summary) → summary.records ≡ counts.records → summary.refused ≡ counts.refused → summary ≡ counts
 same_summary summary counts = ap₂ (λ records refused. record { records = records; refused = refused })
