@@ -15,10 +15,11 @@ use Rattle.fc_board.specs.declared.rule.Variant.{Variant}
 use Rattle.fc_text.specs.{Bytes.{line_feed}, Printed.{text_of}}
 use Rattle.{fc_deal.specs.{deal, dealt_board, IsDealNumber}, fc_import.specs.Import.{ImportFits}}
 use Rattle.fc_collect.specs.Limits.{AreCountable, fault_words, largest, most_countable, standard}
-use Rattle.fc_collect.specs.Promises.{Transfers, WritesAsCounted, WritesText}
-use Rattle.fc_collect.specs.{Runs.{count_format, RunsWithin, TransfersWithin}, Streams.{inner_of}}
+use Rattle.fc_collect.specs.Promises.{ResultFits, Transfer, WritesAsCounted, WritesText}
+use Rattle.fc_collect.specs.Runs.{count_format, printing_of, RunsWithin}
+use Rattle.fc_collect.specs.Streams.{inner_of, Stream}
 use Rattle.fc_collect.specs.declared.commands.Format.{Format, TheVariants.{Header, Json, Lines}}
-use Rattle.fc_collect.specs.declared.{commands.RunKind.{RunKind}, streams.counted.Counted.{Counted}}
+use Rattle.fc_collect.specs.declared.commands.RunKind.{RunKind}
 use Rattle.fc_collect.specs.declared.streams.faults.{RunFault.{RunFault}, Summary.{Summary}}
 use Rattle.fc_collect.specs.declared.streams.limits.Limits.{Limits}
 use Rattle.fc_import.specs.declared.changes.Noted.{Noted, TheVariants.{Changes, Doubts, Strict}}
@@ -71,20 +72,6 @@ json_option = flag_option (codes "json") (codes "json")
 abbrev pub header_option : Rule
 header_option = flag_option (codes "header") (codes "header")
 
--- the options `--columns` and `--rows`
-abbrev pub columns_option : Rule
-columns_option = flag_option (codes "columns") (codes "columns")
-
-abbrev pub rows_option : Rule
-rows_option = flag_option (codes "rows") (codes "rows")
-
--- the options `--explain` and `--strict`
-abbrev pub explain_option : Rule
-explain_option = flag_option (codes "explain") (codes "explain")
-
-abbrev pub strict_option : Rule
-strict_option = flag_option (codes "strict") (codes "strict")
-
 -- an option of this name that takes a number from `least` up to what a run can count to
 abbrev pub start_option : Text → Text → ℕ → Rule
 start_option id name least =
@@ -111,7 +98,9 @@ piece_options choices = variant_option choices ∷ any_size_option ∷ from_reco
 
 -- the options of the command that makes a collection
 abbrev pub import_options : ValueParser → List Rule
-import_options choices = variant_option choices ∷ columns_option ∷ rows_option ∷ explain_option ∷ strict_option ∷ []
+import_options choices =
+    variant_option choices ∷ flag_option (codes "columns") (codes "columns") ∷ flag_option (codes "rows") (codes "rows")
+    ∷ flag_option (codes "explain") (codes "explain") ∷ flag_option (codes "strict") (codes "strict") ∷ []
 
 -- what the command of each task takes, of which `deal` has choices of its own
 abbrev pub rules_of : (choices dealt : ValueParser) → Task → List Rule
@@ -316,61 +305,71 @@ fault_line (Err fault) = error_line (fault_words fault)
 abbrev pub AsksForText : Error → Type 0
 AsksForText error = (kind_of error ≡ DisplayHelp) ⊎ (kind_of error ≡ DisplayVersion)
 
--- the program ended with this status and this text for standard error
-module _ {W : Type 0} (contents : W → Option (List ℕ)) (before after : Counted W) (status : ℕ) (message : List ℕ) where
-  -- this text was to be written to the output: the status is 0 where it was, 3 at a fault
-  abbrev pub EndsWriting : List ℕ → Type 0
-  EndsWriting text = (result : Result ⊤ RunFault) × (status ≡ (if is_ok result then 0 else 3)) × (message ≡ fault_line result)
-      × WritesAsCounted before after result × WritesText text (contents (inner_of before)) (contents (inner_of after)) result
+-- how the program ended: its output before and after, its exit status, and the text for standard error
+pub record Ended (W : Type 0) : Type 0 where
+  pub output : Stream W
+  pub status : ℕ
+  pub message : List ℕ
 
-  -- the printed board of a deal went to the output where its number is in range, and else nothing did
-  abbrev pub EndsDealing : Game → ℕ → Type 0
-  EndsDealing game number =
-      (IsDealNumber number × EndsWriting (text_of (dealt_board game.cells (deal number))))
-      ⊎ ((¬ IsDealNumber number) × (after ≡ before) × (status ≡ 2) × (message ≡ error_line (codes "deal number out of range")))
+-- the text was to go to the stream, and this came of it
+pub record WritesTo {T A : Type 0} (stream : Stream T) (text : List ℕ) (result : Result A RunFault) : Type 0 where
+  pub counted : WritesAsCounted stream.old stream.new result
+  pub bytes : WritesText text (stream.bytes (inner_of stream.old)) (stream.bytes (inner_of stream.new)) result
 
-  -- and for each game that is dealt
-  abbrev pub EndsDeal : DealtGame → ℕ → Type 0
-  EndsDeal dealt.FreeCell number = EndsDealing (game_of FreeCell) number
-  EndsDeal dealt.BakersGame number = EndsDealing (game_of BakersGame) number
+-- the text went to the stream, which was flushed once; or a beginning of it did, and then a write or the flush failed
+abbrev pub TriesToWrite : {T : Type 0} → Stream T → (text : List ℕ) → Type 0
+TriesToWrite stream text = (result : Result ⊤ RunFault) × WritesTo stream text result
 
-  -- how the program ended where the parser gave no command: the text that was asked for went to the output, or the words were refused, or there was no memory for the parser's text
-  abbrev pub EndsParsing : Error → Type 0
-  EndsParsing error =
-      (AsksForText error × ((text : List ℕ) × EndsWriting text)) ⊎ ((¬ AsksForText error) × (after ≡ before) × (status ≡ 2))
-      ⊎ ((after ≡ before) × (status ≡ 3) × (message ≡ error_line (fault_words run.Memory)))
+-- the text was to be written to the output: the status is 0 where it was, 3 at a fault
+abbrev pub EndsWriting : {W : Type 0} → (text : List ℕ) → Ended W → Type 0
+EndsWriting text ended = (result : Result ⊤ RunFault) × (ended.status ≡ (if is_ok result then 0 else 3))
+    × (ended.message ≡ fault_line result) × WritesTo ended.output text result
 
-module _ {R W : Type 0} (remaining : R → Option (List ℕ)) (contents : W → Option (List ℕ))
-    (input left : Counted R) (before after : Counted W) (status : ℕ) (message : List ℕ) where
-  -- a run over the input and the output, which promises this of the bytes within these limits; what it says of the input comes before the line of a fault
-  abbrev pub EndsRun : Limits → (said : List ℕ) → ((input left before after : Option (List ℕ)) → Result Summary RunFault → Type 0) → Type 0
-  EndsRun limits said transfers = (result : Result Summary RunFault) × (status ≡ status_of result) × (message ≡ said ++ fault_line result)
-      × RunsWithin limits remaining contents transfers input left before after result
+-- the printed board of a deal went to the output where its number is in range, and else nothing did
+abbrev pub EndsDealing : {W : Type 0} → Game → (number : ℕ) → Ended W → Type 0
+EndsDealing game number ended =
+    (IsDealNumber number × EndsWriting (text_of (dealt_board game.cells (deal number))) ended)
+    ⊎ ((¬ IsDealNumber number) × (ended.output.new ≡ ended.output.old) × (ended.status ≡ 2)
+    × (ended.message ≡ error_line (codes "deal number out of range")))
 
-  -- how a job ended, or that there was none
-  abbrev pub EndsJob : Option Job → Type 0
-  EndsJob (Some (job.Run kind variant limits)) = EndsRun limits [] (TransfersWithin limits kind variant)
-  EndsJob (Some (job.Import variant lines_are noted)) = (said : List ℕ) × EndsRun standard said (Transfers (ImportFits variant noted said))
-  EndsJob (Some (job.Deal game number)) = (left ≡ input) × EndsDeal contents before after status message game number
-  EndsJob None = (left ≡ input) × (after ≡ before) × (status ≡ 2)
+-- and for each game that is dealt
+abbrev pub EndsDeal : {W : Type 0} → DealtGame → (number : ℕ) → Ended W → Type 0
+EndsDeal dealt.FreeCell = EndsDealing (game_of FreeCell)
+EndsDeal dealt.BakersGame = EndsDealing (game_of BakersGame)
 
-  -- how the program ended, by what its words were read as. A request that they are read as has a job
-  abbrev pub EndsBy : Result (Option Request) WordsFault → Type 0
-  EndsBy (Ok request) = EndsJob (option_and_then job_of request)
-  EndsBy (Err Memory) = (left ≡ input) × (after ≡ before) × (status ≡ 3) × (message ≡ error_line (fault_words run.Memory))
-  EndsBy (Err (Parser error)) = (left ≡ input) × EndsParsing contents before after status message error
+-- the parser gave no command: the text that was asked for went to the output, or the words were refused, or there was no memory for the parser's text
+abbrev pub EndsParsing : {W : Type 0} → Error → Ended W → Type 0
+EndsParsing error ended =
+    (AsksForText error × ((text : List ℕ) × EndsWriting text ended))
+    ⊎ ((¬ AsksForText error) × (ended.output.new ≡ ended.output.old) × (ended.status ≡ 2))
+    ⊎ ((ended.output.new ≡ ended.output.old) × (ended.status ≡ 3) × (ended.message ≡ error_line (fault_words run.Memory)))
 
--- the text went to standard error, which was flushed once; or a beginning of it did, and then a write or the flush failed
-abbrev pub TriesToWrite : {E : Type 0} → (E → Option (List ℕ)) → List ℕ → (silent said : Counted E) → Type 0
-TriesToWrite messages text silent said =
-    (result : Result ⊤ RunFault) × WritesAsCounted silent said result × WritesText text (messages (inner_of silent)) (messages (inner_of said)) result
+-- a run read the input and wrote to the output, within these limits; what it says of the input comes before the line of a fault
+abbrev pub EndsRun : {R W : Type 0} → Limits → (said : List ℕ) → (Transfer → Result Summary RunFault → Type 0) → Stream R → Ended W → Type 0
+EndsRun limits said Fits input ended = (result : Result Summary RunFault) × (ended.status ≡ status_of result)
+    × (ended.message ≡ said ++ fault_line result) × RunsWithin limits Fits input ended.output result
 
--- the program read these words, and ended by what they ask for: input, output and standard error before and after, and the status
-abbrev pub EndsProgram : {R W E : Type 0} → (R → Option (List ℕ)) → (W → Option (List ℕ)) → (E → Option (List ℕ)) → (input left : Counted R) → (before after : Counted W)
-    → (silent said : Counted E) → ℕ → List Text → Type 0
-EndsProgram remaining contents messages input left before after silent said status words =
-    (answer : Result (Option Request) WordsFault) × (message : List ℕ) × Reads words answer
-    × EndsBy remaining contents input left before after status message answer × TriesToWrite messages message silent said
+-- how a job ended, or that there was none
+abbrev pub EndsJob : {R W : Type 0} → Option Job → Stream R → Ended W → Type 0
+EndsJob (Some (job.Run kind variant limits)) input ended = EndsRun limits [] (ResultFits limits (printing_of kind variant)) input ended
+EndsJob (Some (job.Import variant lines_are noted)) input ended = (said : List ℕ) × EndsRun standard said (ImportFits variant noted said) input ended
+EndsJob (Some (job.Deal game number)) input ended = (input.new ≡ input.old) × EndsDeal game number ended
+EndsJob None input ended = (input.new ≡ input.old) × (ended.output.new ≡ ended.output.old) × (ended.status ≡ 2)
+
+-- how the program ended, by what its words were read as. A request that they are read as has a job
+abbrev pub EndsBy : {R W : Type 0} → Result (Option Request) WordsFault → Stream R → Ended W → Type 0
+EndsBy (Ok request) input ended = EndsJob (option_and_then job_of request) input ended
+EndsBy (Err Memory) input ended =
+    (input.new ≡ input.old) × (ended.output.new ≡ ended.output.old) × (ended.status ≡ 3) × (ended.message ≡ error_line (fault_words run.Memory))
+EndsBy (Err (Parser error)) input ended = (input.new ≡ input.old) × EndsParsing error ended
+
+-- the program read these words, and ended with this status, by what they ask for
+pub record EndsProgram {R W E : Type 0} (words : List Text) (input : Stream R) (output : Stream W) (errors : Stream E) (status : ℕ) : Type 0 where
+  pub answer : Result (Option Request) WordsFault
+  pub message : List ℕ
+  pub reads : Reads words answer
+  pub ends : EndsBy answer input (record { output = output; status = status; message = message })
+  pub said : TriesToWrite errors message
 
 -- the request that words are read as, if they are one's
 abbrev pub requested : Result (Option Request) WordsFault → Option Request

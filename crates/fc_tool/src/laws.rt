@@ -332,7 +332,8 @@ pub fn good_runs_say_nothing()
 /// What was to be said on standard error and did not go there whole shows in its counts: a write or
 /// the flush failed. So nothing said is lost in silence.
 pub fn nothing_said_is_lost_in_silence<Er: Write>(silent: &Counted<Er>, said: &Counted<Er>)
-    ensures { (text : List ℕ) → TriesToWrite Er.contents text silent.now said.now
+    ensures { (text : List ℕ)
+        → TriesToWrite (record { bytes = Er.contents; old = silent.now; new = said.now }) text
         → (counts_of said.now).failures ≡ (counts_of silent.now).failures
         → Appends (Er.contents (inner_of silent.now)) (Er.contents (inner_of said.now)) text }
 {}
@@ -341,12 +342,22 @@ pub fn nothing_said_is_lost_in_silence<Er: Write>(silent: &Counted<Er>, said: &C
 /// output that stays as it was does not fit, nor a text that is not that board's.
 pub fn a_deal_that_ends_well_is_written<Wr: Write>(before: &Counted<Wr>, after: &Counted<Wr>)
     ensures written { (game : Game) (number : ℕ) (message : List ℕ)
-        → EndsDealing Wr.contents before.now after.now 0 message game number
+        → EndsDealing game number
+        (record {
+          output = record { bytes = Wr.contents; old = before.now; new = after.now };
+          status = 0;
+          message = message;
+        })
         → (message ≡ []) × IsDealNumber number
         × Appends (Wr.contents (inner_of before.now)) (Wr.contents (inner_of after.now))
         (text_of (dealt_board game.cells (deal number))) }
     ensures moved { (game : Game) (number : ℕ) (message held : List ℕ)
-        → EndsDealing Wr.contents before.now after.now 0 message game number
+        → EndsDealing game number
+        (record {
+          output = record { bytes = Wr.contents; old = before.now; new = after.now };
+          status = 0;
+          message = message;
+        })
         → Wr.contents (inner_of before.now) ≡ Some held
         → Wr.contents (inner_of after.now) ≢ Some held }
 {}
@@ -365,8 +376,10 @@ pub fn a_program_that_ends_well_has_written_what_is_due<Rd: Read, Wr: Write, Er:
 )
     ensures { (task : Task) (kind : RunKind) (called : Text) (status : ℕ) (read held : List ℕ)
         → run_of_task Lines task ≡ Some kind
-        → EndsProgram Rd.remaining Wr.contents Er.contents input.now left.now before.now after.now
-        silent.now said.now status (called ∷ command_of task ∷ []) → status < 2
+        → EndsProgram (called ∷ command_of task ∷ [])
+        (record { bytes = Rd.remaining; old = input.now; new = left.now })
+        (record { bytes = Wr.contents; old = before.now; new = after.now })
+        (record { bytes = Er.contents; old = silent.now; new = said.now }) status → status < 2
         → Rd.remaining (inner_of input.now) ≡ Some read
         → Wr.contents (inner_of before.now) ≡ Some held
         → Wr.contents (inner_of after.now) ≡ Some (held

@@ -4,7 +4,7 @@ ghost use Rattle.std.specs.IoError.{error_kind};
 ghost use Rattle.std.specs.Prelude.{◌++◌, ◌<◌, ◌≡◌, ◌≢◌, ◌≤◌, ◌⊎◌, [], codes, length, List, map, ℕ};
 ghost use Rattle.std.specs.String.{string_bytes};
 ghost use Rattle.fc_collect.specs.Limits.{fault_words, standard};
-ghost use Rattle.fc_collect.specs.Promises.{Transfers, WritesAsCounted, WritesText};
+ghost use Rattle.fc_collect.specs.Promises.{WritesAsCounted, WritesText};
 ghost use Rattle.fc_collect.specs.Streams.{HasRoom, inner_of};
 ghost use Rattle.fc_collect.specs.declared.streams.faults.RunFault.TheVariants.{Memory};
 ghost use Rattle.fc_import.specs.Import.{ImportFits};
@@ -47,8 +47,10 @@ pub fn run_program<Rd: Read, Wr: Write, Er: Write>(
     requires input_low { HasRoom input.old }
     requires output_low { HasRoom output.old }
     requires errors_low { HasRoom errors.old }
-    ensures ends { EndsProgram Rd.remaining Wr.contents Er.contents input.old input.new
-        output.old output.new errors.old errors.new result (map string_bytes words.now) }
+    ensures ends { EndsProgram (map string_bytes words.now)
+        (record { bytes = Rd.remaining; old = input.old; new = input.new })
+        (record { bytes = Wr.contents; old = output.old; new = output.new })
+        (record { bytes = Er.contents; old = errors.old; new = errors.new }) result }
     ensures quiet { result < 2 → AsksToImport (map string_bytes words.now)
         ⊎ Keeps (Er.contents (inner_of errors.old)) (Er.contents (inner_of errors.new)) }
 {
@@ -105,9 +107,14 @@ impl Asked {
         requires output_low { HasRoom output.old }
         requires errors_low { HasRoom errors.old }
         ensures ends { (message : List ℕ)
-            × EndsBy Rd.remaining Wr.contents input.old input.new output.old output.new
-            result message self.now
-            × TriesToWrite Er.contents message errors.old errors.new }
+            × EndsBy self.now (record { bytes = Rd.remaining; old = input.old; new = input.new })
+            (record {
+              output = record { bytes = Wr.contents; old = output.old; new = output.new };
+              status = result;
+              message = message;
+            })
+            × TriesToWrite
+            (record { bytes = Er.contents; old = errors.old; new = errors.new }) message }
         ensures quiet { result < 2 → AsksForImport self.now
             ⊎ Keeps (Er.contents (inner_of errors.old)) (Er.contents (inner_of errors.new)) }
     {
@@ -185,9 +192,14 @@ fn run_job<Rd: Read, Wr: Write, Er: Write>(
     requires errors_low { HasRoom errors.old }
     requires countable { CountsUpTo job }
     ensures ends { (message : List ℕ)
-        × EndsJob Rd.remaining Wr.contents input.old input.new output.old output.new
-        result message job
-        × TriesToWrite Er.contents message errors.old errors.new }
+        × EndsJob job (record { bytes = Rd.remaining; old = input.old; new = input.new })
+        (record {
+          output = record { bytes = Wr.contents; old = output.old; new = output.new };
+          status = result;
+          message = message;
+        })
+        × TriesToWrite
+        (record { bytes = Er.contents; old = errors.old; new = errors.new }) message }
     ensures quiet { result < 2 → IsImport job
         ⊎ Keeps (Er.contents (inner_of errors.old)) (Er.contents (inner_of errors.new)) }
 {
@@ -218,9 +230,15 @@ fn import<Rd: Read, Wr: Write, Er: Write>(
     requires output_low { HasRoom output.old }
     requires errors_low { HasRoom errors.old }
     ensures { (message : List ℕ) × ((said : List ℕ)
-        × EndsRun Rd.remaining Wr.contents input.old input.new output.old output.new
-        result message standard said (Transfers (ImportFits variant noted said)))
-        × TriesToWrite Er.contents message errors.old errors.new }
+        × EndsRun standard said (ImportFits variant noted said)
+        (record { bytes = Rd.remaining; old = input.old; new = input.new })
+        (record {
+          output = record { bytes = Wr.contents; old = output.old; new = output.new };
+          status = result;
+          message = message;
+        }))
+        × TriesToWrite
+        (record { bytes = Er.contents; old = errors.old; new = errors.new }) message }
 {
     let mut said = Vec::new(alloc);
     let outcome = run_import(alloc, variant, lines_are, noted, input, output, &mut said);
@@ -244,8 +262,12 @@ fn say_notes<Er: Write>(said: &[u8], line: &[u8], errors: &mut Counted<Er>) -> R
 // Prints the board of a deal.
 fn run_deal<Wr: Write>(game: DealtGame, number: u32, output: &mut Counted<Wr>) -> Ending
     requires output_low { HasRoom output.old }
-    ensures ends { EndsDeal Wr.contents output.old output.new
-        result.status result.line.bytes game number }
+    ensures ends { EndsDeal game number
+        (record {
+          output = record { bytes = Wr.contents; old = output.old; new = output.new };
+          status = result.status;
+          message = result.line.bytes;
+        }) }
     ensures quiet { result.status < 2 → result.line.bytes ≡ [] }
 {
     match game {
@@ -256,8 +278,12 @@ fn run_deal<Wr: Write>(game: DealtGame, number: u32, output: &mut Counted<Wr>) -
 
 fn give_deal<R: Numbered, Wr: Write>(number: u32, output: &mut Counted<Wr>) -> Ending
     requires output_low { HasRoom output.old }
-    ensures ends { EndsDealing Wr.contents output.old output.new
-        result.status result.line.bytes R.game number }
+    ensures ends { EndsDealing R.game number
+        (record {
+          output = record { bytes = Wr.contents; old = output.old; new = output.new };
+          status = result.status;
+          message = result.line.bytes;
+        }) }
     ensures quiet { result.status < 2 → result.line.bytes ≡ [] }
 {
     match deal_board::<R>(number) {
@@ -276,8 +302,14 @@ fn end_parsing<Wr: Write, Er: Write>(
     requires output_low { HasRoom output.old }
     requires errors_low { HasRoom errors.old }
     ensures ends { (message : List ℕ)
-        × EndsParsing Wr.contents output.old output.new result message error.now
-        × TriesToWrite Er.contents message errors.old errors.new }
+        × EndsParsing error.now
+        (record {
+          output = record { bytes = Wr.contents; old = output.old; new = output.new };
+          status = result;
+          message = message;
+        })
+        × TriesToWrite
+        (record { bytes = Er.contents; old = errors.old; new = errors.new }) message }
     ensures quiet { result < 2 →
         Keeps (Er.contents (inner_of errors.old)) (Er.contents (inner_of errors.new)) }
 {
@@ -294,8 +326,12 @@ fn end_parsing<Wr: Write, Er: Write>(
 // Writes a text that was asked for.
 fn give_text<Wr: Write>(text: &[u8], output: &mut Counted<Wr>) -> Ending
     requires output_low { HasRoom output.old }
-    ensures ends { EndsWriting Wr.contents output.old output.new
-        result.status result.line.bytes text.now }
+    ensures ends { EndsWriting text.now
+        (record {
+          output = record { bytes = Wr.contents; old = output.old; new = output.new };
+          status = result.status;
+          message = result.line.bytes;
+        }) }
     ensures quiet { result.status < 2 → result.line.bytes ≡ [] }
 {
     match write_text(output, text) {
@@ -309,11 +345,11 @@ fn give_text<Wr: Write>(text: &[u8], output: &mut Counted<Wr>) -> Ending
 pub fn end_without_words<Er: Write>(error: &io::Error, errors: &mut Counted<Er>) -> u8
     requires errors_low { HasRoom errors.old }
     ensures memory { error_kind error.now ≡ OutOfMemory → (result ≡ 3)
-        × TriesToWrite Er.contents (error_line (fault_words Memory))
-        errors.old errors.new }
+        × TriesToWrite (record { bytes = Er.contents; old = errors.old; new = errors.new })
+        (error_line (fault_words Memory)) }
     ensures other { error_kind error.now ≢ OutOfMemory → (result ≡ 2)
-        × TriesToWrite Er.contents (error_line (codes "a word of the command line is not UTF-8"))
-        errors.old errors.new }
+        × TriesToWrite (record { bytes = Er.contents; old = errors.old; new = errors.new })
+        (error_line (codes "a word of the command line is not UTF-8")) }
 {
     if error.kind() == io::ErrorKind::OutOfMemory {
         return say(&out_of_memory(), errors);
@@ -326,7 +362,8 @@ pub fn end_without_words<Er: Write>(error: &io::Error, errors: &mut Counted<Er>)
 fn say<Er: Write>(ending: &Ending, errors: &mut Counted<Er>) -> u8
     requires errors_low { HasRoom errors.old }
     ensures status { result ≡ ending.now.status }
-    ensures said { TriesToWrite Er.contents ending.now.line.bytes errors.old errors.new }
+    ensures said { TriesToWrite (record { bytes = Er.contents; old = errors.old; new = errors.new })
+        ending.now.line.bytes }
     ensures quiet { ending.now.line.bytes ≡ [] →
         Keeps (Er.contents (inner_of errors.old)) (Er.contents (inner_of errors.new)) }
 {

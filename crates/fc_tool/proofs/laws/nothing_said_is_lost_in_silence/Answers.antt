@@ -18,4 +18,4 @@ whole text silent said before after (Err TooLarge) counted wrote same = absurd w
 whole text silent said before after (Err ReaderNeverEnds) counted wrote same = absurd wrote.fits
 
 pub returns : goal.returns
-returns g c text (result, counted, wrote) same = whole text c.args.silent.now c.args.said.now _ _ result counted wrote same
+returns g c text (result, writes) same = whole text c.args.silent.now c.args.said.now _ _ result writes.counted writes.bytes same

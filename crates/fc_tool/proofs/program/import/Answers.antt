@@ -13,8 +13,10 @@ returns g c =
       (notes, (outcome, c.finish-ending.ensures.status, refl, c.run_import-outcome.ensures.runs)),
       (
         c.say_notes.result,
-        c.say_notes.ensures.counted,
-        subst (λ text. WritesText text (messages (inner_of c.args.errors.now)) (messages (inner_of c.say_notes.new.errors)) c.say_notes.result)
-            (ap (λ front. front ++ c.as_bytes-line.result.now) c.as_slice.ensures.value ∙ ap (λ rest. notes ++ rest) line) c.say_notes.ensures.bytes,
+        record {
+          counted = c.say_notes.ensures.counted;
+          bytes = subst (λ text. WritesText text (messages (inner_of c.args.errors.now)) (messages (inner_of c.say_notes.new.errors)) c.say_notes.result)
+              (ap (λ front. front ++ c.as_bytes-line.result.now) c.as_slice.ensures.value ∙ ap (λ rest. notes ++ rest) line) c.say_notes.ensures.bytes;
+        },
       ),
     )
