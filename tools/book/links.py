@@ -39,7 +39,7 @@ def gathered(triples):
 
 
 def lemma_target(proof, name):
-    return f"proof-{proof.crate}.html#{'/'.join(proof.parts)}.{name}"
+    return f"proof-{proof.crate}.html#{proof.anchor}.{name}"
 
 
 def rank(found, homes, column):
@@ -51,7 +51,7 @@ def rank(found, homes, column):
 
 
 def proof_link(proof, words):
-    return link(f"proof-{proof.crate}.html#{'/'.join(proof.parts)}", words)
+    return link(f"proof-{proof.crate}.html#{proof.anchor}", words)
 
 
 def edit_link(edit):

@@ -20,11 +20,6 @@ QUESTIONS = [
 ]
 
 
-def title_of_proof(proof):
-    """Its place; the answers of a function have the function's."""
-    return "/".join(proof.parts).removesuffix("/Answers")
-
-
 class Book(Chapters):
     """What each page says."""
 
@@ -186,15 +181,15 @@ class Book(Chapters):
         return "".join([*parts, escape(text[done:], False)])
 
     def proof(self, proof, file):
-        return section("/".join(proof.parts), (
-            f"<h3>{escape(title_of_proof(proof))}</h3>\n" + paragraph(f"For {link(proof.piece.target, proof.piece.name)}." if proof.piece else "")
+        return section(proof.anchor, (
+            f"<h3>{escape(proof.anchor)}</h3>\n" + paragraph(f"For {link(proof.piece.target, proof.piece.name)}." if proof.piece else "")
             + folded("Lemmas that it imports", list(self.lemmas_of(proof, file))) + code_block(self.text_of_proof(proof))))
 
     def proof_pages(self):
         for crate, proofs in self.sources.proofs.items():
             if proofs:
                 file, ordered = f"proof-{crate}.html", sorted(proofs, key=lambda it: it.is_of_function)
-                ways = folded("Here", [link(f"#{'/'.join(it.parts)}", title_of_proof(it)) for it in ordered])
+                ways = folded("Here", [link(f"#{it.anchor}", it.anchor) for it in ordered])
                 parts = [self.ways_from(crate), ways, *(self.proof(it, file) for it in ordered)]
                 yield file, page(f"Proofs of {crate}", "".join(parts))
 

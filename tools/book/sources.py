@@ -61,12 +61,13 @@ class Piece:
 
 def end_of_head(lines, start):
     """The place where the body begins, or the end of a head without one."""
-    in_clauses = False
+    in_clauses, depth = False, 0  # depth: the braces of a clause that are open
     for place, line in enumerate(lines[start:], start):
         in_clauses = in_clauses or CLAUSE.match(line) is not None
+        depth += (line.count("{") - line.count("}")) * in_clauses
         if line in ("{", "{}"):
             return place
-        if line.endswith("};" if in_clauses else ("{", "{}", ";")):
+        if line.endswith("};" if in_clauses else ("{", "{}", ";")) and not depth:
             return place + 1
     return len(lines)
 
@@ -140,6 +141,7 @@ class Proof:
         parts = path.relative_to(CRATES[crate] / "proofs").with_suffix("").parts
         self.crate, self.parts, self.text, self.piece = crate, parts, path.read_text(), None
         self.is_of_function = parts[-1] in ("Answers", "Invariants")
+        self.anchor = "/".join(parts).removesuffix("/Answers")
         self.module = ".".join(["Rattle", crate, "proofs", *parts])
         self.lemmas = set(LEMMA.findall(self.text)) - {"use", "--"}
 
