@@ -234,7 +234,7 @@ class Book(Chapters):
         proved = documents.section(readme, "What is proved")
         parts = [self.document(readme, proved[proved.index("**Only tested**"):])]
         for path, title in ((trust, "Not promised"), (trust, "Only tested"), (proofs, "Definitions that no law reaches"),
-                            (proofs, "Planted bodies that are let through"), (proofs, "Wrong bodies that test cases see")):
+                            (proofs, "Planted bodies that are let through"), (proofs, "Mutation testing")):
             parts.append(f"<h2>{escape(title)}</h2>\n" + self.document(path, documents.section(path, title)))
         return "trusted.html", page("What is trusted, tested, neither", "".join(parts))
 
