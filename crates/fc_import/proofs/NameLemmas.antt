@@ -94,13 +94,13 @@ module _ (variant : Variant) where
       (sym (eqb-true byte header_mark begins)) (header_named name rest (lines_from (0 + 1) rest) (sym (first_line_is (0 + 1) rest))) one
 
   same_name : {game : Game} {state : State} {piece : List ℕ} {next : State} {written said : List ℕ} → Reading variant game state piece next written said → next.place.name ≡ state.place.name
-  same_name (passed quiet) = refl
-  same_name (left_out said names prose note) = refl
-  same_name (a_board name board said named well can of says) = refl
-  same_name (once_more board said last of says) = refl
-  same_name (a_list board list said last legal few says) = refl
+  same_name (passed apart quiet) = refl
+  same_name (left_out said apart names prose note) = refl
+  same_name (a_board name board said game_is named well can of says) = refl
+  same_name (once_more board said last begun of says) = refl
+  same_name (a_list board list said apart last legal few names says) = refl
   same_name (refused_board said note) = refl
-  same_name (refused_list last said stays note) = refl
+  same_name (refused_list last said apart stays note) = refl
 
   pub names : {noted : Noted} {game : Game} {text : List ℕ} {state : State} {written said : List ℕ} → Imported variant noted game text state written said
       → state.place.name ≡ fold name_after [] (lines_from 0 text)

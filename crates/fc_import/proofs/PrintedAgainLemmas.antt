@@ -173,23 +173,23 @@ module _ {variant : Variant} {game : Game} where
   read_more : {state : State} {piece : List ℕ} {next : State} {written more says : List ℕ}
       → Reading variant game state piece next more says
       → SoFar variant game state written → SoFar variant game next (written ++ more)
-  read_more (passed quiet) so_far = unwritten refl (λ board is. is) so_far
-  read_more (left_out said names prose note) so_far = unwritten refl (λ board is. is) so_far
-  read_more {state = state} (a_board name board said named well can of says) so_far = record {
+  read_more (passed apart quiet) so_far = unwritten refl (λ board is. is) so_far
+  read_more (left_out said apart names prose note) so_far = unwritten refl (λ board is. is) so_far
+  read_more {state = state} (a_board name board said game_is named well can of says) so_far = record {
     named = so_far.named;
     last = Some board;
     printed = record_more name board (one_name state name named so_far.named) well so_far.printed;
     same = λ other is. is;
   }
-  read_more (once_more board said last of says) so_far = unwritten refl (λ board is. is) so_far
-  read_more (a_list board list said last legal few says) so_far = record {
+  read_more (once_more board said last begun of says) so_far = unwritten refl (λ board is. is) so_far
+  read_more (a_list board list said apart last legal few names says) so_far = record {
     named = so_far.named;
     last = Some board;
     printed = list_more board list legal few so_far.printed (so_far.same board last);
     same = λ other is. sym last ∙ is;
   }
   read_more (refused_board said note) so_far = unwritten refl (λ board is. absurd (cc)) so_far
-  read_more {state = state} {piece = piece} (refused_list last said stays note) so_far = unwritten refl
+  read_more {state = state} {piece = piece} (refused_list last said apart stays note) so_far = unwritten refl
       (by stays) so_far
     where
       by : StaysLast game piece state.last last → (board : Board) → last ≡ Some board → state.last ≡ Some board
@@ -225,7 +225,7 @@ pub printed_kept : {variant : Variant} {noted : Noted} {bytes made said : List �
     → Makes variant noted bytes made said summary → IsPrinted variant (game_of variant) None (text_read bytes)
     → text_read bytes ≢ []
     → IsShown variant (text_read bytes) records → (made ≡ text_read bytes) × (said ≡ [])
-printed_kept (collection state made notes records imported shown refused is) printed some shows =
+printed_kept (collection state made notes records imported shown some_made refused is) printed some shows =
     let (as_it_is, silent) = imported.kept printed in
     (as_it_is, ap (with_tally state.tally) silent)
 printed_kept (no_board state notes imported none) printed some shows = absurd (some (sym (imported.kept printed).0))
@@ -234,7 +234,7 @@ printed_kept {variant = variant} {records = records} (too_much state made notes 
 
 pub makes_printed : {variant : Variant} {noted : Noted} {bytes made said : List ℕ} {summary : Summary}
     → Makes variant noted bytes made said summary → IsPrinted variant (game_of variant) None made
-makes_printed (collection state made notes records imported shown refused is) = written_printed imported.imported
+makes_printed (collection state made notes records imported shown some_made refused is) = written_printed imported.imported
 makes_printed (no_board state notes imported none) = nothing None
 makes_printed (too_much state made notes imported unshown) = nothing None
 
@@ -243,7 +243,7 @@ pub makes_again : {variant : Variant} {noted other : Noted} {bytes made said mor
     {summary next : Summary}
     → Makes variant noted bytes made said summary → made ≢ [] → text_read more ≡ made
     → Makes variant other more again says next → (again ≡ made) × (says ≡ [])
-makes_again {variant = variant} (collection state made notes records imported shown refused is) some read second =
+makes_again {variant = variant} (collection state made notes records imported shown some_made refused is) some read second =
     let printed = subst (IsPrinted variant (game_of variant) None) (sym read) (written_printed imported.imported) in
     let (same, silent) = printed_kept second printed (λ none. some (sym read
     ∙ none)) (subst (λ text. IsShown variant text records) (sym read) shown) in

@@ -1,7 +1,7 @@
 -- What fcanon prints is imported as it is.
 use Rattle.std.proofs.Common.{◌++◌, ◌<◌, ◌∙◌, ◌∷◌, ◌≡◌, ◌≢◌, ◌≤◌, ◌⊎◌, [], All, ap, append-nil, append_assoc}
 use Rattle.std.proofs.Common.{ap₂, arith, false, get_or, inl, inr, length, List, Option, refl, Some}
-use Rattle.std.proofs.Common.{subst, sym, true, ℕ}
+use Rattle.std.proofs.Common.{not, subst, sym, true, ℕ}
 use Rattle.std.proofs.lemmas.List.Elements.{All-cons, All-nil, All-weaker}
 use Rattle.fc_board.specs.{Boards.{Board, IsWellFormed}, Games.{Game}}
 use Rattle.fc_board.specs.Moves.{Fits, ListFits, move_count, MoveList, OneCard, RunFits, Runs}
@@ -22,8 +22,9 @@ use Rattle.fc_record.specs.{Printing.{header_text, list_line}, RecordTexts.{ends
 use Rattle.fc_import.proofs.TakingLemmas.{one_taken_more, taken}
 use Rattle.fc_import.specs.Import.{a_board, a_list, BoardNeedsNoNote, HasNoHeader, IsHeading, IsNamed}
 use Rattle.fc_import.specs.Import.{IsPrinted, list_next, ListNeedsNoNote, nothing, record_next}
-use Rattle.fc_import.specs.inside.{form_of, GoesOn, IsMade, Names, state_of, Takes, TakesName}
-use Rattle.fc_import.specs.{Notes.{after, name_by}, Words.{named_moves}}
+use Rattle.fc_import.specs.Import.{Names}
+use Rattle.fc_import.specs.inside.{form_of, GoesOn, IsMade, state_of, Takes, TakesName}
+use Rattle.fc_import.specs.Notes.{after, name_by, names_game}
 use Rattle.fc_import.specs.declared.changes.Noted.{Noted, TheVariants.{Changes, Doubts, Strict}}
 use Rattle.fc_import.specs.declared.made.Form.TheVariants as in_form
 use Rattle.fc_import.specs.declared.made.Made.{Made}
@@ -138,9 +139,19 @@ board_unnoted Strict game piece board well is = is
 -- nor of a list
 pub list_unnoted : (noted : Noted) (game : Game) (piece : List ℕ) (list : MoveList) → piece ≡ list_line list
     → ListNeedsNoNote noted game piece list
-list_unnoted Doubts game piece list is = ap (named_moves game) is
+list_unnoted Doubts game piece list is = inl is
 list_unnoted Changes game piece list is = is
 list_unnoted Strict game piece list is = is
+
+-- a list begins with its mark, and a header names its game
+marked : (list : MoveList) → begins_with list_mark (list_line list) ≡ true
+marked (OneCard moves) = refl
+marked (Runs moves) = refl
+
+this_game : (variant : Variant) (name : List ℕ) → names_game variant (header_text variant name) ≡ true
+this_game FreeCell name = refl
+this_game BakersGame name = refl
+this_game EightOff name = refl
 
 -- ---- what is taken in its turn
 
@@ -172,7 +183,7 @@ module _ {R : Type 0} (variant : Variant) (game : Game) where
   board_kept line piece name board old between new names name_is some_name line_is well piece_is state written notes =
       taken variant game piece between new (after (state_of between) piece (Some board) ABoard) state
       (header_text variant name ++ text_of board) []
-      (a_board name board [] (subst (λ state. IsNamed state name) (sym names.state)
+      (a_board name board [] (ap (λ state. state.other_game) names.state ∙ ap (λ line. not (names_game variant line)) line_is ∙ ap not (this_game variant name)) (subst (λ state. IsNamed state name) (sym names.state)
       (record {
         by_header = λ some. name_is;
         alone = λ none. absurd (some_name (name_is
@@ -190,7 +201,7 @@ module _ {R : Type 0} (variant : Variant) (game : Game) where
       → new.notes.items ≡ old.notes.items → Takes variant game piece old new
   list_kept piece board list old new last legal few piece_is state written notes =
       taken variant game piece old new (after (state_of old) piece old.last AList) state (list_line list) []
-      (a_list board list [] last legal few (inl (list_unnoted old.noted game piece list piece_is, refl)))
+      (a_list board list [] (inr (inl (ap (begins_with list_mark) piece_is ∙ marked list))) last legal few (inl piece_is) (inl (list_unnoted old.noted game piece list piece_is, refl)))
       (written ∙ ap (λ piece. old.written.items ++ piece) piece_is) (notes ∙ sym (append-nil old.notes.items))
 
 -- ---- a text that fcanon prints

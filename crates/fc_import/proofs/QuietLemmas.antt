@@ -1,24 +1,30 @@
--- Lemmas on words that are moves.
-use Rattle.std.proofs.Common.{◌&&◌, ◌∷◌, ◌≡◌, [], ap, ap₂, Bool, false, List, not, true, ℕ}
-use Rattle.std.specs.Char.{is_ascii_digit}
-use Rattle.std.specs.List.{list_all}
-use Rattle.std.specs.Option.{is_some}
-use Rattle.{fc_board.specs.Games.{Game}, fc_import.specs.Words.{are_moves}}
-use Rattle.fc_text.specs.reader.{run_named}
+-- Lemmas on what the words of a line name.
+use Rattle.std.proofs.Common.{◌++◌, ◌∙◌, ◌∷◌, ◌≡◌, [], ap, append_assoc, arith, Bool, false, if◌then◌else◌, length, List, refl, sym, true, ℕ}
+use Rattle.std.specs.List.{flat_map, fold}
+use Rattle.fc_record.specs.{Grammar.{begins_with}, RecordTexts.{header_mark}}
+use Rattle.fc_import.specs.Scan.{cards_in, named_cards}
 
-module _ (game : Game) where
-  abbrev IsMove : List ℕ → Bool
-  IsMove word = is_some (run_named game word)
+no_cards : (cards : List ℕ) → length cards ≡ 0 → cards ≡ []
+no_cards [] none = refl
+no_cards (card ∷ cards) none = absurd (omega (arith, none))
 
-  pub first_is_none : (word : List ℕ) (words : List (List ℕ)) → is_some (run_named game word) ≡ false → are_moves game (word ∷ words) ≡ false
-  first_is_none word [] none = ap (λ is. is && not (list_all is_ascii_digit word)) none
-  first_is_none word (next ∷ words) none = ap (λ is. is && list_all IsMove (next ∷ words)) none
+pub none_named : (line : List ℕ) → length (cards_in line) ≡ 0 → named_cards line ≡ []
+none_named line none = by (begins_with header_mark line)
+  where
+    by : (is : Bool) → (if is then [] else cards_in line) ≡ []
+    by true = refl
+    by false = no_cards (cards_in line) none
 
-  pub one_is : (word : List ℕ) → is_some (run_named game word) ≡ true → are_moves game (word ∷ []) ≡ not (list_all is_ascii_digit word)
-  one_is word some = ap (λ is. is && not (list_all is_ascii_digit word)) some
+-- ---- one word more
 
-  pub second_is_none : (word next : List ℕ) (words : List (List ℕ)) → is_some (run_named game word) ≡ true → is_some (run_named game next) ≡ false → are_moves game (word ∷ next ∷ words) ≡ false
-  second_is_none word next words some none = ap₂ (λ is other. is && (other && list_all IsMove words)) some none
+module _ {Word : Type 0} (word : Word) (left rest : List Word) (is : left ≡ word ∷ rest) where
+  pub cards_more : (of : Word → List ℕ) (placed gapped named whole : List ℕ) → placed ++ flat_map of left ≡ whole → gapped ≡ placed → named ≡ gapped ++ of word
+      → named ++ flat_map of rest ≡ whole
+  cards_more of placed gapped named whole so_far same grows =
+      ap (λ cards. cards ++ flat_map of rest) grows ∙ append_assoc gapped (of word) (flat_map of rest)
+      ∙ ap (λ cards. cards ++ (of word ++ flat_map of rest)) same ∙ ap (λ words. placed ++ flat_map of words) (sym is) ∙ so_far
 
-  pub all_are : (word next : List ℕ) (words : List (List ℕ)) → is_some (run_named game word) ≡ true → is_some (run_named game next) ≡ true → are_moves game (word ∷ next ∷ words) ≡ list_all IsMove words
-  all_are word next words some also = ap₂ (λ is other. is && (other && list_all IsMove words)) some also
+  pub said_more : {Said : Type 0} (step : Said → Word → Said) (is_said : Bool) (old new whole : Said) → (if is_said then old else fold step old left) ≡ whole
+      → new ≡ (if is_said then old else step old word) → (if is_said then new else fold step new rest) ≡ whole
+  said_more step true old new whole so_far grows = grows ∙ so_far
+  said_more step false old new whole so_far grows = ap (λ said. fold step said rest) grows ∙ ap (fold step old) (sym is) ∙ so_far

@@ -1,5 +1,5 @@
 -- Lemmas on reading the input, and on how a run ends after it.
-use Rattle.std.proofs.Common.{◌++◌, ◌+◌, ◌<◌, ◌↔◌, ◌∙◌, ◌∷◌, ◌≡◌, ◌≢◌, ◌≤◌, [], All, ap, append-nil}
+use Rattle.std.proofs.Common.{◌++◌, ◌+◌, ◌<◌, ◌↔◌, ◌∙◌, ◌∷◌, ◌≡◌, ◌≢◌, ◌≤◌, ◌⊎◌, [], All, ap, append-nil}
 use Rattle.std.proofs.Common.{arith, Bool, Err, false, length, length-append, List, None, Ok}
 use Rattle.std.proofs.Common.{Option, refl, Result, Some, subst, subst₂, sym, true, ℕ}
 use Rattle.std.proofs.KnownBytes.{Consumes-trans}
@@ -186,12 +186,13 @@ module _ (variant : Variant) (noted : Noted) (bytes made said : List ℕ) (summa
   -- a collection is made of it
   pub collection_made : (state : State) (notes : List ℕ) (records refused : ℕ)
       → IsImportedAs variant noted (text_read bytes) state made notes → IsShown variant made records
+      → (made ≢ []) ⊎ (0 < refusals state.tally)
       → refused ≡ refused_by noted state.tally notes → said ≡ with_tally state.tally notes
       → summary.records ≡ counted (records + refused) → summary.refused ≡ refused
       → Makes variant noted bytes made said summary
-  collection_made state notes records refused imported shown refused_is said_is records_are refused_are =
+  collection_made state notes records refused imported shown some_made refused_is said_is records_are refused_are =
       subst (λ said. Makes variant noted bytes made said summary) (sym said_is)
       (subst₂ (λ records refused. Makes variant noted bytes made (with_tally state.tally notes)
       (record { records = records; refused = refused }))
       (sym records_are) (sym refused_are)
-      (collection state made notes records imported shown refused refused_is))
+      (collection state made notes records imported shown some_made refused refused_is))

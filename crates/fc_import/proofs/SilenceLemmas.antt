@@ -1,19 +1,20 @@
 -- Lemmas on texts of which nothing is said.
-use Rattle.std.proofs.Common.{◌++◌, ◌+◌, ◌∙◌, ◌∷◌, ◌≡◌, ◌≢◌, ◌≤◌, [], All, ap, ap₂, arith, length}
+use Rattle.std.proofs.Common.{◌++◌, ◌+◌, ◌∙◌, ◌∷◌, ◌≡◌, ◌≢◌, ◌≤◌, ◌⊎◌, [], All, ap, ap₂, arith, inl, inr, length}
 use Rattle.std.proofs.{Common.{List, map, None, refl, subst, sym, true, ℕ}, lemmas.Bool.{eqb-true}}
-use Rattle.std.proofs.lemmas.{Grind.{flat_map-append}, List.Elements.{All-head, All-tail}}
-use Rattle.std.specs.List.{flat_map}
+use Rattle.std.proofs.lemmas.{Grind.{flat_map-append}, List.Elements.{All-contains, All-head, All-tail}}
+use Rattle.std.specs.List.{Contains, flat_map}
 use Rattle.{fc_board.specs.Games.{Game}, fc_import.specs.declared.changes.Noted.{Noted}}
 use Rattle.fc_board.specs.declared.rule.Variant.TheVariants.{BakersGame, EightOff, FreeCell}
 use Rattle.fc_board.specs.declared.rule.Variant.{Variant}
 use Rattle.fc_text.proofs.LineLemmas.{lines_from-moved}
 use Rattle.fc_text.specs.{Lines.{in_line, lines_from, moved, Piece}, Printed.{text_of}}
 use Rattle.fc_record.{proofs.TextLineLemmas.{lines_after}, specs.Grammar.{begins_with}}
-use Rattle.fc_record.specs.{Printing.{header_text}, RecordTexts.{ends_line, header_mark}}
-use Rattle.fc_import.specs.Import.{a_board, a_list, headed, Imported, IsQuiet, left_out, none_yet}
+use Rattle.fc_board.specs.Moves.{MoveList, OneCard, Runs}
+use Rattle.fc_record.specs.{Printing.{header_text, list_line}, RecordTexts.{ends_line, header_mark}}
+use Rattle.fc_import.specs.Import.{a_board, a_list, headed, Imported, IsApart, left_out, none_yet}
 use Rattle.fc_import.specs.Import.{once_more, one_more, passed, Reading, refused_board}
 use Rattle.fc_import.specs.{Import.{refused_list}, Notes.{counted, IsNote, Place, State}}
-use Rattle.fc_import.specs.Words.{named_cards, named_in}
+use Rattle.fc_import.specs.{Scan.{is_list, IsQuiet, named_cards}, Words.{named_in}}
 
 pub both_empty : {A : Type 0} (xs ys : List A) → xs ++ ys ≡ [] → (xs ≡ []) × (ys ≡ [])
 both_empty [] ys none = (refl, none)
@@ -33,16 +34,16 @@ abbrev pub AllTaken : State → Type 0
 AllTaken state = (state.tally.refused_boards ≡ 0) × (state.tally.refused_lists ≡ 0) × (state.tally.left_out ≡ 0)
 
 still_taken : {variant : Variant} {game : Game} {state : State} {piece : List ℕ} {next : State} {written said : List ℕ} → Reading variant game state piece next written said → said ≡ [] → AllTaken state → AllTaken next
-still_taken (passed quiet) silent (boards, lists, lines) = (none_more _ boards, none_more _ lists, none_more _ lines)
-still_taken (left_out said names prose note) silent before = absurd (note_said _ _ said note silent)
-still_taken (a_board name board said named well can of says) silent (boards, lists, lines) =
+still_taken (passed apart quiet) silent (boards, lists, lines) = (none_more _ boards, none_more _ lists, none_more _ lines)
+still_taken (left_out said apart names prose note) silent before = absurd (note_said _ _ said note silent)
+still_taken (a_board name board said game_is named well can of says) silent (boards, lists, lines) =
     (none_more _ boards, none_more _ lists, none_more _ lines)
-still_taken (once_more board said last of says) silent (boards, lists, lines) =
+still_taken (once_more board said last begun of says) silent (boards, lists, lines) =
     (none_more _ boards, none_more _ lists, none_more _ lines)
-still_taken (a_list board list said last legal few says) silent (boards, lists, lines) =
+still_taken (a_list board list said apart last legal few names says) silent (boards, lists, lines) =
     (none_more _ boards, none_more _ lists, none_more _ lines)
 still_taken (refused_board said note) silent before = absurd (note_said _ _ said note silent)
-still_taken (refused_list last said stays note) silent before = absurd (note_said _ _ said note silent)
+still_taken (refused_list last said apart stays note) silent before = absurd (note_said _ _ said note silent)
 
 pub all_taken : {variant : Variant} {noted : Noted} {game : Game} {text : List ℕ} {state : State}
     {written said : List ℕ} → Imported variant noted game text state written said → said ≡ [] → AllTaken state
@@ -98,14 +99,14 @@ NoneLost state text = (state.last ≡ None) × (named_in text ≡ [])
 
 none_lost : {variant : Variant} {game : Game} {state : State} {piece : List ℕ} {next : State} {written said : List ℕ} → Reading variant game state piece next written said → written ≡ [] → said ≡ []
     → state.last ≡ None → NoneLost next piece
-none_lost {game = game} {piece = piece} (passed quiet) nothing silent alone = (alone, quiet_cards game (lines_from 0 piece) quiet)
-none_lost (left_out said names prose note) nothing silent alone = absurd (note_said _ _ said note silent)
-none_lost {variant = variant} (a_board name board said named well can of says) nothing silent alone =
+none_lost {game = game} {piece = piece} (passed apart quiet) nothing silent alone = (alone, quiet_cards game (lines_from 0 piece) quiet)
+none_lost (left_out said apart names prose note) nothing silent alone = absurd (note_said _ _ said note silent)
+none_lost {variant = variant} (a_board name board said game_is named well can of says) nothing silent alone =
     absurd (header_written variant name (text_of board) nothing)
-none_lost (once_more board said last of says) nothing silent alone = absurd (let e = sym alone ∙ last in cc)
-none_lost (a_list board list said last legal few says) nothing silent alone = absurd (let e = sym alone ∙ last in cc)
+none_lost (once_more board said last begun of says) nothing silent alone = absurd (let e = sym alone ∙ last in cc)
+none_lost (a_list board list said apart last legal few names says) nothing silent alone = absurd (let e = sym alone ∙ last in cc)
 none_lost (refused_board said note) nothing silent alone = absurd (note_said _ _ said note silent)
-none_lost (refused_list last said stays note) nothing silent alone = absurd (note_said _ _ said note silent)
+none_lost (refused_list last said apart stays note) nothing silent alone = absurd (note_said _ _ said note silent)
 
 pub no_card_lost : {variant : Variant} {noted : Noted} {game : Game} {text : List ℕ} {state : State}
     {written said : List ℕ} → Imported variant noted game text state written said → written ≡ [] → said ≡ []
@@ -119,3 +120,35 @@ no_card_lost (one_more text state written said so_far ends piece none next more 
     let before = no_card_lost so_far texts.0 notes.0 in
     let now = none_lost reading texts.1 notes.1 before.0 in
     (now.0, named_after text piece ends ∙ ap₂ (λ first rest. first ++ rest) before.1 now.1)
+
+-- ---- no solution is lost
+
+list_written : (list : MoveList) → list_line list ≢ []
+list_written (OneCard moves) none = absurd (cc)
+list_written (Runs moves) none = absurd (cc)
+
+not_both : (game : Game) (line : Piece) → IsQuiet game line.bytes → is_list game line.bytes ≡ true → ⊥
+not_both game line quiet list = let e = sym quiet.no_list ∙ list in absurd (cc)
+
+-- a piece with a list, of which nothing is written and nothing said, is the last board once more
+pub not_silent : {variant : Variant} {game : Game} {state : State} {piece : List ℕ} {next : State} {written said : List ℕ} (line : Piece) → Contains (lines_from 0 piece) line
+    → is_list game line.bytes ≡ true → Reading variant game state piece next written said → written ≡ [] → said ≡ [] → state.begun ≡ true
+not_silent {game = game} {piece = piece} line inside list (passed apart quiet) nothing silent =
+    absurd (not_both game line (All-contains (λ line. IsQuiet game line.bytes) (lines_from 0 piece) line quiet inside) list)
+not_silent line inside list (left_out said apart names prose note) nothing silent = absurd (note_said _ _ said note silent)
+not_silent {variant = variant} line inside list (a_board name board said game_is named well can of says) nothing silent = absurd (header_written variant name (text_of board) nothing)
+not_silent line inside list (once_more board said last begun of says) nothing silent = begun
+not_silent line inside list (a_list board moves said apart last legal few names says) nothing silent = absurd (list_written moves nothing)
+not_silent line inside list (refused_board said note) nothing silent = absurd (note_said _ _ said note silent)
+not_silent line inside list (refused_list last said apart stays note) nothing silent = absurd (note_said _ _ said note silent)
+
+-- what is not apart is a board
+pub not_cut : {variant : Variant} {game : Game} {state : State} {piece : List ℕ} {next : State} {written said : List ℕ} → ¬ IsApart state piece
+    → Reading variant game state piece next written said → (next.last ≡ None) ⊎ (written ≢ []) ⊎ (state.begun ≡ true)
+not_cut joined (passed apart quiet) = absurd (joined apart)
+not_cut joined (left_out said apart names prose note) = absurd (joined apart)
+not_cut {variant = variant} joined (a_board name board said game_is named well can of says) = inr (inl (header_written variant name (text_of board)))
+not_cut joined (once_more board said last begun of says) = inr (inr begun)
+not_cut joined (a_list board list said apart last legal few names says) = absurd (joined apart)
+not_cut joined (refused_board said note) = inl refl
+not_cut joined (refused_list last said apart stays note) = absurd (joined apart)

@@ -15,7 +15,6 @@ use Rattle.fc_import.specs.Import.{no_board, no_board_line, none_yet, once_more,
 use Rattle.fc_import.specs.Import.{Reading, refusals, refused_board, refused_by, refused_list}
 use Rattle.fc_import.specs.Import.{too_much, too_much_line, with_tally}
 use Rattle.fc_import.specs.Notes.{counted, IsNote, line_feeds, Place, place_text, SaysUnless, State}
-use Rattle.fc_import.specs.Words.{named_moves}
 use Rattle.fc_import.specs.declared.changes.Noted.{Noted, TheVariants.{Changes, Doubts, Strict}}
 use Rattle.fc_import.specs.declared.tally.Tally.{Tally}
 
@@ -27,6 +26,9 @@ doubting state = record {
   noted = Doubts;
   last = state.last;
   place = state.place;
+  begun = state.begun;
+  goes_on = state.goes_on;
+  other_game = state.other_game;
   named = state.named;
   tally =
       state.tally;
@@ -46,14 +48,14 @@ no_last board is = absurd (cc)
 well_next : {variant : Variant} {game : Game} {state : State} {piece : List ℕ} {next : State} {written said : List ℕ}
     → Reading variant game state piece next written said
     → LastIsWell game state.last → LastIsWell game next.last
-well_next (passed quiet) well = well
-well_next (left_out said names prose note) well = well
-well_next (a_board name board said named is can of says) well = one_board board is
-well_next (once_more board said last of says) well = well
-well_next (a_list board list said last legal few says) well = well
+well_next (passed apart quiet) well = well
+well_next (left_out said apart names prose note) well = well
+well_next (a_board name board said game_is named is can of says) well = one_board board is
+well_next (once_more board said last begun of says) well = well
+well_next (a_list board list said apart last legal few names says) well = well
 well_next (refused_board said note) well = no_last
-well_next {game = game} (refused_list last said (inl none) note) well = subst (LastIsWell game) (sym none) no_last
-well_next {game = game} (refused_list last said (inr (same, lines)) note) well = subst (LastIsWell game) (sym same) well
+well_next {game = game} (refused_list last said apart (inl none) note) well = subst (LastIsWell game) (sym none) no_last
+well_next {game = game} (refused_list last said apart (inr (same, lines)) note) well = subst (LastIsWell game) (sym same) well
 
 -- where nothing was said, nothing may be said for a weaker reason
 silent_as : {holds other : Type 0} (place : Place) (piece said : List ℕ) → (holds → other)
@@ -61,30 +63,30 @@ silent_as : {holds other : Type 0} (place : Place) (piece said : List ℕ) → (
 silent_as place piece said so (inl (holds, none)) silent = inl (so holds, none)
 silent_as place piece said so (inr (fails, note)) silent = absurd (note_said place piece said note silent)
 
--- lines that need no note of a list name its moves
-moves_named : (asked : Noted) (game : Game) (piece : List ℕ) (list : MoveList) → ListNeedsNoNote asked game piece list
-    → named_moves game piece ≡ named_moves game (list_line list)
-moves_named Doubts game piece list silent = silent
-moves_named Changes game piece list silent = ap (named_moves game) silent
-moves_named Strict game piece list silent = ap (named_moves game) silent
+-- lines that need no note of a list need none where doubts alone are noted
+needs_none : (asked : Noted) (game : Game) (piece : List ℕ) (list : MoveList) → ListNeedsNoNote asked game piece list
+    → ListNeedsNoNote Doubts game piece list
+needs_none Doubts game piece list silent = silent
+needs_none Changes game piece list silent = inl silent
+needs_none Strict game piece list silent = inl silent
 
 -- a piece of which nothing was said is read so where doubts alone are noted
 still_silent : {variant : Variant} {game : Game} {state : State} {piece : List ℕ} {next : State}
     {written said : List ℕ} → Reading variant game state piece next written said → said ≡ []
     → LastIsWell game state.last → Reading variant game (doubting state) piece (doubting next) written said
-still_silent (passed quiet) silent well = passed quiet
-still_silent (left_out said names prose note) silent well = absurd (note_said _ _ said note silent)
-still_silent {game = game} {state = state} {piece = piece} (a_board name board said named is can of says) silent well =
-    a_board name board said (record { by_header = named.by_header; alone = named.alone }) is can of
+still_silent (passed apart quiet) silent well = passed apart quiet
+still_silent (left_out said apart names prose note) silent well = absurd (note_said _ _ said note silent)
+still_silent {game = game} {state = state} {piece = piece} (a_board name board said game_is named is can of says) silent well =
+    a_board name board said game_is (record { by_header = named.by_header; alone = named.alone }) is can of
     (silent_as state.place piece said (spelled_out state.noted game piece board is) says silent)
-still_silent {game = game} {state = state} {piece = piece} (once_more board said last of says) silent well =
-    once_more board said last of
+still_silent {game = game} {state = state} {piece = piece} (once_more board said last begun of says) silent well =
+    once_more board said last begun of
     (silent_as state.place piece said (spelled_out state.noted game piece board (well board last)) says silent)
-still_silent {game = game} {state = state} {piece = piece} (a_list board list said last legal few says) silent well =
-    a_list board list said last legal few
-    (silent_as state.place piece said (moves_named state.noted game piece list) says silent)
+still_silent {game = game} {state = state} {piece = piece} (a_list board list said apart last legal few names says) silent well =
+    a_list board list said apart last legal few names
+    (silent_as state.place piece said (needs_none state.noted game piece list) says silent)
 still_silent (refused_board said note) silent well = absurd (note_said _ _ said note silent)
-still_silent (refused_list last said stays note) silent well = absurd (note_said _ _ said note silent)
+still_silent (refused_list last said apart stays note) silent well = absurd (note_said _ _ said note silent)
 
 -- the last board of a text is well formed
 last_is_well : {variant : Variant} {noted : Noted} {game : Game} {text : List ℕ} {state : State}
@@ -124,13 +126,13 @@ unless_ends place piece said (inr (fails, note)) = note_ends place piece said no
 
 says_end : {variant : Variant} {game : Game} {state : State} {piece : List ℕ} {next : State} {written said : List ℕ}
     → Reading variant game state piece next written said → ends_line said ≡ true
-says_end (passed quiet) = refl
-says_end (left_out said names prose note) = note_ends _ _ said note
-says_end (a_board name board said named well can of says) = unless_ends _ _ said says
-says_end (once_more board said last of says) = unless_ends _ _ said says
-says_end (a_list board list said last legal few says) = unless_ends _ _ said says
+says_end (passed apart quiet) = refl
+says_end (left_out said apart names prose note) = note_ends _ _ said note
+says_end (a_board name board said game_is named well can of says) = unless_ends _ _ said says
+says_end (once_more board said last begun of says) = unless_ends _ _ said says
+says_end (a_list board list said apart last legal few names says) = unless_ends _ _ said says
 says_end (refused_board said note) = note_ends _ _ said note
-says_end (refused_list last said stays note) = note_ends _ _ said note
+says_end (refused_list last said apart stays note) = note_ends _ _ said note
 
 -- and the notes of a text are whole lines
 notes_end : {variant : Variant} {noted : Noted} {game : Game} {text : List ℕ} {state : State} {written said : List ℕ}
@@ -194,14 +196,14 @@ none_missed imported silent =
 
 pub silent_makes : {variant : Variant} {noted : Noted} {bytes made said : List ℕ} {summary : Summary}
     → Makes variant noted bytes made said summary → said ≡ [] → Makes variant Doubts bytes made said summary
-silent_makes {noted = noted} (collection state made notes records imported shown refused is) silent =
+silent_makes {noted = noted} (collection state made notes records imported shown some_made refused is) silent =
     let quiet = untallied state.tally notes silent in
     let none = none_missed imported.imported quiet in
     collection (doubting state) made notes records (record {
       imported = silent_without imported.imported quiet;
       kept
           = imported.kept;
-    }) shown refused
+    }) shown some_made refused
     (is ∙ none_refused noted state.tally notes quiet none ∙ sym none)
 silent_makes (no_board state notes imported none) silent =
     absurd (said_last (with_tally state.tally notes) no_board_line no_board_said silent)
@@ -216,14 +218,14 @@ strict_some tally (byte ∷ rest) ends some = let lines = some_line byte rest en
 
 pub strict_refuses : {variant : Variant} {bytes made said : List ℕ} {summary : Summary}
     → Makes variant Strict bytes made said summary → said ≢ [] → 0 < summary.refused
-strict_refuses (collection state made notes records imported shown refused is) some =
+strict_refuses (collection state made notes records imported shown some_made refused is) some =
     subst (λ count. 0 < count) (sym is) (strict_some state.tally notes (notes_end imported.imported) some)
 strict_refuses (no_board state notes imported none) some = omega arith
 strict_refuses (too_much state made notes imported unshown) some = omega arith
 
 pub strict_silent : {variant : Variant} {noted : Noted} {bytes made said : List ℕ} {summary : Summary}
     → Makes variant noted bytes made said summary → said ≡ [] → summary.refused ≡ 0
-strict_silent {noted = noted} (collection state made notes records imported shown refused is) silent =
+strict_silent {noted = noted} (collection state made notes records imported shown some_made refused is) silent =
     let quiet = untallied state.tally notes silent in
     is ∙ none_refused noted state.tally notes quiet (none_missed imported.imported quiet)
 strict_silent (no_board state notes imported none) silent =

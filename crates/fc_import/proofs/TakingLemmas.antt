@@ -1,5 +1,5 @@
 -- Lemmas on pieces of a text, and on the words of texts.
-use Rattle.std.proofs.Common.{◌++◌, ◌+◌, ◌<◌, ◌∙◌, ◌∷◌, ◌≡◌, ◌≤◌, ◌⊎◌, [], All, ap, append-nil}
+use Rattle.std.proofs.Common.{◌++◌, ◌+◌, ◌<◌, ◌↔◌, ◌∙◌, ◌∷◌, ◌≡◌, ◌≢◌, ◌≤◌, ◌⊎◌, [], All, ap, append-nil}
 use Rattle.std.proofs.Common.{append_assoc, ap₂, arith, Bool, drop, false, if◌then◌else◌, inl, inr}
 use Rattle.std.proofs.Common.{IsTrue, length, List, map, None, refl, Some, subst, subst₂, suc, sym}
 use Rattle.std.proofs.{Common.{true, zero, ℕ}, lemmas.Bool.Decides.{leb_tells}}
@@ -13,26 +13,22 @@ use Rattle.fc_text.proofs.ReadingLemmas.{faultless-from_Spells, Spells-board_of}
 use Rattle.fc_text.{proofs.SpellingLemmas.{spelled}, specs.Faults.{first_fault}}
 use Rattle.fc_text.specs.{Lines.{Piece, with_end}, Printed.{text_of}, Spelling.{Spells}}
 use Rattle.fc_text.specs.declared.fault.BoardFault.{BoardFault}
-use Rattle.fc_record.specs.{Printing.{header_text}, RecordTexts.{ends_line}}
-use Rattle.fc_import.specs.Import.{a_board, BoardNeedsNoNote, by_columns, CanBe, HasCards}
+use Rattle.fc_board.specs.Moves.{MoveList}
+use Rattle.fc_record.specs.{Printing.{header_text, list_line}, RecordTexts.{ends_line}}
+use Rattle.fc_import.specs.Import.{a_board, AreLists, BoardNeedsNoNote, by_columns, CanBe, HasCards, ListNeedsNoNote}
 use Rattle.fc_import.specs.Import.{HasNoHeader, headed, Imported, IsHeading, IsNamed, IsPacked}
 use Rattle.fc_import.specs.Import.{none_yet, once_more, one_more, Reading, SpellsOut}
 use Rattle.fc_import.specs.inside.{IsMade, printing, Says, state_of, Takes, TakesName}
 use Rattle.fc_import.specs.Notes.{after, first_state, State, tally_of}
 use Rattle.fc_import.specs.Words.{is_between, named_lines}
 use Rattle.fc_import.specs.declared.changes.Noted.{Noted, TheVariants.{Changes, Doubts, Strict}}
-use Rattle.fc_import.specs.declared.{made.Made.{Made}, tally.Fate.TheVariants.{ABoard, Passed}}
+use Rattle.fc_import.specs.declared.{made.Made.{Made}, tally.Fate.TheVariants.{ABoard, Again, Passed}}
 use Rattle.fc_import.specs.declared.tally.Tally.{Tally}
 
 -- words with the places of their ends are the same words
 pub without_ends : (words : List Piece) → map (λ left. left.0.bytes) (map with_end words) ≡ map (λ word. word.bytes) words
 without_ends [] = refl
 without_ends (word ∷ words) = ap (λ rest. word.bytes ∷ rest) (without_ends words)
-
--- one word more has been taken
-pub one_taken : (of : List ℕ → List ℕ) (taken grown whole word : List ℕ) (words : List (List ℕ))
-    → taken ++ flat_map of (word ∷ words) ≡ whole → grown ≡ taken ++ of word → grown ++ flat_map of words ≡ whole
-one_taken of taken grown whole word words is grows = ap (λ front. front ++ flat_map of words) grows ∙ append_assoc taken (of word) (flat_map of words) ∙ is
 
 -- ---- going over places in their order
 
@@ -81,7 +77,7 @@ past_rows (column ∷ columns) row later after past =
 -- nothing was taken yet
 abbrev state_begun : Noted → List ℕ → Tally → State
 state_begun asked name tally =
-    record { noted = asked; last = None; place = record { name = name; header = 0; line = 1 }; named = 0; tally = tally }
+    record { noted = asked; last = None; begun = false; goes_on = false; other_game = false; place = record { name = name; header = 0; line = 1 }; named = 0; tally = tally }
 
 pub begun : (variant : Variant) (asked : Noted) (game : Game) (name written notes : List ℕ) (tally : Tally) → name ≡ []
     → written ≡ [] → notes ≡ [] → tally ≡ tally_of Passed
@@ -132,26 +128,26 @@ spelled_out Strict game piece board well silent = inl (spelled game board piece 
 module _ {R : Type 0} (variant : Variant) (game : Game) (piece : List ℕ) (board : Board) (old said new : Made R)
     (of : SpellsOut game piece board ⊎ HasCards piece board) (says : Says game piece board old said) where
   -- what is to be said of a board was said, and the board was written
-  pub board_taken : IsWellFormed game board → CanBe game piece board
+  pub board_taken : old.other_game ≡ false → IsWellFormed game board → CanBe game piece board
       → state_of new ≡ after (state_of said) piece (Some board) ABoard
       → (name : List ℕ) × IsNamed (state_of said) name
       × (new.written.items ≡ said.written.items ++ (header_text variant name ++ text_of board))
       → new.notes.items ≡ said.notes.items → Takes variant game piece old new
-  board_taken well can state (name, named, written) notes =
+  board_taken this_game well can state (name, named, written) notes =
       taken variant game piece old new (after (state_of old) piece (Some board) ABoard)
       (state ∙ ap (λ state. after state piece (Some board) ABoard) says.state)
       (header_text variant name ++ text_of board) says.said
-      (a_board name board says.said (subst (λ state. IsNamed state name) says.state named) well can of says.is)
+      (a_board name board says.said this_game (subst (λ state. IsNamed state name) says.state named) well can of says.is)
       (written ∙ ap (λ text. text ++ (header_text variant name ++ text_of board)) says.written) (notes ∙ says.notes)
 
   -- or it is the last one once more
-  pub last_taken : old.last ≡ Some board → state_of new ≡ after (state_of said) piece said.last Passed
+  pub last_taken : old.last ≡ Some board → old.begun ≡ true → state_of new ≡ after (state_of said) piece said.last Again
       → new.written.items ≡ said.written.items → new.notes.items ≡ said.notes.items
       → Takes variant game piece old new
-  last_taken last state written notes =
-      noted variant game piece old new (after (state_of old) piece old.last Passed)
-      (state ∙ ap (λ state. after state piece state.last Passed) says.state)
-      says.said (once_more board says.said last of says.is) (written ∙ says.written) (notes ∙ says.notes)
+  last_taken last begun state written notes =
+      noted variant game piece old new (after (state_of old) piece old.last Again)
+      (state ∙ ap (λ state. after state piece state.last Again) says.state)
+      says.said (once_more board says.said last begun of says.is) (written ∙ says.written) (notes ∙ says.notes)
 
 -- one header or one piece more was taken
 pub one_taken_more : {R : Type 0} (variant : Variant) (asked : Noted) (game : Game) (text piece : List ℕ)
@@ -165,6 +161,19 @@ one_taken_more variant asked game text line old new ends made (inl (heading, nam
 one_taken_more variant asked game text piece old new ends made (inr (none, (more, says, reading, written, notes))) =
     subst₂ (Imported variant asked game (text ++ piece) (state_of new)) (sym written) (sym notes)
     (one_more text (state_of old) old.written.items old.notes.items made ends piece none (state_of new) more says reading)
+
+-- ---- lists
+
+-- whether a list that is not as it is printed needs no note, where doubts alone are noted
+pub list_needs : (asked : Noted) (game : Game) (piece : List ℕ) (list : MoveList) (silent : Bool) → asked ≡ Doubts → (piece ≢ list_line list)
+    → (IsTrue silent ↔ AreLists game piece) → IsTrue silent ↔ ListNeedsNoNote asked game piece list
+list_needs Doubts game piece list silent is other are = ((λ so. inr (are.0 so)), by)
+  where
+    by : ListNeedsNoNote Doubts game piece list → IsTrue silent
+    by (inl printed) = absurd (other printed)
+    by (inr all) = are.1 all
+list_needs Changes game piece list silent is other are = absurd (cc)
+list_needs Strict game piece list silent is other are = absurd (cc)
 
 -- ---- notes
 

@@ -1,15 +1,17 @@
 -- What a text is imported as.
-use Rattle.std.specs.{Fmt.{decimal}, Io.KnownBytes.{IsAtEnd}, List.{flat_map}}
-use Rattle.std.specs.{Option.{option_to_list}, Prelude.{◌*◌, ◌++◌, ◌+◌, ◌-◌, ◌<◌, ◌==◌, ◌↔◌, ◌∷◌}}
-use Rattle.std.specs.Prelude.{◌≡◌, ◌≢◌, ◌≤◌, ◌⊎◌, [], All, codes, Err, false, if◌then◌else◌, length}
-use Rattle.std.specs.Prelude.{List, None, Ok, Option, Result, slice_get, slice_index}
-use Rattle.std.specs.Prelude.{slice_index_or, Some, take, true, ℕ}
+use Rattle.std.specs.{Fmt.{decimal}, Io.KnownBytes.{IsAtEnd}, List.{before_first, flat_map}}
+use Rattle.std.specs.{Option.{option_to_list}, Prelude.{◌&&◌, ◌++◌, ◌+◌, ◌-◌, ◌<◌, ◌==◌, ◌||◌, ◌↔◌}}
+use Rattle.std.specs.Prelude.{◌∷◌, ◌≡◌, ◌≢◌, ◌≤◌, ◌⊎◌, [], All, Bool, codes, Err, false}
+use Rattle.std.specs.Prelude.{if◌then◌else◌, length, List, None, Ok, Option, Result, slice_get}
+use Rattle.std.specs.{Prelude.{slice_index, slice_index_or, Some, take, true, ℕ}, Str.{bytes_eq}}
 use Rattle.{fc_board.specs.declared.rule.Variant.{Variant}, fc_card.specs.{places}}
 use Rattle.fc_board.specs.{Boards.{Board, IsWellFormed}, Games.{Builds, Game, game_of}}
-use Rattle.fc_board.specs.{Moves.{move_count, MoveList}, Play.{Legal}}
-use Rattle.fc_text.specs.{Bytes.{line_feed}, Lines.{lines_from}, Notation.{most_moves}}
+use Rattle.fc_board.specs.{Moves.{move_count, MoveList, OneCard, Runs}, Play.{Legal}}
+use Rattle.fc_text.specs.{Bytes.{line_feed}, Lines.{lines_from, words}}
+use Rattle.fc_text.specs.Notation.{IsRunToken, IsToken, Listed, most_moves, separates_tokens}
 use Rattle.fc_text.specs.{Printed.{text_of}, Spelling.{Spells}}
-use Rattle.fc_record.specs.{Grammar.{begins_with, is_name}, Printing.{header_text, list_line}}
+use Rattle.fc_record.specs.Grammar.{begins_with, is_line_feed, is_name, list_mark}
+use Rattle.fc_record.specs.Printing.{header_text, list_line}
 use Rattle.fc_record.specs.RecordTexts.{ends_line as ends_lines, header_mark}
 use Rattle.fc_collect.specs.{Limits.{most_bytes, standard}, Promises.{Begins, Transfer}}
 use Rattle.fc_collect.specs.Runs.{TransfersWithin}
@@ -18,10 +20,11 @@ use Rattle.fc_collect.specs.declared.streams.faults.RunFault.{RunFault}
 use Rattle.fc_collect.specs.declared.streams.faults.RunFault.TheVariants.{TooLarge, Write}
 use Rattle.fc_collect.specs.declared.streams.faults.Summary.{Summary}
 use Rattle.fc_import.specs.Notes.{after, after_heading, counted, first_state, IsNote, line_feeds}
-use Rattle.fc_import.specs.{Notes.{SaysUnless, State}, Words.{ended, is_list, named_cards}}
-use Rattle.fc_import.specs.Words.{named_in, named_lines, named_moves, text_read, words_of_line}
+use Rattle.fc_import.specs.{Notes.{SaysUnless, State}, Scan.{HasFewCards, is_list, is_number_alone}}
+use Rattle.fc_import.specs.Scan.{IsProse, IsQuiet, said_in, words_of}
+use Rattle.fc_import.specs.Words.{ended, named_in, named_lines, text_read}
 use Rattle.fc_import.specs.declared.changes.Noted.{Noted, TheVariants.{Doubts, Strict}}
-use Rattle.fc_import.specs.declared.tally.Fate.TheVariants.{ABoard, AList, LeftOut, Passed}
+use Rattle.fc_import.specs.declared.tally.Fate.TheVariants.{ABoard, Again, AList, LeftOut, Passed}
 use Rattle.fc_import.specs.declared.tally.Fate.TheVariants.{RefusedBoard, RefusedList}
 use Rattle.fc_import.specs.declared.tally.Tally.{Tally}
 
@@ -59,9 +62,37 @@ abbrev pub BoardNeedsNoNote : Noted → Game → (piece : List ℕ) → Board �
 BoardNeedsNoNote Doubts game piece board = SpellsOut game piece board
 BoardNeedsNoNote noted game piece board = piece ≡ text_of board
 
--- and of a list of moves: they name its moves or, where each change is noted, they are its line
+-- the words of the text are the tokens of the list's moves
+abbrev pub Names : Game → (text : List ℕ) → MoveList → Type 0
+Names game text (OneCard moves) = Listed (IsToken game) text moves
+Names game text (Runs moves) = Listed (IsRunToken game) text moves
+
+-- the moves that its lists name, each after a blank; a number alone may be a move too
+abbrev pub moves_of_line : Game → (line : List ℕ) → List ℕ
+moves_of_line game line = if is_list game line || is_number_alone (words_of line) then (said_in game line).moves else []
+
+abbrev pub moves_of : Game → (piece : List ℕ) → List ℕ
+moves_of game piece = flat_map (λ line. moves_of_line game line.bytes) (lines_from 0 piece)
+
+-- the words are one by one these tokens, but that a move of two letters may say that it is of one card
+abbrev pub agree : (words tokens : List (List ℕ)) → Bool
+agree [] [] = true
+agree (word ∷ words) (token ∷ tokens) = (bytes_eq token word || (length word == 2 && bytes_eq token (word ++ codes "v1"))) && agree words tokens
+agree words tokens = false
+
+-- the words of the lines name the moves of the list, in order
+pub record NamesList (game : Game) (piece : List ℕ) (list : MoveList) : Type 0 where
+  pub text : List ℕ
+  pub agrees : agree (words separates_tokens (moves_of game piece)) (words separates_tokens text) ≡ true
+  pub names : Names game text list
+
+-- each line is a list, or has no words
+abbrev pub AreLists : Game → (piece : List ℕ) → Type 0
+AreLists game piece = All (λ line. (is_list game line.bytes ≡ true) ⊎ (length (words_of line.bytes) ≡ 0)) (lines_from 0 piece)
+
+-- and of a list of moves: it is their lines or, where each change is noted, they are its line
 abbrev pub ListNeedsNoNote : Noted → Game → (piece : List ℕ) → MoveList → Type 0
-ListNeedsNoNote Doubts game piece list = named_moves game piece ≡ named_moves game (list_line list)
+ListNeedsNoNote Doubts game piece list = (piece ≡ list_line list) ⊎ AreLists game piece
 ListNeedsNoNote noted game piece list = piece ≡ list_line list
 
 -- the lines name the cards of the board in order, those of the cells first or last: column by column, or row by row
@@ -91,6 +122,10 @@ pub record IsNamed (state : State) (name : List ℕ) : Type 0 where
   pub by_header : state.place.name ≢ [] → name ≡ (if state.named == 0 then state.place.name else numbered state.place.name (counted (state.named + 1)))
   pub alone : state.place.name ≡ [] → (is_name name ≡ true) × (name ≢ [])
 
+-- the piece may be read after what came before: no solution goes on there, or its first line ends one, since it has no words or begins as fcanon's lists do
+abbrev pub IsApart : State → (piece : List ℕ) → Type 0
+IsApart state piece = (state.goes_on ≡ false) ⊎ (begins_with list_mark piece ≡ true) ⊎ (length (words_of (before_first is_line_feed piece)) ≡ 0)
+
 -- -------- What each piece of a text becomes: some whole lines, and what is written and said for them. From: this project's profile.
 
 -- the line of a header
@@ -101,20 +136,6 @@ pub record IsHeading (line : List ℕ) : Type 0 where
 -- no line of the piece is a header
 abbrev pub HasNoHeader : (piece : List ℕ) → Type 0
 HasNoHeader piece = All (λ line. begins_with header_mark line.bytes ≡ false) (lines_from 0 piece)
-
--- a line that passes in silence names no card, and is no list
-pub record IsQuiet (game : Game) (line : List ℕ) : Type 0 where
-  pub no_card : named_cards line ≡ []
-  pub no_list : is_list game line ≡ false
-
--- at most half of the words of the line name cards
-abbrev pub HasFewCards : (line : List ℕ) → Type 0
-HasFewCards line = 2 * length (named_cards line) ≤ length (words_of_line line)
-
--- a line that is left out is no list, and has few cards
-pub record IsProse (game : Game) (line : List ℕ) : Type 0 where
-  pub no_list : is_list game line ≡ false
-  pub few : HasFewCards line
 
 -- a line that is no board's: a list, or one that has few cards
 pub data IsNoBoard (game : Game) (line : List ℕ) : Type 0 where
@@ -128,25 +149,25 @@ StaysLast game piece before after = (after ≡ None) ⊎ ((after ≡ before) × 
 -- the state before and after the piece, what is written, and what is said
 pub data Reading (variant : Variant) (game : Game) (state : State) (piece : List ℕ) : (next : State) → (written said : List ℕ) → Type 0 where
   -- lines that name nothing
-  passed : All (λ line. IsQuiet game line.bytes) (lines_from 0 piece) → Reading variant game state piece (after state piece state.last Passed) [] []
+  passed : IsApart state piece → All (λ line. IsQuiet game line.bytes) (lines_from 0 piece) → Reading variant game state piece (after state piece state.last Passed) [] []
   -- a line of prose that names cards
-  left_out : (said : List ℕ) → named_in piece ≢ [] → All (λ line. IsProse game line.bytes) (lines_from 0 piece) → IsNote state.place piece said → Reading variant game state piece (after state piece state.last LeftOut) [] said
+  left_out : (said : List ℕ) → IsApart state piece → named_in piece ≢ [] → All (λ line. IsProse game line.bytes) (lines_from 0 piece) → IsNote state.place piece said → Reading variant game state piece (after state piece state.last LeftOut) [] said
   -- a board, which the lines spell out or have the cards of: nothing is said of one that needs no note
-  a_board : (name : List ℕ) (board : Board) (said : List ℕ) → IsNamed state name → IsWellFormed game board → CanBe game piece board
+  a_board : (name : List ℕ) (board : Board) (said : List ℕ) → state.other_game ≡ false → IsNamed state name → IsWellFormed game board → CanBe game piece board
       → SpellsOut game piece board ⊎ HasCards piece board → SaysUnless (BoardNeedsNoNote state.noted game piece board) state.place piece said
       → Reading variant game state piece (after state piece (Some board) ABoard) (header_text variant name ++ text_of board) said
-  -- the last board once more, as solvers draw it before its solution: nothing is said of one that needs no note
-  once_more : (board : Board) (said : List ℕ) → state.last ≡ Some board
+  -- the last board once more, after the rule that begins a solution: nothing is said of one that needs no note
+  once_more : (board : Board) (said : List ℕ) → state.last ≡ Some board → state.begun ≡ true
       → SpellsOut game piece board ⊎ HasCards piece board → SaysUnless (BoardNeedsNoNote state.noted game piece board) state.place piece said
-      → Reading variant game state piece (after state piece state.last Passed) [] said
-  -- a list of moves that is legal on the last board: nothing is said of one that needs no note
-  a_list : (board : Board) (list : MoveList) (said : List ℕ) → state.last ≡ Some board → Legal game board list → move_count list ≤ most_moves
-      → SaysUnless (ListNeedsNoNote state.noted game piece list) state.place piece said
+      → Reading variant game state piece (after state piece state.last Again) [] said
+  -- a list that the lines name, and that is legal on the last board: nothing is said of one that needs no note
+  a_list : (board : Board) (list : MoveList) (said : List ℕ) → IsApart state piece → state.last ≡ Some board → Legal game board list → move_count list ≤ most_moves
+      → (piece ≡ list_line list) ⊎ NamesList game piece list → SaysUnless (ListNeedsNoNote state.noted game piece list) state.place piece said
       → Reading variant game state piece (after state piece state.last AList) (list_line list) said
   -- a board that is not taken: no list may follow it
   refused_board : (said : List ℕ) → IsNote state.place piece said → Reading variant game state piece (after state piece None RefusedBoard) [] said
   -- a list that is not taken
-  refused_list : (last : Option Board) (said : List ℕ) → StaysLast game piece state.last last → IsNote state.place piece said
+  refused_list : (last : Option Board) (said : List ℕ) → IsApart state piece → StaysLast game piece state.last last → IsNote state.place piece said
       → Reading variant game state piece (after state piece last RefusedList) [] said
 
 -- a text by its headers and the pieces between them, each of which begins a line and has one fate
@@ -215,7 +236,7 @@ IsShown variant text records =
 pub data Makes (variant : Variant) (noted : Noted) (bytes : List ℕ) : (made said : List ℕ) → Summary → Type 0 where
   -- a collection that `show` takes
   collection : (state : State) (made notes : List ℕ) (records : ℕ) → IsImportedAs variant noted (text_read bytes) state made notes → IsShown variant made records
-      → (refused : ℕ) → refused ≡ refused_by noted state.tally notes
+      → (made ≢ []) ⊎ (0 < refusals state.tally) → (refused : ℕ) → refused ≡ refused_by noted state.tally notes
       → Makes variant noted bytes made (with_tally state.tally notes) (record { records = counted (records + refused); refused = refused })
   -- nothing, since the text has no board
   no_board : (state : State) (notes : List ℕ) → IsImportedAs variant noted (text_read bytes) state [] notes → refusals state.tally ≡ 0

@@ -1,5 +1,8 @@
--- What a text is imported as, in the order in which it is read.
-pub mod Import
-pub mod Notes
+-- What the import of boards and lists is: the words and labels of lines, what a text is imported as, and notes.
+pub mod Scan
+pub mod Seen
+pub mod Labels
 pub mod Words
+pub mod Notes
+pub mod Import
 pub mod inside

@@ -1,14 +1,18 @@
 -- Where an import is in its text, and what is said of a place there.
-use Rattle.std.specs.{Fmt.{decimal}, List.{count_by}, Option.{unwrap_or}, Prelude.{◌++◌, ◌+◌, ◌-◌}}
-use Rattle.std.specs.Prelude.{◌<◌, ◌==◌, ◌^◌, ◌∷◌, ◌≡◌, ◌⊎◌, [], All, codes, Err, if◌then◌else◌}
-use Rattle.std.specs.Prelude.{IsTrue, length, List, min, None, Ok, Option, Result, take, ℕ}
-use Rattle.fc_board.specs.{Boards.{Board}, declared.rule.Variant.{Variant}}
-use Rattle.{fc_record.specs.Grammar.{Heading, heading_of}, fc_text.specs.Bytes.{line_feed}}
+use Rattle.std.specs.{Fmt.{decimal}, List.{count_by, prefix_len}, Option.{unwrap_or}}
+use Rattle.std.specs.Prelude.{◌++◌, ◌+◌, ◌-◌, ◌<◌, ◌==◌, ◌^◌, ◌||◌, ◌∷◌, ◌≡◌, ◌⊎◌, [], All, Bool}
+use Rattle.std.specs.Prelude.{codes, drop, Err, false, if◌then◌else◌, IsTrue, length, List, min}
+use Rattle.std.specs.Prelude.{None, not, Ok, Option, Result, take, ℕ}
+use Rattle.std.specs.Str.{bytes_eq, str_eq_ignore_ascii_case}
+use Rattle.fc_board.specs.{Boards.{Board}, declared.rule.Variant.{Variant}, Games.{variant_word}}
+use Rattle.fc_text.specs.{Bytes.{line_feed}, Notation.{separates_tokens}}
+use Rattle.fc_record.specs.Grammar.{begins_with, Heading, heading_of, list_mark}
 use Rattle.fc_record.specs.declared.record.RecordFault.{RecordFault}
 use Rattle.fc_import.specs.Words.{is_between}
 use Rattle.fc_import.specs.declared.{changes.Noted.{Noted}, tally.Fate.{Fate, TheVariants.{ABoard}}}
-use Rattle.fc_import.specs.declared.tally.Fate.TheVariants.{AList, LeftOut, Passed, RefusedBoard}
-use Rattle.fc_import.specs.declared.tally.{Fate.TheVariants.{RefusedList}, Tally.{Tally}}
+use Rattle.fc_import.specs.declared.tally.Fate.TheVariants.{Again, AList, LeftOut, Passed}
+use Rattle.fc_import.specs.declared.tally.Fate.TheVariants.{RefusedBoard, RefusedList}
+use Rattle.fc_import.specs.declared.tally.Tally.{Tally}
 
 -- -------- What an import has so far. From: this project's profile.
 
@@ -18,6 +22,7 @@ counted number = min number (2 ^ 64 - 1)
 
 -- what a piece of a text counts as
 abbrev pub tally_of : Fate → Tally
+tally_of Again = record { boards = 0; lists = 0; refused_boards = 0; refused_lists = 0; left_out = 0 }
 tally_of Passed = record { boards = 0; lists = 0; refused_boards = 0; refused_lists = 0; left_out = 0 }
 tally_of ABoard = record { boards = 1; lists = 0; refused_boards = 0; refused_lists = 0; left_out = 0 }
 tally_of AList = record { boards = 0; lists = 1; refused_boards = 0; refused_lists = 0; left_out = 0 }
@@ -40,16 +45,19 @@ pub record Place : Type 0 where
   pub header : ℕ
   pub line : ℕ
 
--- what is noted; the last board, if a list of moves may follow it; the place of the next line; how many boards the last header names; and how much was taken and was not
+-- what is noted; the last board, if a list of moves may follow it; whether a rule that begins a solution came after it; whether the last lines are of a solution that only a blank line, a header, a board or a marked list ends; whether the last header names another game; the place of the next line; how many boards the last header names; and how much was taken and was not
 pub record State : Type 0 where
   pub noted : Noted
   pub last : Option Board
+  pub begun : Bool
+  pub goes_on : Bool
+  pub other_game : Bool
   pub place : Place
   pub named : ℕ
   pub tally : Tally
 
 abbrev pub first_state : Noted → State
-first_state noted = record { noted = noted; last = None; place = record { name = []; header = 0; line = 1 }; named = 0; tally = tally_of Passed }
+first_state noted = record { noted = noted; last = None; begun = false; goes_on = false; other_game = false; place = record { name = []; header = 0; line = 1 }; named = 0; tally = tally_of Passed }
 
 abbrev pub line_feeds : List ℕ → ℕ
 line_feeds text = count_by (λ byte. byte == line_feed) text
@@ -57,10 +65,31 @@ line_feeds text = count_by (λ byte. byte == line_feed) text
 abbrev pub line_after : (line : ℕ) → (text : List ℕ) → ℕ
 line_after line text = counted (line + line_feeds text)
 
+-- the rule before a solution of Freecell Solver
+abbrev pub is_rule : (piece : List ℕ) → Bool
+is_rule piece = bytes_eq (take 10 piece) (codes "-=-=-=-=-=")
+
+-- whether a solution has begun after a piece of this fate: after its rule, with words and blank lines
+abbrev pub begun_after : Fate → (begun : Bool) → (piece : List ℕ) → Bool
+begun_after Passed begun piece = begun || is_rule piece
+begun_after LeftOut begun piece = begun
+begun_after fate begun piece = false
+
+-- the lines of a list that no mark begins, no move in words, and no sentence of Freecell Solver's, as where a board is won and its list has no moves
+abbrev pub is_unmarked : (piece : List ℕ) → Bool
+is_unmarked piece = not (begins_with list_mark piece || bytes_eq (take 5 piece) (codes "Move ") || bytes_eq (take 5 piece) (codes "Move:") || bytes_eq (take 5 piece) (codes "This "))
+
+abbrev pub goes_on_after : Fate → (piece : List ℕ) → Bool
+goes_on_after AList piece = is_unmarked piece
+goes_on_after RefusedList piece = is_unmarked piece
+goes_on_after fate piece = false
+
 -- the state after the lines of a piece of this fate, with this last board
 abbrev pub after : State → (piece : List ℕ) → (last : Option Board) → Fate → State
 after state piece last fate = record state {
   last = last;
+  begun = begun_after fate state.begun piece;
+  goes_on = goes_on_after fate piece;
   place = record state.place { line = line_after state.place.line piece };
   named = counted (state.named + (tally_of fate).boards);
   tally = plus state.tally (tally_of fate);
@@ -71,9 +100,22 @@ abbrev pub name_by : Result Heading RecordFault → List ℕ
 name_by (Ok heading) = unwrap_or heading.name []
 name_by (Err fault) = []
 
+-- the first word of a text
+abbrev pub first_word : List ℕ → List ℕ
+first_word text =
+    let rest = drop (prefix_len separates_tokens text) text in
+    take (prefix_len (λ byte. not (separates_tokens byte)) rest) rest
+
+-- the first word after the mark of a header names the game, in any case
+abbrev pub names_game : Variant → (line : List ℕ) → Bool
+names_game variant line = str_eq_ignore_ascii_case (first_word (drop 1 line)) (variant_word variant)
+
 abbrev pub after_heading : Variant → State → (line : List ℕ) → State
 after_heading variant state line = record state {
   last = None;
+  begun = false;
+  goes_on = false;
+  other_game = not (names_game variant line);
   place = record { name = name_by (heading_of variant line); header = state.place.line; line = line_after state.place.line line };
   named = 0;
 }

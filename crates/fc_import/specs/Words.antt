@@ -1,15 +1,10 @@
 -- The cards that the words of a text name.
-use Rattle.std.specs.Char.{is_ascii_alphanumeric, is_ascii_digit, Utf16.{utf16_lossy_chars}}
-use Rattle.std.specs.List.{before_first, flat_map, list_all}
-use Rattle.std.specs.{Option.{is_some, option_or, option_to_list}, Prelude.{◌%◌, ◌&&◌, ◌*◌, ◌++◌}}
-use Rattle.std.specs.Prelude.{◌+◌, ◌-◌, ◌/◌, ◌==◌, ◌||◌, ◌∷◌, [], Bool, codes, drop, false}
-use Rattle.std.specs.Prelude.{if◌then◌else◌, List, map, nat_le, None, not, Option, slice_index}
-use Rattle.std.specs.Prelude.{Some, suc, take, true, zero, ℕ}
-use Rattle.std.specs.Str.{encode_utf8_all, str_to_ascii_lowercase}
-use Rattle.fc_board.specs.Games.{Game}
-use Rattle.fc_text.specs.{Bytes.{blank, line_feed, number_sign}, Lines.{lines_from, words}}
-use Rattle.fc_text.specs.{Notation.{separates_tokens}, reader.{run_named}, Spelling.{card_spelled}}
-use Rattle.fc_record.specs.{Grammar.{begins_with, list_mark}, RecordTexts.{header_mark}}
+use Rattle.std.specs.{Char.Utf16.{utf16_lossy_chars}, List.{flat_map}, Prelude.{◌%◌, ◌&&◌, ◌*◌}}
+use Rattle.std.specs.Prelude.{◌++◌, ◌+◌, ◌-◌, ◌/◌, ◌==◌, ◌||◌, ◌∷◌, [], Bool, codes, drop, false}
+use Rattle.std.specs.Prelude.{if◌then◌else◌, List, nat_le, None, Option, slice_index, Some, suc}
+use Rattle.std.specs.{Prelude.{true, zero, ℕ}, Str.{encode_utf8_all}}
+use Rattle.fc_text.specs.{Bytes.{blank, line_feed}, Lines.{lines_from}}
+use Rattle.fc_import.specs.Scan.{named_cards}
 
 -- -------- The text that the bytes of a file are. From: Unicode's UTF-16 and UTF-8, and the byte order mark.
 
@@ -43,13 +38,22 @@ number_of first second third fourth =
     then (262144 * (first % 8) + 4096 * (second % 64) + 64 * (third % 64) + fourth % 64, 4)
     else (first, 1)
 
+-- `-` for hyphens, dashes and the sign of minus; three dots for the ellipsis; a blank for the spaces and the other marks of general punctuation, the no-break space, and the space as wide as a sign of Chinese; and `>` for arrows
+abbrev pub mark_for : ℕ → Option (List ℕ)
+mark_for number =
+    if is_between 0x2010 0x2015 number || number == 0x2212 then Some (0x2D ∷ [])
+    else if number == 0x2026 then Some (0x2E ∷ 0x2E ∷ 0x2E ∷ [])
+    else if number == 0xA0 || is_between 0x2000 0x205F number || number == 0x3000 then Some (blank ∷ [])
+    else if is_between 0x2190 0x21FF number || is_between 0x279C 0x27BE number then Some (0x3E ∷ [])
+    else None
+
 -- what stands for a sign, if that is not the sign itself:
 -- the letter of ♠ ♡ ♢ ♣ ♤ ♥ ♦ ♧;
 -- the two letters and a blank of a playing card from 🂡 to 🃞, of which each suit has the ranks from 1 to 14, and a knight for 12;
 -- the letter, digit or mark that is as wide as a sign of Chinese;
 -- a line feed for line tabulation, form feed and carriage return, next line, and the separators of lines and of paragraphs;
 -- nothing for marks that no reader sees: of direction, of joining, of how a sign looks, the soft hyphen and the byte order mark;
--- a blank for the spaces, dashes and quotes of general punctuation, the no-break space, and the space as wide as a sign of Chinese
+-- a mark for dashes, spaces and arrows
 abbrev pub stands_for : ℕ → Option (List ℕ)
 stands_for number =
     if is_between 0x2660 0x2667 number then Some (slice_index (codes "SHDC") (number % 4) ∷ [])
@@ -59,8 +63,7 @@ stands_for number =
     else if is_between 0x0B 0x0D number || number == 0x85 || is_between 0x2028 0x2029 number then Some (line_feed ∷ [])
     else if number == 0xAD || number == 0x61C || is_between 0x200C 0x200F number || is_between 0x202A 0x202E number
     || is_between 0x2060 0x206F number || is_between 0xFE00 0xFE0F number || number == 0xFEFF then Some []
-    else if number == 0xA0 || is_between 0x2000 0x205F number || number == 0x3000 then Some (blank ∷ [])
-    else None
+    else mark_for number
 
 -- a byte by itself, or a sign of so many bytes with what stands for it
 abbrev pub sign_by : ℕ → ℕ → Option (List ℕ) → ℕ × List ℕ
@@ -87,27 +90,7 @@ text_after (suc skipped) (byte ∷ rest) = text_after skipped rest
 abbrev pub text_read : List ℕ → List ℕ
 text_read bytes = text_after 0 (decoded bytes)
 
--- letters, digits and each byte of a sign that is none of ASCII, with a blank for each other byte
-abbrev pub plain : List ℕ → List ℕ
-plain text = map (λ byte. if is_ascii_alphanumeric byte || nat_le 128 byte then byte else blank) text
-
--- the words of a text, of letters and digits alone
-abbrev pub plain_words : List ℕ → List (List ℕ)
-plain_words text = words separates_tokens (plain text)
-
--- -------- The cards and the moves that the words of a line name. From: how sites, books and solvers write them.
-
--- the card that a word names: as a board's text spells it, or with its suit first
-abbrev pub named_card : List ℕ → Option ℕ
-named_card word = option_or (card_spelled word) (card_spelled (drop 1 word ++ take 1 word))
-
--- the words of a line before a comment
-abbrev pub words_of_line : List ℕ → List (List ℕ)
-words_of_line line = plain_words (before_first (λ byte. byte == number_sign) line)
-
--- the cards that the words of a line name, in their order; a header names none
-abbrev pub named_cards : List ℕ → List ℕ
-named_cards line = if begins_with header_mark line then [] else flat_map (λ word. option_to_list (named_card word)) (words_of_line line)
+-- -------- The cards of lines. From: how sites, books and solvers write them.
 
 -- cards in one place and then 52, which is no card, as their end; nothing where there are none
 abbrev pub ended : List ℕ → List ℕ
@@ -120,20 +103,3 @@ named_lines text = flat_map (λ line. ended (named_cards line.bytes)) (lines_fro
 
 abbrev pub named_in : List ℕ → List ℕ
 named_in text = flat_map (λ line. named_cards line.bytes) (lines_from 0 text)
-
--- the two letters of each word that is a move of the game, in lower case
-abbrev pub letters_of_move : Game → List ℕ → List ℕ
-letters_of_move game word = if is_some (run_named game word) then str_to_ascii_lowercase (take 2 word) else []
-
-abbrev pub named_moves : Game → List ℕ → List ℕ
-named_moves game text = flat_map (letters_of_move game) (plain_words text)
-
--- each of the words is a move of the game; a word alone is no number
-abbrev pub are_moves : Game → List (List ℕ) → Bool
-are_moves game [] = false
-are_moves game (word ∷ []) = is_some (run_named game word) && not (list_all is_ascii_digit word)
-are_moves game (word ∷ next ∷ words) = list_all (λ word. is_some (run_named game word)) (word ∷ next ∷ words)
-
--- the line begins as fcanon's lists do, or its words are moves
-abbrev pub is_list : Game → List ℕ → Bool
-is_list game line = begins_with list_mark line || are_moves game (plain_words line)

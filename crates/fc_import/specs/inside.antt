@@ -4,7 +4,6 @@ use Rattle.std.specs.Prelude.{◌↔◌, ◌≡◌, ◌≢◌, ◌≤◌, [], �
 use Rattle.std.specs.Prelude.{length, List, map, None, Ok, Option, Result, Some, take, true, ℕ}
 use Rattle.fc_board.specs.{Boards.{Board}, Games.{Game}, Moves.{MoveList, OneCard, Runs}}
 use Rattle.{fc_board.specs.declared.rule.Variant.{Variant}, fc_record.specs.RecordTexts.{ends_line}}
-use Rattle.fc_text.specs.Notation.{IsRunToken, IsToken, Listed}
 use Rattle.fc_collect.specs.{Limits.{most_bytes}, Promises.{Begins}, Streams.{CallCounts}}
 use Rattle.fc_collect.specs.declared.streams.faults.RunFault.{RunFault, TheVariants.{Memory, Read}}
 use Rattle.fc_collect.specs.declared.streams.faults.RunFault.TheVariants.{ReaderNeverEnds, TooLarge}
@@ -29,7 +28,7 @@ abbrev pub place_of : Walk → Place
 place_of walk = record { name = walk.name.items; header = walk.header; line = walk.line }
 
 abbrev pub state_of : {R : Type 0} → Made R → State
-state_of made = record { noted = made.noted; last = made.last; place = place_of made.walk; named = made.named; tally = made.tally }
+state_of made = record { noted = made.noted; last = made.last; begun = made.begun; goes_on = made.goes_on; other_game = made.other_game; place = place_of made.walk; named = made.named; tally = made.tally }
 
 -- this was made of the text
 abbrev pub IsMade : {R : Type 0} → Variant → Noted → Game → List ℕ → Made R → Type 0
@@ -87,11 +86,6 @@ pub record KeepsFirst {R : Type 0} (variant : Variant) (game : Game) (text : Lis
 abbrev pub form_of : MoveList → Form
 form_of (OneCard moves) = InOneCard
 form_of (Runs moves) = InRuns
-
--- the words are the tokens of its moves
-abbrev pub Names : Game → (words : List ℕ) → MoveList → Type 0
-Names game words (OneCard moves) = Listed (IsToken game) words moves
-Names game words (Runs moves) = Listed (IsRunToken game) words moves
 
 -- one note more was put
 abbrev pub PutsNote : Place → (piece old new : List ℕ) → Type 0

@@ -1,21 +1,19 @@
 //! The cards and the moves that words name, and those of a board in the orders in which lines name
 //! them.
-ghost use Rattle.std.specs.{List.{before_first, flat_map}, Option.{option_to_list}, Prelude.{◌++◌}};
-ghost use Rattle.std.specs.Prelude.{◌==◌, ◌↔◌, ◌≡◌, ◌≢◌, ◌≤◌, ◌⊎◌, [], All, drop, IfOk, IsTrue};
-ghost use Rattle.std.specs.Prelude.{length, List, OnOk, slice_get, take, ℕ};
-ghost use Rattle.std.specs.Str.{str_to_ascii_lowercase};
-ghost use Rattle.fc_board.specs.Boards.{IsWellFormed};
-ghost use Rattle.fc_text.specs.{Bytes.{number_sign}, Spelling.{card_spelled}};
+ghost use Rattle.std.specs.{List.{flat_map}, Option.{option_to_list}, Prelude.{◌++◌, ◌↔◌, ◌≡◌}};
+ghost use Rattle.std.specs.Prelude.{◌≢◌, ◌≤◌, ◌⊎◌, [], All, IfOk, IsTrue, length, List, map, OnOk};
+ghost use Rattle.std.specs.Prelude.{slice_get, ℕ};
+ghost use Rattle.{fc_board.specs.Boards.{IsWellFormed}, fc_text.specs.Lines.{with_end, words_from}};
 ghost use Rattle.fc_import.specs.Import.{ArePacked, by_columns, HasCards, in_cells, in_columns};
-ghost use Rattle.fc_import.specs.{Import.{in_rows, IsPacked}, Words.{ended, letters_of_move}};
-ghost use Rattle.fc_import.specs.Words.{named_card, named_cards, named_in, named_lines};
-ghost use Rattle.fc_import.specs.Words.{named_moves, plain_words};
+ghost use Rattle.fc_import.specs.Import.{in_rows, IsPacked};
+ghost use Rattle.fc_import.specs.Scan.{named_card, named_cards, parts_words};
+ghost use Rattle.fc_import.specs.Words.{ended, named_in, named_lines};
 
-use crate::plain::plain;
+use crate::scan::named_card;
+use crate::words::{Words, uncommented};
 use fc_board::{Board, Rule};
 use fc_card::Card;
-use fc_text::{Lines, Tokens, card_spelled, run_named};
-use memchr::memchr;
+use fc_text::Lines;
 use std::alloc::{AllocError, Global};
 
 /// The end of the cards of a line or a column, which is no card.
@@ -70,36 +68,26 @@ fn push_numbers(all: &mut Vec<u8>, cards: &[Card]) -> Result<(), AllocError>
 }
 
 /// The cards that the words of a line name before a comment, in their order.
-pub(crate) fn named_cards(alloc: Global, line: &[u8]) -> Result<Vec<Card>, AllocError>
+fn named_cards(alloc: Global, line: &[u8]) -> Result<Vec<Card>, AllocError>
     ensures { IfOk result (λ cards. cards.items ≡ named_cards line.now) }
 {
-    if line.first() == Some(&b'@') {
-        return Ok(Vec::new(alloc));
-    }
-    cards_of_words(alloc, before_comment(line))
-}
-
-/// The line as far as its first `#`.
-pub(crate) fn before_comment(line: &[u8]) -> &[u8]
-    ensures { result.now ≡ before_first (λ byte. byte == number_sign) line.now }
-{
-    match memchr(b'#', line) {
-        Some(place) => &line[..place],
-        None => line,
-    }
-}
-
-// The cards that the words of a line name, in their order.
-fn cards_of_words(alloc: Global, line: &[u8]) -> Result<Vec<Card>, AllocError>
-    ensures { IfOk result (λ cards. cards.items
-        ≡ flat_map (λ word. option_to_list (named_card word)) (plain_words line.now)) }
-{
-    let plain = plain(alloc, line)?;
     let mut cards = Vec::with_capacity(alloc, 8)?;
-    for token in Tokens::new(plain.as_slice()) {
-        push_named(&mut cards, token.text)?;
+    if line.first() != Some(&b'@') {
+        push_cards(&mut cards, uncommented(line))?;
     }
     Ok(cards)
+}
+
+// Appends the cards that the words of a text name, in their order.
+fn push_cards(cards: &mut Vec<Card>, text: &[u8]) -> Result<(), AllocError>
+    ensures { OnOk result (cards.new.items ≡ cards.old.items ++ flat_map
+        (λ word. option_to_list (named_card word.0.bytes))
+        (map with_end (words_from parts_words 0 text.now))) }
+{
+    for word in Words::new(text) {
+        push_named(cards, word.text)?;
+    }
+    Ok(())
 }
 
 // Appends the card that the word names, if it names one.
@@ -109,60 +97,6 @@ fn push_named(cards: &mut Vec<Card>, word: &[u8]) -> Result<(), AllocError>
 {
     if let Some(card) = named_card(word) {
         cards.push(card)?;
-    }
-    Ok(())
-}
-
-/// The card that a word names: as a board's text spells it, or with its suit first.
-pub(crate) fn named_card(word: &[u8]) -> Option<Card>
-    ensures { result ≡ named_card word.now }
-{
-    match card_spelled(word) {
-        Some(card) => Some(card),
-        None => suit_first(word),
-    }
-}
-
-// The card that a word spells whose suit is its first letter.
-fn suit_first(word: &[u8]) -> Option<Card>
-    ensures { result ≡ card_spelled (drop 1 word.now ++ take 1 word.now) }
-{
-    match word {
-        [suit, rank] => card_spelled(&[*rank, *suit]),
-        [suit, first, second] => card_spelled(&[*first, *second, *suit]),
-        _ => None,
-    }
-}
-
-/// The two letters of each word of a text that is a move, in lower case.
-pub(crate) fn named_moves<R: Rule>(alloc: Global, text: &[u8]) -> Result<Vec<u8>, AllocError>
-    ensures { IfOk result (λ letters. letters.items ≡ named_moves R.game text.now) }
-{
-    let plain = plain(alloc, text)?;
-    let mut letters = Vec::new(alloc);
-    for token in Tokens::new(plain.as_slice()) {
-        push_letters::<R>(&mut letters, token.text)?;
-    }
-    Ok(letters)
-}
-
-// Appends the letters of the word, if it is a move.
-fn push_letters<R: Rule>(letters: &mut Vec<u8>, word: &[u8]) -> Result<(), AllocError>
-    ensures { OnOk result
-        (letters.new.items ≡ letters.old.items ++ letters_of_move R.game word.now) }
-{
-    if run_named::<R>(word).is_some() {
-        push_lower(letters, &word[..word.len().min(2)])?;
-    }
-    Ok(())
-}
-
-fn push_lower(letters: &mut Vec<u8>, word: &[u8]) -> Result<(), AllocError>
-    ensures { OnOk result (letters.new.items
-        ≡ letters.old.items ++ str_to_ascii_lowercase word.now) }
-{
-    for letter in word {
-        letters.push(letter.to_ascii_lowercase())?;
     }
     Ok(())
 }

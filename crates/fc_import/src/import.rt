@@ -10,19 +10,17 @@ ghost use Rattle.fc_record.specs.{Printing.{header_text, list_line}, RecordTexts
 ghost use Rattle.fc_import.specs.{Import.{HasNoHeader, IsPrinted}, inside.{AreWhole, IsMade}};
 ghost use Rattle.fc_import.specs.inside.{KeepsFirst, Takes, TakesAsItIs, TakesFirst, TakesName};
 
-use crate::block::Block;
 use crate::changes::Noted;
-use crate::layout::{LinesAre, Reading, layout_words, read};
-use crate::line::{LineKind, line_len};
-use crate::lists::{
-    FIRST_RULE, ListRead, SOLVED, has_moves, is_list, is_move, moves_len, read_moves_on,
-};
+use crate::labels::LabelKind;
+use crate::layout::{Drafted, LinesAre, draft_of, layout_words};
+use crate::line::line_len;
+use crate::lists::{ListRead, moves_on};
 use crate::made::{Form, Made, is_same};
-use crate::reasons::{board_reason, move_reason};
-use crate::states::{moves_between, states_len};
-use crate::titles::{is_of_variant, title_of, variant_titled};
+use crate::piece::{FIRST_RULE, LineKind, Piece, PieceKind, SOLVED};
+use crate::reasons::{board_reason, move_reason, word_reason};
+use crate::titles::{title_of, variant_titled};
 use fc_board::{Board, Rule};
-use fc_text::{BoardFault, read_board, read_printed};
+use fc_text::{BoardFault, BoardFaultKind, Lines, read_board, read_printed};
 use memchr::memchr;
 use std::alloc::{AllocError, Global};
 
@@ -37,7 +35,12 @@ const NO_LIST: &[u8] = b"not imported: these are more moves than a list has";
 const NO_MOVES: &[u8] =
     b"not imported: this solution has no moves: take what fc-solve -m -snx prints";
 
-const MIXED: &[u8] = b"not imported: moves among other words: write the moves of a solution alone";
+const NO_MOVE: &[u8] = b" is no move: write the moves of a solution alone";
+
+const NO_LABEL: &[u8] =
+    b" is no name or number of this line: write Freecells: or Foundations:, or leave it out";
+
+const NO_HEIGHT: &[u8] = b" is no foundation: write a suit, - and 0 or the rank on top, as H-4";
 
 const OTHER_HEADER: &[u8] =
     b"not imported: the header names another game: import it with --variant";
@@ -56,25 +59,6 @@ const REWRITTEN: &[u8] = b"these moves are rewritten in fcanon's notation";
 
 const ONCE_MORE: &[u8] = b"this is the board before once more, with which a solution begins";
 
-/// What the lines at the front of a text look like.
-#[derive(Clone, Copy)]
-enum PieceKind {
-    Blank,
-    Prose,
-    /// Lines as those of a board, which are in the block.
-    Board,
-    Moves,
-    /// The boards of a solution after its first one.
-    States,
-}
-
-/// Lines at the front of a text: how many bytes they have, and what they look like.
-#[derive(Clone, Copy)]
-struct Piece {
-    len: usize,
-    kind: PieceKind,
-}
-
 /// How much of a solution was there that has no move yet.
 #[derive(Clone, Copy)]
 enum Solution {
@@ -83,16 +67,6 @@ enum Solution {
     Rule,
     /// Its first board.
     Board,
-}
-
-/// Which game the next boards are of, by what comes before them.
-#[derive(Clone, Copy)]
-enum GameNamed {
-    This,
-    /// The last header names another one.
-    OtherByHeader,
-    /// The last title that names a game names another one.
-    OtherByTitle,
 }
 
 /// A text as it is imported.
@@ -104,7 +78,8 @@ struct Importer<R: Rule> {
     /// The words of the last title, as the name of the next board.
     title: Vec<u8>,
     solution: Solution,
-    game: GameNamed,
+    /// Whether the last title that names a game names another one.
+    is_titled_otherwise: bool,
 }
 
 /// What is written and said of a text.
@@ -124,12 +99,12 @@ pub(crate) fn import_text<R: Rule>(
         made: Made::new(alloc, noted),
         title: Vec::new(alloc),
         solution: Solution::Nothing,
-        game: GameNamed::This,
+        is_titled_otherwise: false,
     };
-    let mut block = Block::new();
+    let mut piece = Piece::new(alloc);
     let mut at = 0;
     while at < text.len() {
-        let len = importer.take_first(&text[at..], &mut block)?;
+        let len = importer.take_first(&text[at..], &mut piece)?;
         at += len;
     }
     Ok(importer.made)
@@ -137,7 +112,7 @@ pub(crate) fn import_text<R: Rule>(
 
 impl<R: Rule> Importer<R> {
     // Takes what is at the front of the text, and returns how many bytes it has.
-    fn take_first(&mut self, text: &[u8], block: &mut Block) -> Result<usize, AllocError>
+    fn take_first(&mut self, text: &[u8], piece: &mut Piece) -> Result<usize, AllocError>
         requires { 0 < length text.now }
         ensures takes { IfOk result (λ len. TakesFirst R.VARIANT R.game text.now len
             self.old.made self.new.made) }
@@ -147,7 +122,7 @@ impl<R: Rule> Importer<R> {
         if let Some(len) = self.take_as_it_is(text)? {
             return Ok(len);
         }
-        self.take_other(text, block)
+        self.take_other(text, piece)
     }
 
     // Takes a record or a list that is as fcanon prints it, and returns how many bytes it has.
@@ -185,7 +160,7 @@ impl<R: Rule> Importer<R> {
         if taken.is_some() {
             self.solution = Solution::Nothing;
             self.title.clear();
-            self.game = GameNamed::This;
+            self.is_titled_otherwise = false;
         }
         Ok(taken)
     }
@@ -211,13 +186,13 @@ impl<R: Rule> Importer<R> {
     }
 
     // Takes the header or the piece at the front of the text, and returns how many bytes it has.
-    fn take_other(&mut self, text: &[u8], block: &mut Block) -> Result<usize, AllocError>
+    fn take_other(&mut self, text: &[u8], piece: &mut Piece) -> Result<usize, AllocError>
         requires { 0 < length text.now }
         ensures { IfOk result (λ len. TakesFirst R.VARIANT R.game text.now len
             self.old.made self.new.made) }
     {
         if text[0] != b'@' {
-            return self.take_next(text, block);
+            return self.take_next(text, piece);
         }
         let len = line_len(text);
         self.take_header(&text[..len])?;
@@ -225,7 +200,7 @@ impl<R: Rule> Importer<R> {
     }
 
     // Takes the piece at the front of the text, and returns how many bytes it has.
-    fn take_next(&mut self, text: &[u8], block: &mut Block) -> Result<usize, AllocError>
+    fn take_next(&mut self, text: &[u8], piece: &mut Piece) -> Result<usize, AllocError>
         requires some { 0 < length text.now }
         requires no_header { begins_with header_mark text.now ≡ false }
         ensures lines { IfOk result (AreWhole text.now) }
@@ -239,40 +214,30 @@ impl<R: Rule> Importer<R> {
                 return Ok(len);
             }
         }
-        let piece = self.look_at(text, block);
-        let len = lines_len(text, piece.len);
-        self.take_piece(&text[..len], piece.kind, block)?;
+        let kind = self.look_at(text, piece)?;
+        let least = self.least_len(text, kind, piece);
+        let len = lines_len(text, least);
+        self.take_piece(&text[..len], kind, piece)?;
         Ok(len)
     }
 
-    // What the text begins with.
-    fn look_at(&self, text: &[u8], block: &mut Block) -> Piece {
-        let line = first_line(text);
-        let kind = match block.begin(text) {
-            LineKind::Foundations | LineKind::Front if self.goes_on_with_boards() => {
-                PieceKind::States
-            }
-            LineKind::Blank => PieceKind::Blank,
-            LineKind::Moves => PieceKind::Moves,
-            LineKind::Other if self.ends_without_moves() && is_move(line) => PieceKind::Moves,
-            LineKind::Header
-            | LineKind::Comment
-            | LineKind::Other
-            | LineKind::Ruler
-            | LineKind::Top => PieceKind::Prose,
-            LineKind::Cards if is_list(line) => board_or_moves(text, block),
-            LineKind::Foundations | LineKind::Cells | LineKind::Cards | LineKind::Front => {
-                block.go_on(text);
-                PieceKind::Board
-            }
-        };
-        let len = match kind {
-            PieceKind::Board => block.len,
-            PieceKind::Moves => moves_len(text),
-            PieceKind::States => states_len(text),
-            _ => line.len(),
-        };
-        Piece { len, kind }
+    // What the text begins with, and reads that. A number alone is a move where a solution begins.
+    fn look_at(&self, text: &[u8], piece: &mut Piece) -> Result<PieceKind, AllocError> {
+        let kind = piece.read::<R>(text)?;
+        if kind == PieceKind::Prose && piece.is_number && self.ends_without_moves() {
+            piece.go_on_with_moves::<R>(text)?;
+            return Ok(PieceKind::Moves);
+        }
+        Ok(kind)
+    }
+
+    // How many bytes the piece has, as far as is known: of a solution of boards alone, all.
+    fn least_len(&self, text: &[u8], kind: PieceKind, piece: &Piece) -> usize {
+        if kind == PieceKind::Board && self.goes_on_with_boards() {
+            boards_len(text)
+        } else {
+            piece.len
+        }
     }
 
     // Whether the next board is the second one of a solution.
@@ -281,20 +246,14 @@ impl<R: Rule> Importer<R> {
     }
 
     // Takes the piece as what it looks like.
-    fn take_piece(
-        &mut self,
-        piece: &[u8],
-        kind: PieceKind,
-        block: &mut Block,
-    ) -> Result<(), AllocError>
-        ensures { OnOk result (Takes R.VARIANT R.game piece.now self.old.made self.new.made) }
+    fn take_piece(&mut self, lines: &[u8], kind: PieceKind, piece: &Piece) -> Result<(), AllocError>
+        ensures { OnOk result (Takes R.VARIANT R.game lines.now self.old.made self.new.made) }
     {
         match kind {
-            PieceKind::Blank => self.take_blank(piece),
-            PieceKind::Prose => self.take_prose(piece),
-            PieceKind::Board => self.take_lines(piece, block),
-            PieceKind::Moves => self.take_moves(piece),
-            PieceKind::States => self.take_states(piece, block),
+            PieceKind::Prose => self.take_prose(lines),
+            PieceKind::Board if self.goes_on_with_boards() => self.take_boards(lines),
+            PieceKind::Board => self.take_lines(lines, piece),
+            PieceKind::Moves => self.take_moves(lines, piece),
         }
     }
 
@@ -304,7 +263,7 @@ impl<R: Rule> Importer<R> {
             → Takes R.VARIANT R.game piece.now self.old.made self.new.made) }
         ensures kept { IfOk result (λ taken. taken ≡ false → self.new.made ≡ self.old.made) }
     {
-        if !matches!(self.game, GameNamed::This) {
+        if self.is_titled_otherwise || self.made.other_game {
             return Ok(false);
         }
         match read_printed::<R>(piece) {
@@ -316,26 +275,13 @@ impl<R: Rule> Importer<R> {
         }
     }
 
-    fn take_blank(&mut self, piece: &[u8]) -> Result<(), AllocError>
-        ensures { OnOk result (Takes R.VARIANT R.game piece.now self.old.made self.new.made) }
-    {
-        if self.made.pass(self.alloc, piece)? {
-            return Ok(());
-        }
-        self.made.refuse_board(piece, 0, NO_BOARD)
-    }
-
     // Takes a header: the name of the boards up to the next one.
     fn take_header(&mut self, line: &[u8]) -> Result<(), AllocError>
         ensures { OnOk result (TakesName R.VARIANT line.now self.old.made self.new.made) }
     {
         self.solution = Solution::Nothing;
         self.title.clear();
-        self.game = if is_of_variant::<R>(line) {
-            GameNamed::This
-        } else {
-            GameNamed::OtherByHeader
-        };
+        self.is_titled_otherwise = false;
         self.made.take_name(self.alloc, line)
     }
 
@@ -348,9 +294,6 @@ impl<R: Rule> Importer<R> {
             return self.take_no_moves(piece);
         }
         self.look_at_title(piece)?;
-        if self.made.last.is_some() && has_moves(piece) {
-            return self.made.refuse_list(self.alloc, piece, MIXED);
-        }
         if self.made.pass(self.alloc, piece)? {
             return Ok(());
         }
@@ -367,44 +310,74 @@ impl<R: Rule> Importer<R> {
         if line.starts_with(FIRST_RULE) {
             self.solution = Solution::Rule;
         }
+        if line.trim_ascii().is_empty() {
+            return Ok(());
+        }
         self.title = title_of(self.alloc, line)?;
         if let (Some(variant), false) = (variant_titled(line), self.made.is_named()) {
-            self.game = if variant == R::VARIANT {
-                GameNamed::This
-            } else {
-                GameNamed::OtherByTitle
-            };
+            self.is_titled_otherwise = variant != R::VARIANT;
         }
         Ok(())
     }
 
-    // Takes the lines of the block as a board, or refuses them.
-    fn take_lines(&mut self, piece: &[u8], block: &Block) -> Result<(), AllocError>
-        ensures { OnOk result (Takes R.VARIANT R.game piece.now self.old.made self.new.made) }
+    // Takes lines as a board, or refuses them.
+    fn take_lines(&mut self, lines: &[u8], piece: &Piece) -> Result<(), AllocError>
+        ensures { OnOk result (Takes R.VARIANT R.game lines.now self.old.made self.new.made) }
     {
-        match self.game {
-            GameNamed::This => self.take_board(piece, block),
-            GameNamed::OtherByHeader => self.refuse(piece, OTHER_HEADER),
-            GameNamed::OtherByTitle => self.refuse(piece, OTHER_TITLE),
+        if self.made.other_game {
+            return self.refuse(lines, OTHER_HEADER);
+        }
+        if self.is_titled_otherwise {
+            return self.refuse(lines, OTHER_TITLE);
+        }
+        self.take_board(lines, piece)
+    }
+
+    // Takes lines as a board of this game, or refuses them.
+    fn take_board(&mut self, lines: &[u8], piece: &Piece) -> Result<(), AllocError>
+        ensures { OnOk result (Takes R.VARIANT R.game lines.now self.old.made self.new.made) }
+    {
+        match draft_of::<R>(lines, piece, self.lines_are) {
+            Drafted::Board(board, layout) => self.take_read(lines, board, layout_words(layout)),
+            Drafted::Question => self.refuse(lines, QUESTION),
+            Drafted::Unplayable => self.refuse(lines, UNPLAYABLE),
+            Drafted::NoBoard => self.take_no_board(lines, piece),
         }
     }
 
-    // Takes the lines of the block as a board of this game, or refuses them.
-    fn take_board(&mut self, piece: &[u8], block: &Block) -> Result<(), AllocError>
-        ensures { OnOk result (Takes R.VARIANT R.game piece.now self.old.made self.new.made) }
+    // Takes lines that are a board in no layout as the last one, which a solver draws where its
+    // solution begins; or refuses them, at the first word that has no place there.
+    fn take_no_board(&mut self, lines: &[u8], piece: &Piece) -> Result<(), AllocError>
+        ensures { OnOk result (Takes R.VARIANT R.game lines.now self.old.made self.new.made) }
     {
-        let shown = read_board::<R>(piece);
-        match read(piece, block, &shown, self.lines_are) {
-            Reading::Shown => match shown {
-                Ok(board) => self.take_shown(piece, board),
-                Err(fault) => self.refuse_fault(piece, fault),
-            },
-            Reading::Drafted(board, layout) => self.take_read(piece, board, layout_words(layout)),
-            Reading::Question => self.refuse(piece, QUESTION),
-            Reading::Unplayable => self.refuse(piece, UNPLAYABLE),
-            Reading::NoBoard => self.refuse(piece, NO_BOARD),
-            Reading::Fault(fault) => self.refuse_fault(piece, fault),
+        if matches!(self.solution, Solution::Rule)
+            && self.made.see_again(self.alloc, lines, ONCE_MORE)?
+        {
+            self.solution = Solution::Board;
+            return Ok(());
         }
+        match (first_misplaced(piece), read_board::<R>(lines)) {
+            (Misplaced::Label(at), _) => self.refuse_word(lines, at, NO_LABEL),
+            (Misplaced::Height(at), _) => self.refuse_word(lines, at, NO_HEIGHT),
+            (Misplaced::Word(place), _) => self.refuse_fault(
+                lines,
+                BoardFault {
+                    kind: BoardFaultKind::BadCard,
+                    place,
+                },
+            ),
+            (Misplaced::Nothing, Ok(_)) => self.refuse(lines, NO_BOARD),
+            (Misplaced::Nothing, Err(fault)) => self.refuse_fault(lines, fault),
+        }
+    }
+
+    // Refuses a board for the word at this place.
+    fn refuse_word(&mut self, lines: &[u8], at: usize, words: &[u8]) -> Result<(), AllocError>
+        ensures { OnOk result (Takes R.VARIANT R.game lines.now self.old.made self.new.made) }
+    {
+        let words = word_reason(self.alloc, lines, at, words)?;
+        self.title.clear();
+        self.made.refuse_board(lines, at, words.as_slice())
     }
 
     // Takes a board that `show` reads in the lines, unless a solution begins with it that belongs
@@ -480,19 +453,15 @@ impl<R: Rule> Importer<R> {
         {
             return Ok(());
         }
-        self.made.refuse_list(self.alloc, piece, NO_MOVES)
+        self.made.refuse_list(self.alloc, piece, 0, NO_MOVES)
     }
 
-    // Takes the boards of a solution after its first one as the moves between them.
-    fn take_states(&mut self, piece: &[u8], block: &mut Block) -> Result<(), AllocError>
-        ensures { OnOk result (Takes R.VARIANT R.game piece.now self.old.made self.new.made) }
+    // Refuses the boards of a solution that has no moves.
+    fn take_boards(&mut self, lines: &[u8]) -> Result<(), AllocError>
+        ensures { OnOk result (Takes R.VARIANT R.game lines.now self.old.made self.new.made) }
     {
         self.solution = Solution::Nothing;
-        let Some(board) = &self.made.last else {
-            return self.made.refuse_list(self.alloc, piece, NO_BOARD_BEFORE);
-        };
-        let read = moves_between(self.alloc, board, piece, block)?;
-        self.take_read_moves(piece, read)
+        self.refuse(lines, NO_MOVES)
     }
 
     // Refuses a board.
@@ -513,48 +482,91 @@ impl<R: Rule> Importer<R> {
     }
 
     // Takes lines of moves, or refuses them.
-    fn take_moves(&mut self, piece: &[u8]) -> Result<(), AllocError>
-        ensures { OnOk result (Takes R.VARIANT R.game piece.now self.old.made self.new.made) }
+    fn take_moves(&mut self, lines: &[u8], piece: &Piece) -> Result<(), AllocError>
+        ensures { OnOk result (Takes R.VARIANT R.game lines.now self.old.made self.new.made) }
     {
         self.solution = Solution::Nothing;
         let Some(board) = &self.made.last else {
-            return self.made.refuse_list(self.alloc, piece, NO_BOARD_BEFORE);
+            return self.made.refuse_list(self.alloc, lines, 0, NO_BOARD_BEFORE);
         };
-        let read = read_moves_on(self.alloc, board, piece)?;
-        self.take_read_moves(piece, read)
+        if let Some(at) = piece.foreign {
+            let words = word_reason(self.alloc, lines, at, NO_MOVE)?;
+            return self
+                .made
+                .refuse_list(self.alloc, lines, at, words.as_slice());
+        }
+        let read = moves_on(self.alloc, board, lines, piece.moves.as_slice())?;
+        self.take_read_moves(lines, read)
     }
 
     // Takes the moves that the lines are read as, or refuses them.
-    fn take_read_moves(&mut self, piece: &[u8], read: ListRead) -> Result<(), AllocError>
-        ensures { OnOk result (Takes R.VARIANT R.game piece.now self.old.made self.new.made) }
+    fn take_read_moves(&mut self, lines: &[u8], read: ListRead) -> Result<(), AllocError>
+        ensures { OnOk result (Takes R.VARIANT R.game lines.now self.old.made self.new.made) }
     {
         match read {
             ListRead::Moves(form, moves) => {
                 let taken = self
                     .made
-                    .put_list(self.alloc, piece, form, moves.as_slice(), REWRITTEN)?;
+                    .put_list(self.alloc, lines, form, moves.as_slice(), REWRITTEN)?;
                 if taken {
                     return Ok(());
                 }
-                self.made.refuse_list(self.alloc, piece, NO_LIST)
+                self.made.refuse_list(self.alloc, lines, 0, NO_LIST)
             }
             ListRead::Illegal(number, fault) => {
                 let words = move_reason(self.alloc, number, fault)?;
-                self.made.refuse_list(self.alloc, piece, words.as_slice())
+                self.made
+                    .refuse_list(self.alloc, lines, 0, words.as_slice())
             }
         }
     }
 }
 
-// A line that may be one of cards or one of moves, and that the block has: cards, if a board comes
-// of it.
-fn board_or_moves(text: &[u8], block: &mut Block) -> PieceKind {
-    block.go_on(text);
-    if block.is_whole() {
-        PieceKind::Board
-    } else {
-        PieceKind::Moves
+/// Where the first word is that has no place in a board.
+#[derive(Clone, Copy)]
+enum Misplaced {
+    Nothing,
+    Label(usize),
+    Word(usize),
+    Height(usize),
+}
+
+// The first word of the lines that has no place in a board.
+fn first_misplaced(piece: &Piece) -> Misplaced {
+    let mut row: u8 = 0;
+    for line in piece.lines.as_slice() {
+        let has_label = match line.label {
+            LabelKind::Unknown | LabelKind::Columns => false,
+            LabelKind::Column(number) => number == row.saturating_add(1),
+            _ => true,
+        };
+        if line.kind == LineKind::Cards {
+            row = row.saturating_add(1);
+            if !has_label {
+                return Misplaced::Label(line.start);
+            }
+        }
+        if line.others > 0 && matches!(line.kind, LineKind::Cards | LineKind::Cells) {
+            return Misplaced::Word(line.start.saturating_add(line.other));
+        }
     }
+    match piece.bad_height {
+        Some(at) => Misplaced::Height(at),
+        None => Misplaced::Nothing,
+    }
+}
+
+// How many bytes the boards of a solution at the front have, with the line after them.
+fn boards_len(text: &[u8]) -> usize {
+    for line in Lines::new(text) {
+        if line.text.starts_with(SOLVED) {
+            return line.start.saturating_add(line.text.len());
+        }
+        if line.text.starts_with(FIRST_RULE) || line.text.starts_with(b"@") {
+            return line.start;
+        }
+    }
+    text.len()
 }
 
 // How many bytes the lines have in which so many first bytes of the text end, as far as the next
@@ -588,11 +600,4 @@ fn ten_lines(text: &[u8]) -> usize {
         };
     }
     len
-}
-
-fn first_line(text: &[u8]) -> &[u8] {
-    match memchr(b'\n', text) {
-        Some(end) => text.get(..end).unwrap_or(text),
-        None => text,
-    }
 }

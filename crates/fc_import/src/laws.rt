@@ -1,7 +1,7 @@
 //! Laws of texts, and of the words that name cards.
 ghost use Rattle.std.specs.{Fmt.{decimal}, List.{Contains, fold}, Prelude.{◌++◌, ◌<◌, ◌∷◌, ◌≡◌}};
-ghost use Rattle.std.specs.Prelude.{◌≢◌, [], codes, false, if◌then◌else◌, List, None, Option, Some};
-ghost use Rattle.std.specs.Prelude.{true, ℕ};
+ghost use Rattle.std.specs.Prelude.{◌≢◌, ◌⊎◌, [], codes, false, if◌then◌else◌, List, None, Option};
+ghost use Rattle.std.specs.Prelude.{Some, true, ℕ};
 ghost use Rattle.fc_board.specs.Boards.{Board};
 ghost use Rattle.fc_board.specs.Games.{bakers_game, eight_off, freecell, Game, game_of};
 ghost use Rattle.fc_board.specs.Moves.{MoveList};
@@ -9,12 +9,13 @@ ghost use Rattle.fc_board.specs.declared.rule.Variant.{Variant};
 ghost use Rattle.fc_text.specs.{Bytes.{line_feed}, Lines.{lines_from, Piece}, Spelling.{board_of}};
 ghost use Rattle.fc_record.specs.{Grammar.{begins_with, heading_of}, RecordTexts.{header_mark}};
 ghost use Rattle.fc_collect.specs.declared.streams.faults.Summary.{Summary};
-ghost use Rattle.fc_import.specs.Import.{BoardNeedsNoNote, count_text, HasFewCards, Imported};
-ghost use Rattle.fc_import.specs.Import.{IsBuilt, IsNoBoard, IsPrinted, IsShown, ListNeedsNoNote};
-ghost use Rattle.fc_import.specs.Import.{Makes, most_dealt, numbered, refusals, StaysLast};
+ghost use Rattle.fc_import.specs.Import.{BoardNeedsNoNote, count_text, Imported, IsApart, IsBuilt};
+ghost use Rattle.fc_import.specs.Import.{IsNoBoard, IsPrinted, IsShown, ListNeedsNoNote, Makes};
+ghost use Rattle.fc_import.specs.Import.{most_dealt, numbered, Reading, refusals, StaysLast};
 ghost use Rattle.fc_import.specs.Notes.{name_by, Place, place_text, SaysUnless, State};
-ghost use Rattle.fc_import.specs.Words.{decoded, is_list, named_card, named_cards, named_in};
-ghost use Rattle.fc_import.specs.Words.{named_lines, named_moves, plain, text_read};
+ghost use Rattle.fc_import.specs.Scan.{HasFewCards, is_list, IsQuiet, moves_in, named_card};
+ghost use Rattle.fc_import.specs.Scan.{named_cards, said_in};
+ghost use Rattle.fc_import.specs.Words.{decoded, named_in, named_lines, text_read};
 ghost use Rattle.fc_import.specs.declared.changes.Noted.{Noted};
 ghost use Rattle.fc_import.specs.declared.changes.Noted.TheVariants.{Changes, Doubts, Strict};
 
@@ -38,19 +39,67 @@ pub fn words_name_cards()
     ensures commas { named_cards (codes "4C,KD;|AS|") ≡ 12 ∷ 49 ∷ 3 ∷ [] }
 {}
 
-/// A line lists moves where each of its words is one; a word alone that is a number is none, and in
-/// Eight Off there are more cells.
+/// A line lists moves where each of its words is of one, in each form in which a solution is
+/// written; a word alone that is a number is none, and in Eight Off there are more cells.
 pub fn words_name_moves()
+    ensures letters { (said_in freecell (codes "2a 23V2, 5h")).moves ≡ codes " 2a 23v2 5h" }
+    ensures numbered { (said_in freecell (codes "1. 2a 2) 3b 3: 5h")).moves ≡ codes " 2a 3b 5h" }
+    ensures labelled { (said_in freecell (codes "Solution: 2a 3b")).moves ≡ codes " 2a 3b" }
+    ensures arrows { (said_in freecell (codes "2->6, 5 => a")).moves ≡ codes " 26 5a" }
+    ensures to { (said_in freecell (codes "5 to a")).moves ≡ codes " 5a" }
+    ensures stacks { (said_in freecell (codes "Move 2 cards from stack 0 to stack 5")).moves
+        ≡ codes " 16v2" }
+    ensures home { (said_in freecell (codes "Move a card from freecell 1 to the foundations")).moves
+        ≡ codes " bh" }
     ensures moves { is_list freecell (codes "1a, 23") ≡ true }
+    ensures list { is_list freecell (codes "1. 2->6, 5 to a") ≡ true }
+    ensures said { is_list freecell (codes "Move a card from stack 4 to freecell 0") ≡ true }
     ensures alone { is_list freecell (codes "2h") ≡ true }
     ensures number { is_list freecell (codes "24") ≡ false }
     ensures numbers { is_list freecell (codes "24 15") ≡ true }
     ensures prose { is_list freecell (codes "1a is bad") ≡ false }
+    ensures other_label { is_list freecell (codes "zz: 1a 2b") ≡ false }
+    ensures other_pile { is_list freecell (codes "Move a card from stack 4 to stakc 0") ≡ false }
+    ensures dots { is_list freecell (codes "1a ... 2b") ≡ false }
     ensures blank { is_list freecell (codes "  ") ≡ false }
     ensures marked { is_list freecell (codes "> 9z") ≡ true }
     ensures cells { is_list freecell (codes "1k") ≡ false }
     ensures more_cells { is_list eight_off (codes "1k") ≡ true }
-    ensures letters { named_moves freecell (codes "23v2 x 1A") ≡ codes "231a" }
+    ensures among { moves_in freecell (codes "so 1a and 23v2 or 5 to a, then 4h") ≡ 4 }
+{}
+
+/// No list passes in silence, no line that begins with a move, none with two moves among a word
+/// more, and none with four moves or with moves that are not parted.
+pub fn solutions_are_not_quiet()
+    ensures lists { (game : Game) (line : List ℕ) → is_list game line ≡ true → ¬ IsQuiet game line }
+    ensures among { (game : Game) (line : List ℕ) → 3 < moves_in game line → ¬ IsQuiet game line }
+    ensures foreign { ¬ IsQuiet freecell (codes "3a 3b zz") }
+    ensures first { ¬ IsQuiet freecell (codes "3a zz") }
+    ensures labelled { ¬ IsQuiet freecell (codes "Solution: 3a 3b, won") }
+    ensures later { ¬ IsQuiet freecell (codes "zz 3a 3b") }
+    ensures arrows { ¬ IsQuiet freecell (codes "2->6, 5->3 zz") }
+    ensures stacks { ¬ IsQuiet freecell (codes "Move 2 cards from stack 0 to stack 5") }
+    ensures glued { ¬ IsQuiet freecell (codes "3a3b5c") }
+    ensures single { ¬ IsQuiet freecell (codes "3 a 3 b") }
+    ensures number { IsQuiet freecell (codes "24") }
+    ensures title { IsQuiet freecell (codes "Game 1b") }
+{}
+
+/// Where nothing is written for a piece, and nothing said of it, no line of it lists moves; but for
+/// the last board once more, after the rule that begins a solution.
+pub fn no_solution_passes_in_silence()
+    ensures { (variant : Variant) (game : Game) (state next : State) (piece : List ℕ) (line : Piece)
+        → Contains (lines_from 0 piece) line → is_list game line.bytes ≡ true
+        → Reading variant game state piece next [] [] → state.begun ≡ true }
+{}
+
+/// After lines of a solution that no mark begins comes a board, a list with a mark, or a line that
+/// has no words: so a solution is not cut.
+pub fn solutions_are_whole()
+    ensures { (variant : Variant) (game : Game) (state next : State) (piece written said : List ℕ)
+        → state.goes_on ≡ true → ¬ IsApart state piece
+        → Reading variant game state piece next written said
+        → (next.last ≡ None) ⊎ (written ≢ []) ⊎ (state.begun ≡ true) }
 {}
 
 /// Each sign of a suit, filled or outlined, is the letter of its suit, before the rank too; a
@@ -80,7 +129,6 @@ pub fn signs_are_letters()
     ensures wide_letters { text_read (0xEF ∷ 0xBC ∷ 0x97 ∷ 0xEF ∷ 0xBC ∷ 0xA4 ∷ []) ≡ codes "7D" }
     ensures other_sign { text_read (0xF0 ∷ 0x9F ∷ 0x8E ∷ 0xB4 ∷ [])
         ≡ 0xF0 ∷ 0x9F ∷ 0x8E ∷ 0xB4 ∷ [] }
-    ensures plain_letter { plain (0xC3 ∷ 0xA9 ∷ 0x2C ∷ []) ≡ 0xC3 ∷ 0xA9 ∷ 0x20 ∷ [] }
 {}
 
 /// A line ends with a line feed, a carriage return or both, a line tabulation, a form feed, U+0085,

@@ -1,14 +1,14 @@
-//! The layouts in which the lines of a board may have its cards, and which of them play can make.
+//! The layouts in which the lines of a piece may have its cards, and which of them play can make.
 //! Nothing is promised of them: what a board is read as is tested before it is written.
 ghost use Rattle.std.specs.Prelude.{All, drop, IsNone, IsTrue};
 
-use crate::block::Block;
-use crate::line::{LineKind, Placed, Seen};
+use crate::labels::LabelKind;
+use crate::piece::{LineKind, Piece, PieceLine};
 use crate::playable::{MOST_DEALT, is_playable};
+use crate::scan::Placed;
 use arrayvec::ArrayVec;
 use fc_board::{Board, Height, Rule, no_cards};
 use fc_card::Card;
-use fc_text::BoardFault;
 
 /// What lines of cards are where they may be columns or rows.
 #[derive(Clone, Copy, PartialEq, Eq, Debug)]
@@ -19,7 +19,7 @@ pub enum LinesAre {
     Rows,
 }
 
-/// How the lines of a board have its cards.
+/// How the lines of a piece have its cards.
 #[derive(Clone, Copy, PartialEq, Eq, Debug)]
 pub(crate) enum Layout {
     /// Each line is a column.
@@ -28,88 +28,94 @@ pub(crate) enum Layout {
     Rows,
     /// One line has the columns, parted by marks.
     ColumnsInLine,
-    /// One line has the rows, parted by marks.
-    RowsInLine,
     /// One line has the cards in the order of dealing.
     Deal,
-    /// Freecell Solver's drawing: rows, each column four characters wide.
-    Drawing,
 }
 
 /// What is said of a board in this layout.
 pub(crate) fn layout_words(layout: Layout) -> &'static [u8] {
     match layout {
-        Layout::Columns => b"these lines are read as columns, and cells by their width",
+        Layout::Columns => b"these lines are read as columns",
         Layout::Rows => b"the lines of cards are rows, now columns",
         Layout::ColumnsInLine => b"this line is cut into columns at its marks",
-        Layout::RowsInLine => b"this line is cut into rows at its marks, now columns",
         Layout::Deal => b"these cards are dealt in rows of eight, now columns",
-        Layout::Drawing => b"this drawing of a board is now lines of columns",
     }
 }
 
-/// What the lines of a board are read as.
+/// What the lines of a piece are.
 #[derive(Drop)]
-pub(crate) enum Reading<R: Rule> {
-    /// What `show` reads.
-    Shown,
-    Drafted(Board<R>, Layout),
+pub(crate) enum Drafted<R: Rule> {
+    Board(Board<R>, Layout),
     /// Two layouts remain.
     Question,
     /// One layout remains, in which play could not have put the cards.
     Unplayable,
     /// In no layout are they a board.
     NoBoard,
-    /// What is wrong with them as `show` reads them.
-    Fault(BoardFault),
 }
 
-impl<R: Rule> Reading<R> {
-    // The same, unless play could not have made it.
-    fn if_playable(self, shown: &Result<Board<R>, BoardFault>) -> Self {
-        if self.is_playable(shown) {
-            self
-        } else {
-            Reading::Unplayable
-        }
+/// The board that the lines are in one of the layouts that their shape allows.
+pub(crate) fn draft_of<R: Rule>(text: &[u8], piece: &Piece, lines_are: LinesAre) -> Drafted<R> {
+    if piece.rows > 1 && !may_be_rows(text, piece) && has_empty_fields(piece) {
+        return Drafted::NoBoard;
     }
-
-    fn is_playable(&self, shown: &Result<Board<R>, BoardFault>) -> bool {
-        match (self, shown) {
-            (Reading::Drafted(board, _), _) => is_playable(board),
-            (Reading::Shown, Ok(board)) => is_playable(board),
-            _ => false,
-        }
-    }
-}
-
-/// What the lines of the block, which are this text, are read as: `show` reads it so.
-pub(crate) fn read<R: Rule>(
-    text: &[u8],
-    block: &Block,
-    shown: &Result<Board<R>, BoardFault>,
-    lines_are: LinesAre,
-) -> Reading<R> {
-    let (first, second) = layouts_of(text, block);
-    let columns = match shown {
-        Ok(board) if first == Layout::Columns && has_cells_of(block, board) => Some(Reading::Shown),
-        _ => drafted(block, first),
-    };
-    let rows = match second {
-        Some(Layout::Rows) if columns.is_some() && has_unplayable_row::<R>(block) => None,
-        Some(layout) => drafted(block, layout),
+    let (first, second) = layouts_of(text, piece, lines_are);
+    let columns: Option<Board<R>> = board_in(piece, first);
+    let rows: Option<Board<R>> = match second {
+        Some(_) if columns.is_some() && has_unplayable_row::<R>(piece) => None,
+        Some(layout) => board_in(piece, layout),
         None => None,
     };
-    choose(columns, rows, shown, lines_are)
+    match (columns, rows, second) {
+        (Some(_), None, Some(_)) if lines_are != LinesAre::Columns && may_be_squeezed(piece) => {
+            Drafted::Question
+        }
+        (Some(board), None, _) => if_playable(board, first),
+        (None, Some(board), Some(layout)) => if_playable(board, layout),
+        (Some(columns), Some(rows), Some(layout)) => {
+            match (is_playable(&columns), is_playable(&rows), lines_are) {
+                (true, false, _) | (true, _, LinesAre::Columns) => Drafted::Board(columns, first),
+                (false, true, _) | (_, true, LinesAre::Rows) => Drafted::Board(rows, layout),
+                (true, true, LinesAre::Unsaid) => Drafted::Question,
+                (false, false, _) => Drafted::Unplayable,
+            }
+        }
+        _ => Drafted::NoBoard,
+    }
+}
+
+fn if_playable<R: Rule>(board: Board<R>, layout: Layout) -> Drafted<R> {
+    if is_playable(&board) {
+        Drafted::Board(board, layout)
+    } else {
+        Drafted::Unplayable
+    }
+}
+
+// Whether the lines may be rows of which the gaps are left out: less than eight, none longer than the
+// one before, and the last one shorter than the first.
+fn may_be_squeezed(piece: &Piece) -> bool {
+    let first = places_of(first_row(piece));
+    let mut last = first;
+    for line in piece.lines.as_slice() {
+        if line.kind == LineKind::Cards {
+            let places = places_of(*line);
+            if places > last {
+                return false;
+            }
+            last = places;
+        }
+    }
+    piece.rows < 8 && last < first
 }
 
 // Whether no play could have put the cards of an eighth row on those above them.
-fn has_unplayable_row<R: Rule>(block: &Block) -> bool {
+fn has_unplayable_row<R: Rule>(piece: &Piece) -> bool {
     let mut above: Option<Card> = None;
     let mut row: usize = 0;
-    for line in block.lines.as_slice() {
+    for line in piece.lines.as_slice() {
         if line.kind == LineKind::Cards {
-            let first = match block.placed(*line) {
+            let first = match piece.placed(*line) {
                 [first, ..] => first.card,
                 [] => None,
             };
@@ -125,135 +131,122 @@ fn has_unplayable_row<R: Rule>(block: &Block) -> bool {
     false
 }
 
-// Chooses between what the lines are as columns and as rows.
-fn choose<R: Rule>(
-    columns: Option<Reading<R>>,
-    rows: Option<Reading<R>>,
-    shown: &Result<Board<R>, BoardFault>,
-    lines_are: LinesAre,
-) -> Reading<R> {
-    match (columns, rows) {
-        (None, None) => match shown {
-            Ok(_) => Reading::NoBoard,
-            Err(fault) => Reading::Fault(*fault),
-        },
-        (Some(one), None) | (None, Some(one)) => one.if_playable(shown),
-        (Some(columns), Some(rows)) => {
-            let of_two = (
-                columns.is_playable(shown),
-                rows.is_playable(shown),
-                lines_are,
-            );
-            match of_two {
-                (true, false, _) | (true, _, LinesAre::Columns) => columns,
-                (false, true, _) | (_, true, LinesAre::Rows) => rows,
-                (true, true, LinesAre::Unsaid) => Reading::Question,
-                (false, false, _) => Reading::Unplayable,
-            }
-        }
-    }
-}
-
 // The one or two layouts that the shape of the lines allows.
-fn layouts_of(text: &[u8], block: &Block) -> (Layout, Option<Layout>) {
-    if block.is_drawing {
-        return (Layout::Drawing, None);
+fn layouts_of(text: &[u8], piece: &Piece, lines_are: LinesAre) -> (Layout, Option<Layout>) {
+    if piece.rows == 1 && !begins_with_colon(text, first_row(piece)) {
+        return layout_of_line(piece.placed(first_row(piece)));
     }
-    if block.rows == 1 && !begins_with_colon(text, first_row(block)) {
-        return layouts_of_line(block);
-    }
-    if may_be_rows(text, block) {
-        if has_gaps(block) {
-            return (Layout::Rows, None);
-        }
-        (Layout::Columns, Some(Layout::Rows))
-    } else {
+    if !may_be_rows(text, piece) {
         (Layout::Columns, None)
+    } else if has_gaps(piece) || lines_are != LinesAre::Columns && !is_regular(piece) {
+        (Layout::Rows, None)
+    } else {
+        (Layout::Columns, Some(Layout::Rows))
     }
 }
 
-fn begins_with_colon(text: &[u8], line: Seen) -> bool {
+fn begins_with_colon(text: &[u8], line: PieceLine) -> bool {
     let bytes = text.get(line.start..).unwrap_or(b"");
     bytes.trim_ascii_start().starts_with(b":")
 }
 
-// The layouts of one line of cards.
-fn layouts_of_line(block: &Block) -> (Layout, Option<Layout>) {
-    let line = first_row(block);
-    let placed = block.placed(line);
-    if placed.len() <= 13 {
-        return (Layout::Columns, None);
-    }
+// The layout of one line of cards.
+fn layout_of_line(placed: &[Placed]) -> (Layout, Option<Layout>) {
     match (placed.first(), placed.last()) {
-        (Some(first), Some(last)) if first.group < last.group => {
-            (Layout::ColumnsInLine, Some(Layout::RowsInLine))
-        }
+        _ if placed.len() <= 13 => (Layout::Columns, None),
+        (Some(first), Some(last)) if first.group < last.group => (Layout::ColumnsInLine, None),
         _ => (Layout::Deal, None),
     }
 }
 
-fn first_row(block: &Block) -> Seen {
-    for line in block.lines.as_slice() {
+fn first_row(piece: &Piece) -> PieceLine {
+    for line in piece.lines.as_slice() {
         if line.kind == LineKind::Cards {
             return *line;
         }
     }
-    Seen::default()
+    PieceLine::default()
 }
 
-// Whether a line has a mark for no card among cards, or a place of the grid without a card before
-// its last one: columns have no such gaps.
-fn has_gaps(block: &Block) -> bool {
-    let grid = grid_by_first_row(block);
-    let mut is_wide = false;
-    for line in block.lines.as_slice() {
-        if line.kind == LineKind::Cards {
-            if line.gaps > 0 && line.cards > 1 {
-                return true;
-            }
-            is_wide = is_wide || goes_beyond(grid, block.placed(*line));
+// Whether the lines may be rows: none has a label or more than eight places.
+fn may_be_rows(text: &[u8], piece: &Piece) -> bool {
+    for line in piece.lines.as_slice() {
+        if line.kind == LineKind::Cards
+            && (line.end.saturating_sub(line.first) > 8
+                || line.label != LabelKind::Bare
+                || begins_with_colon(text, *line))
+        {
+            return false;
         }
     }
-    is_wide && grid_of(block).is_some()
+    piece.rows > 1
 }
 
-// Whether the last card of a row is in a later column than there are cards.
-fn goes_beyond(grid: Option<Grid>, row: &[Placed]) -> bool {
-    match (grid, row.last()) {
-        (Some(_), Some(last)) => column_in(grid, *last, 0) >= row.len(),
-        _ => false,
-    }
-}
-
-// Whether the lines may be rows: none begins with a colon or has more than eight cards.
-fn may_be_rows(text: &[u8], block: &Block) -> bool {
-    for line in block.lines.as_slice() {
-        if line.kind == LineKind::Cards {
-            if line.cards > 8 || begins_with_colon(text, *line) {
-                return false;
-            }
+// Whether a line has a place without a card that is not in front of all lines, or a place of the
+// grid without a card before its last one: columns have no such gaps.
+fn has_gaps(piece: &Piece) -> bool {
+    let lead = least_lead(piece);
+    let tabs = least_tabs(piece);
+    let grid = grid_of(piece);
+    for line in piece.lines.as_slice() {
+        if line.kind != LineKind::Cards {
+            continue;
+        }
+        let row = piece.placed(*line);
+        let has_marks = line.marks > lead && row.len() > 1;
+        let goes_beyond = match (grid, row.last()) {
+            (Some(_), Some(last)) => column_in(grid, *last, 0) >= row.len(),
+            _ => false,
+        };
+        if line.gaps > lead || line.tabs > tabs || has_marks || goes_beyond {
+            return true;
         }
     }
-    block.rows > 1
+    false
 }
 
-/// Where rows have their columns: each `unit` bytes from `base` on, or else by the number of the
-/// word in its row.
-#[derive(Clone, Copy)]
-struct Grid {
-    base: u16,
-    unit: u16,
-}
-
-// The board of the block in this layout, if it is one.
-fn drafted<R: Rule>(block: &Block, layout: Layout) -> Option<Reading<R>> {
-    let cells = cells_of::<R>(block)?;
-    let columns = columns_of(block, layout)?;
-    let heights = heights_of(block)?;
-    match board_of::<R>(heights, cells, columns) {
-        Some(board) => Some(Reading::Drafted(board, layout)),
-        None => None,
+// Whether a line has an empty field that is not in front of all lines: columns have none.
+fn has_empty_fields(piece: &Piece) -> bool {
+    let lead = least_lead(piece);
+    for line in piece.lines.as_slice() {
+        if line.kind == LineKind::Cards && line.gaps > lead {
+            return true;
+        }
     }
+    false
+}
+
+// How many places without a card all lines of cards begin with, as bullets.
+fn least_lead(piece: &Piece) -> usize {
+    let mut least = usize::MAX;
+    for line in piece.lines.as_slice() {
+        if line.kind == LineKind::Cards {
+            least = least.min(line.lead);
+        }
+    }
+    least
+}
+
+// How many tabs all lines of cards begin with.
+fn least_tabs(piece: &Piece) -> usize {
+    let mut least = usize::MAX;
+    for line in piece.lines.as_slice() {
+        if line.kind == LineKind::Cards {
+            least = least.min(line.tabs);
+        }
+    }
+    least
+}
+
+// The board of the piece in this layout, if it is one.
+fn board_in<R: Rule>(piece: &Piece, layout: Layout) -> Option<Board<R>> {
+    if piece.bad_height.is_some() {
+        return None;
+    }
+    let cells = cells_of::<R>(piece)?;
+    let columns = columns_of(piece, layout)?;
+    let heights = heights_of(piece)?;
+    board_of::<R>(heights, cells, columns)
 }
 
 // The board that has these parts, if its cells are the game's and each card is there once.
@@ -287,8 +280,8 @@ fn are_free(cells: &[Option<Card>]) -> bool
     true
 }
 
-fn heights_of(block: &Block) -> Option<[Height; 4]> {
-    let [clubs, diamonds, hearts, spades] = block.heights;
+fn heights_of(piece: &Piece) -> Option<[Height; 4]> {
+    let [clubs, diamonds, hearts, spades] = piece.heights;
     Some([
         Height::new(clubs)?,
         Height::new(diamonds)?,
@@ -297,25 +290,52 @@ fn heights_of(block: &Block) -> Option<[Height; 4]> {
     ])
 }
 
-fn columns_of(block: &Block, layout: Layout) -> Option<[ArrayVec<Card, 52>; 8]> {
-    let grid = match layout {
-        Layout::Drawing => Some(Grid { base: 0, unit: 4 }),
-        Layout::Rows => grid_of(block),
-        _ => None,
-    };
-    if layout == Layout::Rows && grid.is_none() && !are_even(block) {
-        return None;
-    }
-    let blanks = blanks_in(block);
-    let mut columns = no_cards();
-    let mut row: usize = 0;
-    for line in block.lines.as_slice() {
-        if line.kind == LineKind::Cards {
-            if line.others > 0 {
+// The cells of the piece, by their number in the line. Of two tabs after the name there is an empty
+// cell between.
+fn cells_of<R: Rule>(piece: &Piece) -> Option<[Option<Card>; 8]> {
+    let mut cells = [None; 8];
+    for line in piece.lines.as_slice() {
+        if line.kind == LineKind::Cells {
+            let placed = piece.placed(*line);
+            let first = line.tabs.saturating_sub(1);
+            let places = placed.len().saturating_add(first);
+            let narrow = line.lead.saturating_mul(2).saturating_add(1);
+            let is_wide = line.indent > narrow || line.most_run > 1;
+            if line.others > 0 || places > R::CELLS {
                 return None;
             }
-            let placed = block.placed(*line);
-            put_row(placed, layout, grid, row, &mut columns)?;
+            if is_wide && places < R::CELLS && line.bits != 0 && line.tabs == 0 {
+                return None;
+            }
+            for (place, cell) in placed.iter().enumerate() {
+                cells[place.saturating_add(first) % 8] = cell.card;
+            }
+        }
+    }
+    Some(cells)
+}
+
+fn columns_of(piece: &Piece, layout: Layout) -> Option<[ArrayVec<Card, 52>; 8]> {
+    let grid = if layout == Layout::Rows {
+        grid_of(piece)
+    } else {
+        None
+    };
+    if layout == Layout::Rows && !(has_columns(piece, grid) && have_equal_bars(piece)) {
+        return None;
+    }
+    let blanks = blanks_in(piece);
+    let tabs = least_tabs(piece);
+    let mut columns = no_cards();
+    let mut row: usize = 0;
+    for line in piece.lines.as_slice() {
+        if line.kind == LineKind::Cards {
+            if !has_label_of(*line, row) || line.others > 0 {
+                return None;
+            }
+            let placed = piece.placed(*line);
+            let first = line.tabs.saturating_sub(tabs);
+            put_line(placed, layout, grid, row, first, &mut columns)?;
             let is_more = layout != Layout::Rows || placed.iter().any(|one| one.card.is_some());
             row = row.saturating_add(usize::from(is_more));
         } else if line.kind == LineKind::Blank && row > 0 && layout == Layout::Columns {
@@ -325,11 +345,20 @@ fn columns_of(block: &Block, layout: Layout) -> Option<[ArrayVec<Card, 52>; 8]> 
     Some(columns)
 }
 
+// Whether the label of the line, if it has one, is the number of this column, counted from 0.
+fn has_label_of(line: PieceLine, column: usize) -> bool {
+    match line.label {
+        LabelKind::Bare => true,
+        LabelKind::Column(number) => usize::from(number) == column.saturating_add(1),
+        _ => false,
+    }
+}
+
 // How many columns a blank line between columns stands for: one, if a board has room for all.
-fn blanks_in(block: &Block) -> usize {
+fn blanks_in(piece: &Piece) -> usize {
     let mut rows: usize = 0;
     let mut blanks: usize = 0;
-    for line in block.lines.as_slice() {
+    for line in piece.lines.as_slice() {
         match line.kind {
             LineKind::Cards => rows = rows.saturating_add(1),
             LineKind::Blank if rows > 0 => blanks = blanks.saturating_add(1),
@@ -339,37 +368,31 @@ fn blanks_in(block: &Block) -> usize {
     usize::from(rows.saturating_add(blanks) <= 8)
 }
 
-// Puts the cards of a line on their columns.
-fn put_row(
+// Puts the cards of a line on their columns; a row begins with the column of this number.
+fn put_line(
     line: &[Placed],
     layout: Layout,
     grid: Option<Grid>,
     row: usize,
+    first_column: usize,
     columns: &mut [ArrayVec<Card, 52>; 8],
 ) -> Option<()> {
     let first = match line.first() {
         Some(placed) => placed.group,
         None => 0,
     };
-    let mut before = Before {
-        group: first,
-        place: 0,
-    };
     for (place, placed) in line.iter().enumerate() {
-        before = before.pass(*placed);
         let Some(card) = placed.card else {
             continue;
         };
         let index = match layout {
             Layout::Columns => row,
-            Layout::Rows | Layout::Drawing => column_in(grid, *placed, place),
+            Layout::Rows => column_in(grid, *placed, place.saturating_add(first_column)),
             Layout::ColumnsInLine => usize::from(placed.group.saturating_sub(first)),
-            Layout::RowsInLine => before.place.saturating_sub(1),
             Layout::Deal => place % 8,
         };
         let column = columns.get_mut(index)?;
-        let is_row = matches!(layout, Layout::Rows | Layout::Drawing);
-        if is_row && column.len() != row || column.is_full() {
+        if layout == Layout::Rows && column.len() != row || column.is_full() {
             return None;
         }
         let _ = column.try_push(card);
@@ -377,24 +400,18 @@ fn put_row(
     Some(())
 }
 
-/// The group of the word before, and how many words of its group there were.
+/// Where rows have their columns: each `unit` bytes from `base` on.
 #[derive(Clone, Copy)]
-struct Before {
-    group: u16,
-    place: usize,
+struct Grid {
+    base: u16,
+    unit: u16,
 }
 
-impl Before {
-    fn pass(self, placed: Placed) -> Before {
-        let place = if placed.group == self.group {
-            self.place.saturating_add(1)
-        } else {
-            1
-        };
-        Before {
-            group: placed.group,
-            place,
-        }
+impl Grid {
+    fn has(self, placed: Placed) -> bool {
+        let beyond = placed.at.saturating_sub(self.base) % self.unit.max(1);
+        let is_near = beyond == 1 || beyond.saturating_add(1) == self.unit;
+        beyond == 0 || self.unit > 3 && is_near
     }
 }
 
@@ -402,38 +419,31 @@ impl Before {
 fn column_in(grid: Option<Grid>, placed: Placed, place: usize) -> usize {
     match grid {
         Some(Grid { base, unit }) => {
-            usize::from(placed.at.saturating_sub(base).saturating_add(1) / unit.max(1))
+            let beyond = placed.at.saturating_sub(base).saturating_add(1);
+            usize::from(beyond / unit.max(1))
         }
         None => place,
     }
 }
 
-// Where the rows have their columns, if all their cards are at such places.
-fn grid_of(block: &Block) -> Option<Grid> {
-    let grid = grid_by_first_row(block)?;
-    if fits_rows(block, grid) {
-        Some(grid)
-    } else {
-        None
-    }
-}
-
-// The grid that begins with the first card of any row, and is as wide as the first row is close;
-// none where a row has a mark for a gap.
-fn grid_by_first_row(block: &Block) -> Option<Grid> {
+// Where the rows have their columns, if all their cards are at such places: from the first card of
+// any row on, as wide as the first row is close. There is none where a row marks a gap or has tabs.
+fn grid_of(piece: &Piece) -> Option<Grid> {
     let mut base = u16::MAX;
-    for line in block.lines.as_slice() {
+    for line in piece.lines.as_slice() {
         if line.kind == LineKind::Cards {
-            if let ([first, ..], 0) = (block.placed(*line), line.gaps) {
-                base = base.min(first.at);
-            } else {
-                return None;
+            match (piece.placed(*line), line.gaps, line.marks) {
+                ([first, ..], 0, 0) if line.tabs == 0 && line.least_run > 0 => {
+                    base = base.min(first.at);
+                }
+                _ => return None,
             }
         }
     }
-    let unit = least_step(block.placed(first_row(block)));
-    if unit >= 2 {
-        Some(Grid { base, unit })
+    let unit = least_step(piece.placed(first_row(piece)));
+    let grid = Grid { base, unit };
+    if unit >= 2 && has_all(grid, piece) {
+        Some(grid)
     } else {
         None
     }
@@ -452,10 +462,10 @@ fn least_step(row: &[Placed]) -> u16 {
     least
 }
 
-fn fits_rows(block: &Block, grid: Grid) -> bool {
-    for line in block.lines.as_slice() {
+fn has_all(grid: Grid, piece: &Piece) -> bool {
+    for line in piece.lines.as_slice() {
         if line.kind == LineKind::Cards {
-            for placed in block.placed(*line) {
+            for placed in piece.placed(*line) {
                 if !grid.has(*placed) {
                     return false;
                 }
@@ -465,93 +475,96 @@ fn fits_rows(block: &Block, grid: Grid) -> bool {
     true
 }
 
-// Whether all rows but the last have as many words as the first: without a grid, others could leave
-// out any column.
-fn are_even(block: &Block) -> bool {
-    let most = first_row(block).cards;
-    let mut is_short = false;
-    for line in block.lines.as_slice() {
-        if line.kind == LineKind::Cards {
-            if is_short || line.cards > most {
-                return false;
-            }
-            is_short = line.cards < most;
+// Whether it is known in which columns the cards of rows are: marks part them, or their places tell;
+// or the rows are even, and full but for the last row of a deal.
+fn has_columns(piece: &Piece, grid: Option<Grid>) -> bool {
+    if is_parted(piece) || grid.is_some() && has_gaps(piece) {
+        return true;
+    }
+    let is_counted = grid.is_some() || is_regular(piece);
+    is_counted && are_even(piece) && (are_full(piece) || is_deal(piece))
+}
+
+// Whether marks part the cards of each line.
+fn is_parted(piece: &Piece) -> bool {
+    for line in piece.lines.as_slice() {
+        if line.kind == LineKind::Cards && !line.is_parted {
+            return false;
         }
     }
     true
 }
 
-impl Grid {
-    fn has(self, placed: Placed) -> bool {
-        let beyond = placed.at.saturating_sub(self.base) % self.unit.max(1);
-        beyond == 0 || self.unit > 3 && (beyond == 1 || beyond.saturating_add(1) == self.unit)
-    }
-}
-
-// Whether the board has the cells of the block.
-fn has_cells_of<R: Rule>(block: &Block, board: &Board<R>) -> bool {
-    match cells_of::<R>(block) {
-        Some(cells) => cells.get(..R::CELLS) == Some(board.cells()),
-        None => false,
-    }
-}
-
-// The cells of the block: by their number in the line, or by their width where no gap is marked.
-fn cells_of<R: Rule>(block: &Block) -> Option<[Option<Card>; 8]> {
-    let mut cells = [None; 8];
-    for line in block.lines.as_slice() {
-        if matches!(line.kind, LineKind::Cells | LineKind::Front) {
-            if line.others > 0 {
-                return None;
-            }
-            let placed = block.placed(*line);
-            let unit = if block.is_drawing {
-                4
-            } else {
-                width_of(placed)
-            };
-            let first = if block.is_drawing && line.kind == LineKind::Cells {
-                4
-            } else {
-                0
-            };
-            for (place, cell) in placed.iter().enumerate() {
-                let by_width = usize::from(cell.at) / unit.max(1);
-                let index = if unit == 0 {
-                    place
-                } else {
-                    by_width.saturating_add(first)
-                };
-                if index >= R::CELLS {
-                    return None;
-                }
-                cells[index % 8] = cell.card;
-            }
+// Whether a bar begins each line, or none.
+fn have_equal_bars(piece: &Piece) -> bool {
+    let has_bar = first_row(piece).has_bar;
+    for line in piece.lines.as_slice() {
+        if line.kind == LineKind::Cards && line.has_bar != has_bar {
+            return false;
         }
     }
-    Some(cells)
+    true
 }
 
-// How wide each cell is, if all are so wide: four characters, or three; else 0.
-fn width_of(cells: &[Placed]) -> usize {
-    let first = match cells.first() {
-        Some(first) => first.at % 4,
-        None => 0,
-    };
-    let mut four = true;
-    let mut three = true;
-    for cell in cells {
-        if cell.card.is_none() {
-            return 0;
+// Whether all rows have as many places as the first.
+fn are_full(piece: &Piece) -> bool {
+    let most = places_of(first_row(piece));
+    for line in piece.lines.as_slice() {
+        if line.kind == LineKind::Cards && places_of(*line) != most {
+            return false;
         }
-        four = four && (cell.at % 4).abs_diff(first) <= 1;
-        three = three && cell.at % 3 == 1;
     }
-    if four && (first >= 2 || !three) {
-        4
-    } else if three {
-        3
-    } else {
-        0
+    true
+}
+
+// Whether the piece has 52 cards in rows of eight, and none in cells or home.
+fn is_deal(piece: &Piece) -> bool {
+    let mut cards: usize = 0;
+    for line in piece.lines.as_slice() {
+        let places = places_of(*line);
+        match line.kind {
+            LineKind::Cards => cards = cards.saturating_add(places),
+            LineKind::Cells if line.bits != 0 => return false,
+            _ => {}
+        }
     }
+    places_of(first_row(piece)) == 8 && cards == 52
+}
+
+// Whether all rows but the last have as many places as the first: without a grid, others could
+// leave out any column.
+fn are_even(piece: &Piece) -> bool {
+    let most = places_of(first_row(piece));
+    let mut is_short = false;
+    for line in piece.lines.as_slice() {
+        if line.kind == LineKind::Cards {
+            let places = places_of(*line);
+            if is_short || places > most {
+                return false;
+            }
+            is_short = places < most;
+        }
+    }
+    true
+}
+
+fn places_of(line: PieceLine) -> usize {
+    line.end.saturating_sub(line.first)
+}
+
+// Whether marks part the words of each line, or the lines begin at one place and have as many blanks
+// between any two words: but for one, since a ten may be longer. Else a column could be left out.
+fn is_regular(piece: &Piece) -> bool {
+    if is_parted(piece) {
+        return true;
+    }
+    let mut indents = (usize::MAX, 0);
+    let mut runs = (usize::MAX, 0);
+    for line in piece.lines.as_slice() {
+        if line.kind == LineKind::Cards {
+            indents = (indents.0.min(line.indent), indents.1.max(line.indent));
+            runs = (runs.0.min(line.least_run), runs.1.max(line.most_run));
+        }
+    }
+    indents.1 <= indents.0.saturating_add(1) && runs.1 <= runs.0.saturating_add(1)
 }

@@ -1,24 +1,27 @@
 //! Boards and lists of moves as people and other programs write them, made a collection.
 #![tactic(auto)]
 
-mod block;
 mod cards;
 mod changes;
 mod decoding;
 mod import;
+mod labels;
 pub mod laws;
 mod layout;
 mod line;
 mod lists;
 mod made;
-mod plain;
+mod marks;
+mod moves;
+mod piece;
 mod playable;
 mod printed;
 mod quiet;
 mod reasons;
 mod run;
+mod scan;
 mod signs;
-mod states;
+mod solver;
 mod tally;
 mod titles;
 mod walk;

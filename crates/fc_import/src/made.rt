@@ -1,28 +1,36 @@
 //! What is made of a text, piece by piece. Each method that takes a piece tests that the piece is
 //! what it is taken for.
-ghost use Rattle.std.specs.Prelude.{◌++◌, ◌↔◌, ◌≡◌, ◌≢◌, ◌≤◌, ◌⊎◌, [], All, false, IfErr, IfOk};
-ghost use Rattle.std.specs.Prelude.{IfSome, IsTrue, List, None, OnOk, Some, true, ℕ};
-ghost use Rattle.fc_board.specs.{Boards.{Board as Layout, IsWellFormed}, Games.{eight_off}};
+ghost use Rattle.std.specs.{List.{before_first, prefix_len}, Prelude.{◌&&◌, ◌++◌, ◌<◌, ◌==◌, ◌||◌}};
+ghost use Rattle.std.specs.Prelude.{◌↔◌, ◌≡◌, ◌≢◌, ◌≤◌, ◌⊎◌, [], All, codes, drop, false, IfErr};
+ghost use Rattle.std.specs.Prelude.{IfOk, IfSome, IsTrue, length, List, None, not, OnOk, Some};
+ghost use Rattle.std.specs.{Prelude.{take, true, ℕ}, Str.{bytes_eq, str_eq_ignore_ascii_case}};
+ghost use Rattle.fc_board.specs.Boards.{Board as Layout, IsWellFormed};
+ghost use Rattle.fc_board.specs.Games.{eight_off, variant_word};
 ghost use Rattle.fc_board.specs.{Moves.{ListFits, move_count, MoveList as SaidList}, Play.{Legal}};
-ghost use Rattle.fc_text.specs.{Notation.{most_moves}, Printed.{text_of}, Spelling.{Spells}};
+ghost use Rattle.fc_text.specs.{Lines.{words}, Notation.{most_moves, separates_tokens}};
+ghost use Rattle.fc_text.specs.{Printed.{text_of}, Spelling.{Spells}};
 ghost use Rattle.fc_text.specs.declared.fault.MovesFault.TheVariants.{Memory};
-ghost use Rattle.fc_record.specs.{Grammar.{heading_of, is_name}, Printing.{header_text, list_line}};
-ghost use Rattle.fc_import.specs.Import.{BoardNeedsNoNote, by_columns, HasCards, IsNamed, IsPacked};
-ghost use Rattle.fc_import.specs.{Import.{ListNeedsNoNote, numbered, SpellsOut}, inside.{form_of}};
-ghost use Rattle.fc_import.specs.inside.{IsMade, Names, place_of, Says, state_of, Takes, TakesName};
-ghost use Rattle.fc_import.specs.Notes.{after, name_by, SaysUnless};
-ghost use Rattle.fc_import.specs.Words.{named_lines, named_moves};
+ghost use Rattle.fc_record.specs.Grammar.{begins_with, heading_of, is_line_feed, is_name};
+ghost use Rattle.fc_record.specs.{Grammar.{list_mark}, Printing.{header_text, list_line}};
+ghost use Rattle.fc_import.specs.Import.{agree, BoardNeedsNoNote, by_columns, HasCards, IsApart};
+ghost use Rattle.fc_import.specs.Import.{IsNamed, IsPacked, ListNeedsNoNote, moves_of, Names};
+ghost use Rattle.fc_import.specs.Import.{NamesList, numbered, refusals, SpellsOut};
+ghost use Rattle.fc_import.specs.inside.{form_of, IsMade, place_of, Says, state_of, Takes};
+ghost use Rattle.fc_import.specs.{inside.{TakesName}, Notes.{after, begun_after, first_word}};
+ghost use Rattle.fc_import.specs.Notes.{goes_on_after, is_unmarked, name_by, names_game};
+ghost use Rattle.fc_import.specs.{Notes.{SaysUnless}, Scan.{words_of}, Words.{named_lines}};
 ghost use Rattle.fc_import.specs.declared.tally.Fate.TheVariants.{ABoard};
 
-use crate::cards::{Named, by_columns, has_cards, is_packed, named_moves};
-use crate::changes::{Change, Noted, change_of};
+use crate::cards::{Named, by_columns, has_cards, is_packed};
+use crate::changes::{Noted, RESPELLED};
 use crate::playable::can_be;
-use crate::quiet::{are_no_board, are_prose, are_quiet};
+use crate::quiet::{are_lists, are_no_board, are_prose, are_quiet, push_moves};
 use crate::tally::{Fate, Tally, counted};
 use crate::walk::{Walk, line_after};
+use crate::words::{Words, before_mark, uncommented};
 use fc_board::{Board, Rule, Variant};
 use fc_record::{MoveList, is_name, push_header, push_list, push_number, read_heading};
-use fc_text::{BoardView, MovesFault, read_board, read_moves, read_runs, write_board};
+use fc_text::{BoardView, MovesFault, Tokens, read_board, read_moves, read_runs, write_board};
 use std::alloc::{AllocError, Global};
 
 /// What was written and said so far, and the state that this left.
@@ -33,6 +41,11 @@ pub(crate) struct Made<R: Rule> {
     pub(crate) notes: Vec<u8>,
     /// The last board, if a list of moves may follow it.
     pub(crate) last: Option<Board<R>>,
+    /// Whether the rule of a solution came after it, whether the last lines are of a solution that
+    /// may go on, and whether the last header names another game.
+    pub(crate) begun: bool,
+    pub(crate) goes_on: bool,
+    pub(crate) other_game: bool,
     pub(crate) walk: Walk,
     /// How many boards the last header names.
     pub(crate) named: usize,
@@ -60,6 +73,9 @@ impl<R: Rule> Made<R> {
             written: Vec::new(alloc),
             notes: Vec::new(alloc),
             last: None,
+            begun: false,
+            goes_on: false,
+            other_game: false,
             walk: Walk {
                 name: Vec::new(alloc),
                 header: 0,
@@ -70,11 +86,17 @@ impl<R: Rule> Made<R> {
         }
     }
 
-    /// Whether nothing was written.
-    pub(crate) fn is_unwritten(&self) -> bool
-        ensures { IsTrue result → self.now.written.items ≡ [] }
+    /// Whether nothing was written, and nothing refused.
+    pub(crate) fn is_nothing(&self) -> bool
+        ensures nothing { IsTrue result
+            → (self.now.written.items ≡ []) × (refusals self.now.tally ≡ 0) }
+        ensures some { result ≡ false
+            → (self.now.written.items ≢ []) ⊎ (0 < refusals self.now.tally) }
     {
-        matches!(self.written.as_slice(), [])
+        match self.written.as_slice() {
+            [] => self.tally.refusals() == 0,
+            _ => false,
+        }
     }
 
     /// Whether the boards have their names from a header.
@@ -88,6 +110,9 @@ impl<R: Rule> Made<R> {
             → Takes R.VARIANT R.game piece.now self.old self.new) }
         ensures kept { IfOk result (λ taken. taken ≡ false → self.new ≡ self.old) }
     {
+        if !self.is_apart(piece) {
+            return Ok(false);
+        }
         if !are_quiet::<R>(alloc, piece)? {
             return Ok(false);
         }
@@ -108,6 +133,9 @@ impl<R: Rule> Made<R> {
         ensures kept { IfOk result (λ taken. taken ≡ false → self.new ≡ self.old) }
     {
         if Named::by(alloc, piece)?.cards.is_empty() {
+            return Ok(false);
+        }
+        if !self.is_apart(piece) {
             return Ok(false);
         }
         if !are_prose::<R>(alloc, piece)? {
@@ -133,17 +161,21 @@ impl<R: Rule> Made<R> {
         Ok(())
     }
 
-    /// Refuses a list, with a note. Another list may follow the last board unless a line of the
-    /// piece may be another board's.
+    /// Refuses a list, with a note on this byte of its lines. Another list may follow the last board
+    /// unless a line of the piece may be another board's.
     pub(crate) fn refuse_list(
         &mut self,
         alloc: Global,
         piece: &[u8],
+        at: usize,
         words: &[u8],
     ) -> Result<(), AllocError>
         ensures { OnOk result (Takes R.VARIANT R.game piece.now self.old self.new) }
     {
-        self.walk.push_note(piece, 0, words, &mut self.notes)?;
+        if !self.is_apart(piece) {
+            return self.refuse_board(piece, at, words);
+        }
+        self.walk.push_note(piece, at, words, &mut self.notes)?;
         if are_no_board::<R>(alloc, piece)? {
             self.go_on(piece, Fate::RefusedList);
             return Ok(());
@@ -162,12 +194,23 @@ impl<R: Rule> Made<R> {
         Ok(())
     }
 
+    // Whether the piece may be read after what came before it: no solution goes on there, or its
+    // first line ends one.
+    fn is_apart(&self, piece: &[u8]) -> bool
+        ensures { IsTrue result ↔ IsApart (state_of self.now) piece.now }
+    {
+        !self.goes_on || begins_apart(piece)
+    }
+
     /// Goes on after the line of a header, which gives this name.
     pub(crate) fn put_name(&mut self, name: Vec<u8>, line: &[u8])
         requires { name.items ≡ name_by (heading_of R.VARIANT line.now) }
         ensures { TakesName R.VARIANT line.now self.old self.new }
     {
         self.last = None;
+        self.begun = false;
+        self.goes_on = false;
+        self.other_game = !names_game(R::VARIANT, line);
         self.named = 0;
         self.walk = Walk {
             name,
@@ -190,10 +233,13 @@ impl<R: Rule> Made<R> {
             → Takes R.VARIANT R.game piece.now self.old self.new) }
         ensures kept { IfOk result (λ taken. taken ≡ false → self.new ≡ self.old) }
     {
+        if self.other_game {
+            return Ok(false);
+        }
         if !can_be(piece, &board) {
             return Ok(false);
         }
-        self.say_change(alloc, piece, &board)?;
+        self.say_change(piece, &board)?;
         self.put_board(alloc, piece, title, board)?;
         Ok(true)
     }
@@ -213,6 +259,9 @@ impl<R: Rule> Made<R> {
             → Takes R.VARIANT R.game piece.now self.old self.new) }
         ensures kept { IfOk result (λ taken. taken ≡ false → self.new ≡ self.old) }
     {
+        if self.other_game {
+            return Ok(false);
+        }
         if !can_be(piece, &board) {
             return Ok(false);
         }
@@ -235,16 +284,19 @@ impl<R: Rule> Made<R> {
             → Takes R.VARIANT R.game piece.now self.old self.new) }
         ensures kept { IfOk result (λ taken. taken ≡ false → self.new ≡ self.old) }
     {
+        if !self.begun {
+            return Ok(false);
+        }
         if !self.is_last(alloc, piece)? {
             return Ok(false);
         }
         self.say_again(alloc, piece, words)?;
-        self.go_on(piece, Fate::Passed);
+        self.go_on(piece, Fate::Again);
         Ok(true)
     }
 
-    /// Writes the list of these moves: with this note, unless none is needed. Returns whether it is
-    /// legal on the last board.
+    /// Writes the list of these moves: with this note, unless none is needed. Returns whether the
+    /// lines name it, and it is legal on the last board.
     pub(crate) fn put_list(
         &mut self,
         alloc: Global,
@@ -257,6 +309,12 @@ impl<R: Rule> Made<R> {
             → Takes R.VARIANT R.game piece.now self.old self.new) }
         ensures kept { IfOk result (λ taken. taken ≡ false → self.new ≡ self.old) }
     {
+        if !self.is_apart(piece) {
+            return Ok(false);
+        }
+        if !is_named::<R>(alloc, piece, moves)? {
+            return Ok(false);
+        }
         let Some(list) = self.legal_list(alloc, form, moves)? else {
             return Ok(false);
         };
@@ -273,6 +331,8 @@ impl<R: Rule> Made<R> {
         ensures notes { self.new.notes.items ≡ self.old.notes.items }
     {
         let more = Tally::of(fate);
+        self.begun = begun_after(fate, self.begun, piece);
+        self.goes_on = goes_on_after(fate, piece);
         self.walk.line = line_after(self.walk.line, piece);
         self.named = counted(self.named, more.boards);
         self.tally = self.tally.plus(more);
@@ -354,6 +414,7 @@ impl<R: Rule> Made<R> {
         ensures legal { IfOk result (λ list. IfSome list (λ list. (board : Layout)
             × (self.now.last ≡ Some board) × Legal R.game board list)) }
         ensures fits { IfOk result (λ list. IfSome list (ListFits eight_off)) }
+        ensures names { IfOk result (λ list. IfSome list (Names R.game moves.now)) }
         ensures few { IfOk result (λ list. IfSome list (λ list. move_count list ≤ most_moves)) }
         ensures found { (board : Layout) (list : SaidList) → self.now.last ≡ Some board
             → Legal R.game board list → form ≡ form_of list → Names R.game moves.now list
@@ -399,7 +460,7 @@ impl<R: Rule> Made<R> {
     {
         let named = Named::by(alloc, piece)?;
         if spells_out(alloc, piece, &named, board)? {
-            self.say_change(alloc, piece, board)?;
+            self.say_change(piece, board)?;
             return Ok(true);
         }
         if !has_cards(alloc, &named, board)? {
@@ -410,21 +471,14 @@ impl<R: Rule> Made<R> {
     }
 
     // Says of a board that the lines spell out how its spelling is changed, if that is to be noted.
-    fn say_change(
-        &mut self,
-        alloc: Global,
-        piece: &[u8],
-        board: &Board<R>,
-    ) -> Result<(), AllocError>
+    fn say_change(&mut self, piece: &[u8], board: &Board<R>) -> Result<(), AllocError>
         requires { SpellsOut R.game piece.now board.now }
         ensures { OnOk result (Says R.game piece.now board.now self.old self.new) }
     {
         if spelled_needs_no_note(self.noted, piece, board) {
             return Ok(());
         }
-        let Change { at, words } = change_of(alloc, piece, write_board(board).as_slice())?;
-        self.walk
-            .push_note(piece, at, words.as_slice(), &mut self.notes)
+        self.walk.push_note(piece, 0, RESPELLED, &mut self.notes)
     }
 
     // Puts a note with these words, unless the lines need none of the list.
@@ -446,7 +500,8 @@ impl<R: Rule> Made<R> {
         if list_needs_no_note::<R>(alloc, self.noted, piece, list)? {
             return Ok(());
         }
-        self.walk.push_note(piece, 0, words, &mut self.notes)
+        self.walk.push_note(piece, 0, words, &mut self.notes)?;
+        Ok(())
     }
 }
 
@@ -603,6 +658,7 @@ fn read_list<R: Rule>(alloc: Global, form: Form, words: &[u8]) -> Result<MoveLis
     ensures few { IfOk result (λ list. move_count list ≤ most_moves) }
     ensures found { (list : SaidList) → form ≡ form_of list → Names R.game words.now list
         → IfOk result (λ read. read ≡ list) }
+    ensures names { IfOk result (Names R.game words.now) }
     ensures memory { (list : SaidList) → form ≡ form_of list → Names R.game words.now list
         → IfErr result (λ fault. fault ≡ Memory) }
 {
@@ -637,9 +693,15 @@ fn list_needs_no_note<R: Rule>(
         ↔ ListNeedsNoNote noted R.game lines.now list.now) }
 {
     let printed = line_of(alloc, list)?;
+    if is_equal(lines, printed.as_slice()) {
+        return Ok(true);
+    }
     match noted {
-        Noted::Doubts => names_moves::<R>(alloc, lines, printed.as_slice()),
-        Noted::Changes | Noted::Strict => Ok(is_equal(lines, printed.as_slice())),
+        Noted::Doubts => {
+            let silent = are_lists::<R>(alloc, lines)?;
+            Ok(silent)
+        }
+        Noted::Changes | Noted::Strict => Ok(false),
     }
 }
 
@@ -653,12 +715,122 @@ pub(crate) fn line_of(alloc: Global, list: &MoveList) -> Result<Vec<u8>, AllocEr
     Ok(line)
 }
 
-// Whether the lines name the same moves as the printed list.
-fn names_moves<R: Rule>(alloc: Global, lines: &[u8], printed: &[u8]) -> Result<bool, AllocError>
-    ensures { IfOk result (λ names. IsTrue names
-        ↔ (named_moves R.game lines.now ≡ named_moves R.game printed.now)) }
+// Whether the moves are those that the lines name.
+fn is_named<R: Rule>(alloc: Global, lines: &[u8], moves: &[u8]) -> Result<bool, AllocError>
+    ensures { IfOk result (λ is. IsTrue is → agree (words separates_tokens
+        (moves_of R.game lines.now)) (words separates_tokens moves.now) ≡ true) }
 {
-    let moves = named_moves::<R>(alloc, printed)?;
-    let named = named_moves::<R>(alloc, lines)?;
-    Ok(is_equal(named.as_slice(), moves.as_slice()))
+    let mut named = Vec::new(alloc);
+    push_moves::<R>(alloc, lines, &mut named)?;
+    Ok(agree(named.as_slice(), moves))
+}
+
+// Whether the words are one by one these tokens, but that a move of two letters may say that it is
+// of one card.
+fn agree(named: &[u8], tokens: &[u8]) -> bool
+    ensures { result ≡ agree (words separates_tokens named.now)
+        (words separates_tokens tokens.now) }
+{
+    let mut left = Tokens::new(named);
+    for token in Tokens::new(tokens) {
+        let Some(word) = left.next() else {
+            return false;
+        };
+        if !agrees(word.text, token.text) {
+            return false;
+        }
+    }
+    left.next().is_none()
+}
+
+fn agrees(word: &[u8], token: &[u8]) -> bool
+    ensures { result ≡ (bytes_eq token.now word.now || (length word.now == 2
+        && bytes_eq token.now (word.now ++ codes "v1"))) }
+{
+    token == word
+        || matches!((word, token), ([from, to], [f, t, b'v', b'1']) if f == from && t == to)
+}
+
+// Whether a solution has begun after a piece of this fate.
+fn begun_after(fate: Fate, begun: bool, piece: &[u8]) -> bool
+    ensures { result ≡ begun_after fate begun piece.now }
+{
+    match fate {
+        Fate::Passed => begun || piece.starts_with(b"-=-=-=-=-="),
+        Fate::LeftOut => begun,
+        _ => false,
+    }
+}
+
+// Whether a solution may go on after a piece of this fate.
+fn goes_on_after(fate: Fate, piece: &[u8]) -> bool
+    ensures { result ≡ goes_on_after fate piece.now }
+{
+    match fate {
+        Fate::AList | Fate::RefusedList => is_unmarked(piece),
+        _ => false,
+    }
+}
+
+// Whether the lines begin with no mark of a list, no move in words, and no sentence of a solver.
+fn is_unmarked(piece: &[u8]) -> bool
+    ensures { result ≡ is_unmarked piece.now }
+{
+    !(piece.first() == Some(&b'>')
+        || piece.starts_with(b"Move ")
+        || piece.starts_with(b"Move:")
+        || piece.starts_with(b"This "))
+}
+
+// Whether the first line begins as fcanon's lists do, or has no words.
+fn begins_apart(piece: &[u8]) -> bool
+    ensures { IsTrue result ↔ ((begins_with list_mark piece.now ≡ true)
+        ⊎ (length (words_of (before_first is_line_feed piece.now)) ≡ 0)) }
+{
+    if piece.first() == Some(&b'>') {
+        return true;
+    }
+    Words::new(uncommented(before_mark(b'\n', piece)))
+        .next()
+        .is_none()
+}
+
+// Whether the first word after the mark of a header names this game.
+fn names_game(variant: Variant, line: &[u8]) -> bool
+    ensures { result ≡ names_game variant line.now }
+{
+    first_word(after_mark(line)).eq_ignore_ascii_case(variant.word().as_bytes())
+}
+
+fn after_mark(line: &[u8]) -> &[u8]
+    ensures { result.now ≡ drop 1 line.now }
+{
+    &line[line.len().min(1)..]
+}
+
+fn first_word(text: &[u8]) -> &[u8]
+    ensures { result.now ≡ first_word text.now }
+{
+    let rest = &text[gap_len(text)..];
+    &rest[..word_len(rest)]
+}
+
+fn gap_len(bytes: &[u8]) -> usize
+    ensures value { result ≡ prefix_len separates_tokens bytes.now }
+    ensures within { result ≤ length bytes.now }
+{
+    bytes.iter().take_while(|byte| separates(**byte)).count()
+}
+
+fn word_len(bytes: &[u8]) -> usize
+    ensures value { result ≡ prefix_len (λ byte. not (separates_tokens byte)) bytes.now }
+    ensures within { result ≤ length bytes.now }
+{
+    bytes.iter().take_while(|byte| !separates(**byte)).count()
+}
+
+fn separates(byte: u8) -> bool
+    ensures { result ≡ separates_tokens byte }
+{
+    byte == b' ' || byte == b'\t' || byte == b'\n' || byte == b'\r'
 }

@@ -1,18 +1,47 @@
-//! Which lines pass in silence, and which are left out with a note.
-ghost use Rattle.std.specs.{Char.{is_ascii_digit}, List.{list_all}, Option.{is_some}};
-ghost use Rattle.std.specs.Prelude.{◌≡◌, ◌≤◌, All, IfOk, IsTrue, length, map};
-ghost use Rattle.fc_text.specs.{Left.{tokens_left}, Lines.{lines_from, words}};
-ghost use Rattle.fc_text.specs.{Notation.{separates_tokens}, reader.{run_named}};
-ghost use Rattle.fc_import.specs.Import.{HasFewCards, IsNoBoard, IsProse, IsQuiet};
-ghost use Rattle.fc_import.specs.Words.{are_moves, is_list};
+//! Which lines pass in silence, which are left out with a note, and which are lists.
+ghost use Rattle.std.specs.Prelude.{◌++◌, ◌↔◌, ◌≡◌, ◌⊎◌, All, IfOk, IsTrue, length, OnOk, true};
+ghost use Rattle.fc_text.specs.Lines.{lines_from};
+ghost use Rattle.fc_import.specs.Import.{AreLists, IsNoBoard, moves_of, moves_of_line};
+ghost use Rattle.fc_import.specs.Scan.{cards_in, is_list, IsProse, IsQuiet, words_of};
+ghost use Rattle.fc_import.specs.Seen.{cards_of, IsSeen};
 
-use crate::cards::{before_comment, named_cards};
-use crate::plain::plain;
+use crate::scan::{LineSeen, Placed};
 use fc_board::Rule;
-use fc_text::{Lines, Tokens, run_named};
+use fc_text::Lines;
 use std::alloc::{AllocError, Global};
 
-/// Whether each line names no card, and is no list.
+/// A line that was scanned, with its cards and moves.
+#[derive(Drop)]
+struct Scanned {
+    seen: LineSeen,
+    cards: usize,
+    moves: Vec<u8>,
+}
+
+// What the line is.
+fn scan_line<R: Rule>(alloc: Global, line: &[u8]) -> Result<Scanned, AllocError>
+    ensures seen { IfOk result (λ scanned. IsSeen R.game line.now scanned.moves.items scanned.seen) }
+    ensures cards { IfOk result (λ scanned. scanned.cards ≡ length (cards_in line.now)) }
+{
+    let mut placed = Vec::new(alloc);
+    let mut moves = Vec::new(alloc);
+    let seen = LineSeen::of::<R>(line, &mut placed, &mut moves)?;
+    let cards = count_of(placed.as_slice());
+    Ok(Scanned { seen, cards, moves })
+}
+
+// How many of these are cards.
+fn count_of(placed: &[Placed]) -> usize
+    ensures { result ≡ length (cards_of placed.now) }
+{
+    let mut count = 0;
+    for one in placed {
+        count += usize::from(one.card.is_some());
+    }
+    count
+}
+
+/// Whether each line names no card, is no list, and names few moves.
 pub(crate) fn are_quiet<R: Rule>(alloc: Global, lines: &[u8]) -> Result<bool, AllocError>
     ensures { IfOk result (λ quiet. IsTrue quiet
         → All (λ line. IsQuiet R.game line.bytes) (lines_from 0 lines.now)) }
@@ -28,10 +57,15 @@ pub(crate) fn are_quiet<R: Rule>(alloc: Global, lines: &[u8]) -> Result<bool, Al
 fn is_quiet<R: Rule>(alloc: Global, line: &[u8]) -> Result<bool, AllocError>
     ensures { IfOk result (λ quiet. IsTrue quiet → IsQuiet R.game line.now) }
 {
-    Ok(!is_list::<R>(alloc, line)? && named_cards(alloc, line)?.is_empty())
+    let Scanned { seen, cards, moves } = scan_line::<R>(alloc, line)?;
+    let moves = moves.as_slice();
+    if cards > 0 || seen.is_list::<R>(line, moves) {
+        return Ok(false);
+    }
+    Ok(seen.has_few_moves::<R>(line, moves))
 }
 
-/// Whether each line is no list, and at most half of its words name cards.
+/// Whether each line is no list, names few moves, and names cards by at most half of its words.
 pub(crate) fn are_prose<R: Rule>(alloc: Global, lines: &[u8]) -> Result<bool, AllocError>
     ensures { IfOk result (λ prose. IsTrue prose
         → All (λ line. IsProse R.game line.bytes) (lines_from 0 lines.now)) }
@@ -47,7 +81,12 @@ pub(crate) fn are_prose<R: Rule>(alloc: Global, lines: &[u8]) -> Result<bool, Al
 fn is_prose<R: Rule>(alloc: Global, line: &[u8]) -> Result<bool, AllocError>
     ensures { IfOk result (λ prose. IsTrue prose → IsProse R.game line.now) }
 {
-    Ok(!is_list::<R>(alloc, line)? && has_few_cards(alloc, line)?)
+    let Scanned { seen, cards, moves } = scan_line::<R>(alloc, line)?;
+    let moves = moves.as_slice();
+    if cards > seen.words / 2 {
+        return Ok(false);
+    }
+    Ok(!seen.is_list::<R>(line, moves) && seen.has_few_moves::<R>(line, moves))
 }
 
 /// Whether no line may be a board's: each is a list, or at most half of its words name cards.
@@ -66,79 +105,52 @@ pub(crate) fn are_no_board<R: Rule>(alloc: Global, lines: &[u8]) -> Result<bool,
 fn is_no_board<R: Rule>(alloc: Global, line: &[u8]) -> Result<bool, AllocError>
     ensures { IfOk result (λ is. IsTrue is → IsNoBoard R.game line.now) }
 {
-    Ok(is_list::<R>(alloc, line)? || has_few_cards(alloc, line)?)
+    let Scanned { seen, cards, moves } = scan_line::<R>(alloc, line)?;
+    Ok(cards <= seen.words / 2 || seen.is_list::<R>(line, moves.as_slice()))
 }
 
-// Whether at most half of the words of the line name cards.
-fn has_few_cards(alloc: Global, line: &[u8]) -> Result<bool, AllocError>
-    ensures { IfOk result (λ few. IsTrue few → HasFewCards line.now) }
+/// Whether each line is a list, or has no words.
+pub(crate) fn are_lists<R: Rule>(alloc: Global, lines: &[u8]) -> Result<bool, AllocError>
+    ensures { IfOk result (λ are. IsTrue are ↔ AreLists R.game lines.now) }
 {
-    let plain = plain(alloc, before_comment(line))?;
-    let words = count_of_words(plain.as_slice());
-    Ok(named_cards(alloc, line)?.len() <= words / 2)
-}
-
-fn count_of_words(plain: &[u8]) -> usize
-    ensures { result ≤ length (words separates_tokens plain.now) }
-{
-    let mut count: usize = 0;
-    for _token in Tokens::new(plain) {
-        count = count.saturating_add(1);
-    }
-    count
-}
-
-/// Whether the line begins as fcanon's lists do, or its words are moves.
-pub(crate) fn is_list<R: Rule>(alloc: Global, line: &[u8]) -> Result<bool, AllocError>
-    ensures { IfOk result (λ is. is ≡ is_list R.game line.now) }
-{
-    if line.first() == Some(&b'>') {
-        return Ok(true);
-    }
-    let plain = plain(alloc, line)?;
-    Ok(are_moves::<R>(plain.as_slice()))
-}
-
-// Whether each word is a move; a word alone is no number.
-fn are_moves<R: Rule>(plain: &[u8]) -> bool
-    ensures { result ≡ are_moves R.game (words separates_tokens plain.now) }
-{
-    let mut left = Tokens::new(plain);
-    let Some(first) = left.next() else {
-        return false;
-    };
-    if !is_move::<R>(first.text) {
-        return false;
-    }
-    let Some(second) = left.next() else {
-        return !is_number(first.text);
-    };
-    if !is_move::<R>(second.text) {
-        return false;
-    }
-    are_all_moves::<R>(left)
-}
-
-fn are_all_moves<R: Rule>(left: Tokens<'_>) -> bool
-    ensures { result ≡ list_all (λ word. is_some (run_named R.game word))
-        (map (λ left. left.0.bytes) (tokens_left left.entry)) }
-{
-    for token in left {
-        if !is_move::<R>(token.text) {
-            return false;
+    for line in Lines::new(lines) {
+        if !is_list_or_empty::<R>(alloc, line.text)? {
+            return Ok(false);
         }
     }
-    true
+    Ok(true)
 }
 
-fn is_move<R: Rule>(word: &[u8]) -> bool
-    ensures { result ≡ is_some (run_named R.game word.now) }
+fn is_list_or_empty<R: Rule>(alloc: Global, line: &[u8]) -> Result<bool, AllocError>
+    ensures { IfOk result (λ is. IsTrue is ↔ ((is_list R.game line.now ≡ true)
+        ⊎ (length (words_of line.now) ≡ 0))) }
 {
-    run_named::<R>(word).is_some()
+    let Scanned { seen, moves, .. } = scan_line::<R>(alloc, line)?;
+    Ok(seen.words == 0 || seen.is_list::<R>(line, moves.as_slice()))
 }
 
-fn is_number(word: &[u8]) -> bool
-    ensures { result ≡ list_all is_ascii_digit word.now }
+/// Puts the moves that the lists among the lines name, each after a blank.
+pub(crate) fn push_moves<R: Rule>(
+    alloc: Global,
+    lines: &[u8],
+    moves: &mut Vec<u8>,
+) -> Result<(), AllocError>
+    ensures { OnOk result (moves.new.items ≡ moves.old.items ++ moves_of R.game lines.now) }
 {
-    word.iter().all(|byte| byte.is_ascii_digit())
+    for line in Lines::new(lines) {
+        push_moves_of::<R>(alloc, line.text, moves)?;
+    }
+    Ok(())
+}
+
+fn push_moves_of<R: Rule>(alloc: Global, line: &[u8], moves: &mut Vec<u8>) -> Result<(), AllocError>
+    ensures { OnOk result (moves.new.items ≡ moves.old.items ++ moves_of_line R.game line.now) }
+{
+    let scanned = scan_line::<R>(alloc, line)?;
+    let seen = &scanned.seen;
+    let words = scanned.moves.as_slice();
+    if seen.is_list::<R>(line, words) || seen.words == 1 && seen.numbers {
+        moves.extend_from_slice(words)?;
+    }
+    Ok(())
 }

@@ -1,5 +1,6 @@
 //! Why a board or a list is not imported, and what to write instead.
 
+use crate::words::Words;
 use fc_board::PlayFault;
 use fc_record::push_number;
 use fc_text::BoardFaultKind;
@@ -51,5 +52,22 @@ pub(crate) fn move_reason(
         Some(fault) => fault.fault.words().as_bytes(),
         None => b"no move of this game",
     })?;
+    Ok(words)
+}
+
+/// What is said of the word of the lines at this place: the word, and these words after it.
+pub(crate) fn word_reason(
+    alloc: Global,
+    lines: &[u8],
+    at: usize,
+    reason: &[u8],
+) -> Result<Vec<u8>, AllocError> {
+    let mut words = Vec::new(alloc);
+    words.extend_from_slice(b"not imported: ")?;
+    let rest = lines.get(at..).unwrap_or(b"");
+    if let Some(word) = Words::new(rest).next() {
+        words.extend_from_slice(word.text.get(..64).unwrap_or(word.text))?;
+    }
+    words.extend_from_slice(reason)?;
     Ok(words)
 }

@@ -216,7 +216,7 @@ fn product_for<R: Rule>(
         product.written.items product.said.items product.summary) }
 {
     let made: Made<R> = import_text(alloc, lines_are, noted, text)?;
-    if made.is_unwritten() && made.tally.refusals() == 0 {
+    if made.is_nothing() {
         let notes = with_tally(made.notes, made.tally)?;
         let product = nothing(alloc, notes, NO_BOARD)?;
         return Ok(product);

@@ -3,8 +3,8 @@ ghost use Rattle.std.specs.{List.{prefix_len}, Option.{is_some, unwrap_or}, Prel
 ghost use Rattle.std.specs.Prelude.{◌*◌, ◌++◌, ◌+◌, ◌<◌, ◌==◌, ◌||◌, ◌≡◌, ◌≤◌, [], All, drop, IfOk};
 ghost use Rattle.std.specs.Prelude.{IsTrue, length, OnOk, slice_index, true};
 ghost use Rattle.fc_text.specs.Bytes.{line_feed};
-ghost use Rattle.fc_import.specs.{inside.{is_alone}, Words.{is_between, number_of, sign_of}};
-ghost use Rattle.fc_import.specs.Words.{stands_for, text_after, text_read};
+ghost use Rattle.fc_import.specs.{inside.{is_alone}, Words.{is_between, mark_for, number_of}};
+ghost use Rattle.fc_import.specs.Words.{sign_of, stands_for, text_after, text_read};
 
 use crate::decoding::decode;
 use std::alloc::{AllocError, Global};
@@ -177,12 +177,46 @@ fn push_letters(made: &mut Vec<u8>, number: u32) -> Result<bool, AllocError>
     } else if ends_line(number) {
         made.push(b'\n')?;
     } else if !is_unseen(number) {
-        if !is_space(number) {
-            return Ok(false);
-        }
-        made.push(b' ')?;
+        return push_mark(made, number);
     }
     Ok(true)
+}
+
+// Puts the mark that stands for a dash, dots, a space or an arrow. Returns whether the sign is one.
+fn push_mark(made: &mut Vec<u8>, number: u32) -> Result<bool, AllocError>
+    ensures stands { IfOk result (λ stands. stands ≡ is_some (mark_for number)) }
+    ensures letters { OnOk result
+        (made.new.items ≡ made.old.items ++ unwrap_or (mark_for number) []) }
+{
+    if is_dash(number) {
+        made.push(b'-')?;
+        return Ok(true);
+    }
+    if number == 0x2026 {
+        made.extend_from_slice(b"...")?;
+        return Ok(true);
+    }
+    if is_space(number) {
+        made.push(b' ')?;
+        return Ok(true);
+    }
+    if is_arrow(number) {
+        made.push(b'>')?;
+        return Ok(true);
+    }
+    Ok(false)
+}
+
+fn is_dash(number: u32) -> bool
+    ensures { result ≡ (is_between 0x2010 0x2015 number || number == 0x2212) }
+{
+    is_among(0x2010, 0x2015, number) || number == 0x2212
+}
+
+fn is_arrow(number: u32) -> bool
+    ensures { result ≡ (is_between 0x2190 0x21FF number || is_between 0x279C 0x27BE number) }
+{
+    is_among(0x2190, 0x21FF, number) || is_among(0x279C, 0x27BE, number)
 }
 
 fn is_suit_sign(number: u32) -> bool

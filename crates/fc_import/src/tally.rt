@@ -11,8 +11,10 @@ use std::alloc::AllocError;
 /// What becomes of a piece of a text.
 #[derive(Clone, Copy)]
 pub(crate) enum Fate {
-    /// It names nothing, or the last board once more.
+    /// It names nothing.
     Passed,
+    /// It is the last board once more.
+    Again,
     ABoard,
     AList,
     RefusedBoard,
@@ -45,7 +47,7 @@ impl Tally {
             left_out: 0,
         };
         match fate {
-            Fate::Passed => {}
+            Fate::Passed | Fate::Again => {}
             Fate::ABoard => tally.boards = 1,
             Fate::AList => tally.lists = 1,
             Fate::RefusedBoard => tally.refused_boards = 1,

@@ -3,15 +3,15 @@ use Rattle.fc_import.proofs.RunLemmas.{collection_made, imported_as, nothing_mad
 use Rattle.fc_import.specs.{Import.{IsShown, no_board_line, refused_by}, inside.{ShownAs, state_of}}
 use Rattle.fc_import.proofs.run.product_for.Goals as goal
 
-pub returns-then-refusals-eq0 : goal.returns-then-refusals-eq0
-returns-then-refusals-eq0 g c = λ bytes text_is.
+pub returns-then-is_nothing : goal.returns-then-is_nothing
+returns-then-is_nothing g c = λ bytes text_is.
     let made = c.in_ok-made.made in
     let imported = imported_as g.R.Rule.VARIANT c.args.noted (state_of {R = g.row.R.Denot} made) made.written.items
     made.notes.items (g.met.R.Rule.named.game_is g.R.Rule.VARIANT refl) text_is c.in_ok-made.ensures.made c.in_ok-made.ensures.kept in
     let product = c.in_ok-product.product in
     nothing_made g.R.Rule.VARIANT c.args.noted bytes product.written.items product.said.items product.summary
     (state_of {R = g.row.R.Denot} made) made.written.items made.notes.items imported
-    (c.is_unwritten.ensures c.if-is_unwritten.true) (sym c.refusals.ensures ∙ c.if-refusals-eq0.true)
+    (c.is_nothing.ensures.nothing c.if-is_nothing.true).0 (c.is_nothing.ensures.nothing c.if-is_nothing.true).1
     c.in_ok-product.ensures.written
     (c.in_ok-product.ensures.said ∙ ap (λ said. said ++ no_board_line) c.in_ok-notes.ensures)
     c.in_ok-product.ensures.records c.in_ok-product.ensures.refused
@@ -36,5 +36,6 @@ returns-in_ok-with_tally-in-Some g c = λ bytes text_is.
     collection_made g.R.Rule.VARIANT c.args.noted bytes made.written.items _ _ (state_of {R = g.row.R.Denot} made)
     made.notes.items c.in-Some.records _ imported
     (subst₂ (λ variant text. IsShown variant text c.in-Some.records) c.VARIANT.ensures c.as_slice.ensures.value shown)
+    (c.is_nothing.ensures.some c.if-is_nothing.false)
     (c.refused_by-refused.ensures ∙ ap (refused_by c.args.noted made.tally) c.as_slice-in-Some.ensures.value)
     c.in_ok-with_tally-in-Some.ensures c.summary_of.ensures.records c.summary_of.ensures.refused

@@ -1,6 +1,6 @@
 use Rattle.std.{proofs.Common.{◌++◌, ◌≡◌}, specs.List.{flat_map}}
 use Rattle.fc_text.specs.Left.{lines_left}
-use Rattle.fc_import.specs.Words.{ended, named_cards, named_in, named_lines}
+use Rattle.fc_import.specs.{Scan.{named_cards}, Words.{ended, named_in, named_lines}}
 use Rattle.fc_import.proofs.cards.Named.by.Given as goal
 
 abbrev pub invariant-loop-line : goal.invariant-loop-line

@@ -1,7 +1,7 @@
-use Rattle.std.proofs.Common.{◌++◌, ◌∙◌, ◌≡◌, ◌≤◌, ap, IfSome, Some, subst}
+use Rattle.std.proofs.Common.{◌++◌, ◌∙◌, ◌≡◌, ◌≤◌, ap, IfSome, inr, Some, subst}
 use Rattle.fc_board.specs.{Boards.{Board}, Moves.{move_count}, Play.{Legal}}
 use Rattle.{fc_record.specs.Printing.{list_line}, fc_text.specs.Notation.{most_moves}}
-use Rattle.fc_import.specs.{Import.{a_list}, Notes.{after}}
+use Rattle.fc_import.specs.{Import.{a_list, Names}, Notes.{after}}
 use Rattle.fc_import.proofs.TakingLemmas.{taken}
 use Rattle.fc_import.specs.declared.tally.Fate.TheVariants.{AList}
 use Rattle.fc_import.proofs.made.Made.put_list.Goals as goal
@@ -14,5 +14,5 @@ returns-clause-taken g c = λ is.
     let few = subst (λ found. IfSome found (λ list. move_count list ≤ most_moves)) c.in-Some.is c.in_ok-list.ensures.few in
     taken {R = g.row.R.Denot} g.R.Rule.VARIANT g.R.Rule.game c.args.piece.now c.args.self.now c.go_on.new.self _
     (c.go_on.ensures.state ∙ ap (λ state. after state c.args.piece.now state.last AList) c.in_ok-say_list.ensures.state) (list_line list) says
-    (a_list board list says last legal few how)
+    (a_list board list says (c.is_apart.ensures.0 c.if-not-is_apart.false) last legal few (inr (record { text = c.args.moves.now; agrees = c.in_ok-is_named.ensures c.if-not-branch.false; names = subst (λ found. IfSome found (Names g.R.Rule.game c.args.moves.now)) c.in-Some.is c.in_ok-list.ensures.names })) how)
     (c.go_on.ensures.written ∙ c.in_ok-push_list.ensures.printed ∙ ap (λ text. text ++ list_line list) c.in_ok-say_list.ensures.written) (c.go_on.ensures.notes ∙ grows)

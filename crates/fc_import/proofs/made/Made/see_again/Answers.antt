@@ -6,4 +6,4 @@ returns-clause-taken g c = λ is.
     let (board, last, of) = c.in_ok-is_last.ensures c.if-not-branch.false in
     last_taken {R = g.row.R.Denot} g.R.Rule.VARIANT g.R.Rule.game c.args.piece.now board c.args.self.now
     c.say_again.new.self c.go_on.new.self of (c.in_ok-say_again.ensures board last)
-    last c.go_on.ensures.state c.go_on.ensures.written c.go_on.ensures.notes
+    last c.if-not-self.false c.go_on.ensures.state c.go_on.ensures.written c.go_on.ensures.notes

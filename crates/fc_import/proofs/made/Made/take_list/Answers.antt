@@ -1,7 +1,7 @@
 use Rattle.std.proofs.Common.{◌∙◌, ◌≡◌, ◌≤◌, ap, IfSome, Some, subst, sym}
 use Rattle.fc_board.specs.{Boards.{Board}, Moves.{move_count}, Play.{Legal}}
 use Rattle.{fc_record.specs.Printing.{list_line}, fc_text.specs.Notation.{most_moves}}
-use Rattle.fc_import.specs.inside.{Names}
+use Rattle.fc_import.specs.Import.{Names}
 use Rattle.fc_import.proofs.FrontLemmas.{in_front, list_len, list_taken}
 use Rattle.fc_import.proofs.PieceLemmas.{begins_front}
 use Rattle.fc_text.proofs.WriterLemmas.{few_cells}

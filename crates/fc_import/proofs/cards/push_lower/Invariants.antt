@@ -1,6 +1,0 @@
-use Rattle.std.proofs.Common.{◌++◌, ◌≡◌, drop}
-use Rattle.std.specs.Str.{str_to_ascii_lowercase}
-use Rattle.fc_import.proofs.cards.push_lower.Given as goal
-
-abbrev pub invariant-loop-letter : goal.invariant-loop-letter
-invariant-loop-letter l = l.letters.items ++ str_to_ascii_lowercase (drop l.letter-index l.word) ≡ l.fn.letters.items ++ str_to_ascii_lowercase l.word

@@ -1,0 +1,29 @@
+-- What the scanner of a line promises of what it saw.
+use Rattle.std.specs.{List.{flat_map, list_all}, Option.{option_to_list}}
+use Rattle.std.specs.Prelude.{◌-◌, ◌^◌, ◌≡◌, drop, length, List, map, min, ℕ}
+use Rattle.{fc_board.specs.Games.{Game}, fc_text.specs.Lines.{Piece, with_end, words_from}}
+use Rattle.fc_import.specs.Scan.{is_number, parts_words, Said, said_in, words_of}
+use Rattle.fc_import.specs.declared.{moves.Heard.{Heard}, scan.LineSeen.{LineSeen}}
+use Rattle.fc_import.specs.declared.{scan.Placed.{Placed}, words.{Word.{Word}, Words.{Words}}}
+
+-- the piece that a word is, and its end
+abbrev pub piece_of : Word → Piece × ℕ
+piece_of word = (record { start = word.start; bytes = word.text.now }, word.end)
+
+-- the words of the rest of the text
+abbrev pub words_left : Words → List (Piece × ℕ)
+words_left words = map with_end (words_from parts_words words.at (drop words.at words.text.now))
+
+-- what was said, by these moves and what is kept beside them
+abbrev pub said_of : (moves : List ℕ) → Heard → Said
+said_of moves heard = record { moves = moves; from = heard.from; pointed = heard.pointed; all = heard.all; sure = heard.sure; led = heard.led }
+
+-- the cards among cards and gaps
+abbrev pub cards_of : List Placed → List ℕ
+cards_of placed = flat_map (λ one. option_to_list one.card) placed
+
+-- the line was seen, and these are its moves
+pub record IsSeen (game : Game) (line moves : List ℕ) (seen : LineSeen) : Type 0 where
+  pub said : said_of moves seen.heard ≡ said_in game line
+  pub words : seen.words ≡ min (length (words_of line)) (2 ^ 64 - 1)
+  pub numbers : seen.numbers ≡ list_all (λ word. is_number word.0.bytes) (words_of line)

@@ -1,0 +1,298 @@
+//! The moves that words name, one word after another.
+ghost use Rattle.std.specs.Char.{is_ascii_alphabetic, is_ascii_lowercase};
+ghost use Rattle.std.specs.{List.{list_all, list_any, prefix_len}, Option.{is_some}};
+ghost use Rattle.std.specs.Prelude.{◌++◌, ◌==◌, ◌∷◌, ◌≡◌, drop, IfOk, if◌then◌else◌, List, OnOk, ℕ};
+ghost use Rattle.std.specs.Str.{str_eq_ignore_ascii_case, str_to_ascii_lowercase};
+ghost use Rattle.fc_text.specs.{Bytes.{blank, is_gap}, reader.{run_named}};
+ghost use Rattle.fc_import.specs.Scan.{after_arrow, after_first, after_gap, after_letters};
+ghost use Rattle.fc_import.specs.Scan.{after_next, after_word, before_dots, has_dots, is_arrow};
+ghost use Rattle.fc_import.specs.Scan.{is_card_move, is_glued, is_label, is_number, is_pointed};
+ghost use Rattle.fc_import.specs.Scan.{is_sure, is_unread, solution_names, with_move};
+ghost use Rattle.fc_import.specs.Seen.{piece_of, said_of};
+
+use crate::scan::named_card;
+use crate::words::Word;
+use fc_board::Rule;
+use fc_text::{gap_len, run_named};
+use std::alloc::AllocError;
+
+/// What is kept of the words of a line beside its moves.
+#[derive(Clone, Copy, Debug)]
+pub(crate) struct Heard {
+    /// The pile that a move is from whose target comes next, and whether its arrow has a point.
+    pub(crate) from: Option<u8>,
+    pub(crate) pointed: bool,
+    /// Whether each word is of a move.
+    pub(crate) all: bool,
+    /// How many moves are no numbers: none, one, or 2 for more; and whether one of them came before
+    /// any other word.
+    pub(crate) sure: u8,
+    pub(crate) led: bool,
+}
+
+impl Heard {
+    /// Takes the next word of the text, and puts the move that it ends, if it ends one.
+    pub(crate) fn take<R: Rule>(
+        self,
+        text: &[u8],
+        word: &Word<'_>,
+        moves: &mut Vec<u8>,
+    ) -> Result<Heard, AllocError>
+        ensures { IfOk result (λ heard. said_of moves.new.items heard
+            ≡ after_word R.game text.now (said_of moves.old.items self) (piece_of word.now)) }
+    {
+        let after = from(text, word.end);
+        if is_label(word.text, after) {
+            return Ok(self);
+        }
+        let next = after_gap(after);
+        let heard = self.take_next::<R>(word.text, next, moves)?;
+        Ok(heard.before_dots(next))
+    }
+
+    fn take_next<R: Rule>(
+        self,
+        word: &[u8],
+        next: &[u8],
+        moves: &mut Vec<u8>,
+    ) -> Result<Heard, AllocError>
+        ensures { IfOk result (λ heard. said_of moves.new.items heard
+            ≡ after_next R.game (said_of moves.old.items self) self.from word.now next.now) }
+    {
+        match self.from {
+            None => self.take_first::<R>(word, next, moves),
+            Some(from) => self.take_target::<R>(from, word, moves),
+        }
+    }
+
+    // Passes dots, if they come next.
+    fn before_dots(self, next: &[u8]) -> Heard
+        ensures { (moves : List ℕ)
+            → said_of moves result ≡ before_dots (said_of moves self) next.now }
+    {
+        if has_dots(next) {
+            return Heard {
+                from: None,
+                pointed: false,
+                all: false,
+                sure: self.sure,
+                led: self.led,
+            };
+        }
+        self
+    }
+
+    fn take_first<R: Rule>(
+        self,
+        word: &[u8],
+        next: &[u8],
+        moves: &mut Vec<u8>,
+    ) -> Result<Heard, AllocError>
+        ensures { IfOk result (λ heard. said_of moves.new.items heard
+            ≡ after_first R.game (said_of moves.old.items self) word.now next.now) }
+    {
+        if run_named::<R>(word).is_some() && !is_pointed(next) {
+            return self.with_move(word, is_sure(word), moves);
+        }
+        if word.len() == 1 && is_arrow(next) {
+            return Ok(Heard {
+                from: Some(word[0]),
+                pointed: is_pointed(next),
+                all: self.all,
+                sure: self.sure,
+                led: self.led,
+            });
+        }
+        Ok(Heard {
+            from: None,
+            pointed: false,
+            all: false,
+            sure: self.sure,
+            led: self.led || is_unread::<R>(word, next),
+        })
+    }
+
+    fn take_target<R: Rule>(
+        self,
+        from: u8,
+        word: &[u8],
+        moves: &mut Vec<u8>,
+    ) -> Result<Heard, AllocError>
+        ensures { IfOk result (λ heard. said_of moves.new.items heard
+            ≡ after_arrow R.game (said_of moves.old.items self) from word.now) }
+    {
+        if word == b"to".as_slice() {
+            return Ok(self);
+        }
+        if word.len() == 1 {
+            return self.take_letters::<R>(&[from, word[0]], moves);
+        }
+        Ok(Heard {
+            from: None,
+            pointed: false,
+            all: false,
+            sure: self.sure,
+            led: self.led,
+        })
+    }
+
+    // Takes the letters of a pile and of the target after an arrow.
+    fn take_letters<R: Rule>(self, letters: &[u8], moves: &mut Vec<u8>) -> Result<Heard, AllocError>
+        ensures { IfOk result (λ heard. said_of moves.new.items heard
+            ≡ after_letters R.game (said_of moves.old.items self) letters.now) }
+    {
+        if run_named::<R>(letters).is_some() {
+            let sure = self.pointed || is_sure(letters);
+            return self.with_move(letters, sure, moves);
+        }
+        Ok(Heard {
+            from: None,
+            pointed: false,
+            all: false,
+            sure: self.sure,
+            led: self.led,
+        })
+    }
+
+    // Puts a move.
+    fn with_move(self, word: &[u8], sure: bool, moves: &mut Vec<u8>) -> Result<Heard, AllocError>
+        ensures { IfOk result (λ heard. said_of moves.new.items heard
+            ≡ with_move (said_of moves.old.items self) word.now sure) }
+    {
+        moves.push(b' ')?;
+        push_lower(moves, word)?;
+        Ok(Heard {
+            from: None,
+            pointed: false,
+            all: self.all,
+            sure: if sure { one_more(self.sure) } else { self.sure },
+            led: self.led || (sure && self.all),
+        })
+    }
+}
+
+fn has_dots(next: &[u8]) -> bool
+    ensures { result ≡ has_dots next.now }
+{
+    matches!(next, [b'.', b'.', b'.', ..])
+}
+
+// Whether the word is of a move in a form that is not read.
+fn is_unread<R: Rule>(word: &[u8], next: &[u8]) -> bool
+    ensures { result ≡ is_unread R.game word.now next.now }
+{
+    run_named::<R>(word).is_some() || is_glued::<R>(word) || is_card_move(word, next)
+}
+
+// One, or 2 for more.
+fn one_more(count: u8) -> u8
+    ensures { result ≡ if count == 0 then 1 else 2 }
+{
+    if count == 0 { 1 } else { 2 }
+}
+
+// The text from this place on.
+fn from(text: &[u8], at: usize) -> &[u8]
+    ensures { result.now ≡ drop at text.now }
+{
+    &text[at.min(text.len())..]
+}
+
+// Whether a number or a name of a solution has a colon after it, or a number a dot or a bracket.
+fn is_label(word: &[u8], after: &[u8]) -> bool
+    ensures { result ≡ is_label word.now after.now }
+{
+    if is_number(word) {
+        matches!(after.first(), Some(b':' | b'.' | b')'))
+    } else {
+        matches!(after.first(), Some(b':')) && is_solution_name(word)
+    }
+}
+
+fn is_solution_name(word: &[u8]) -> bool
+    ensures { result ≡ list_any (str_eq_ignore_ascii_case word.now) solution_names }
+{
+    word.eq_ignore_ascii_case(b"solution")
+        || word.eq_ignore_ascii_case(b"moves")
+        || word.eq_ignore_ascii_case(b"move")
+}
+
+pub(crate) fn is_number(word: &[u8]) -> bool
+    ensures { result ≡ is_number word.now }
+{
+    word.iter().all(|byte| byte.is_ascii_digit())
+}
+
+// Whether the word has a digit and a letter.
+pub(crate) fn is_sure(word: &[u8]) -> bool
+    ensures { result ≡ is_sure word.now }
+{
+    !is_number(word) && !is_alphabetic(word)
+}
+
+fn is_alphabetic(word: &[u8]) -> bool
+    ensures { result ≡ list_all is_ascii_alphabetic word.now }
+{
+    word.iter().all(|byte| byte.is_ascii_alphabetic())
+}
+
+// Whether moves that are not parted begin the word.
+fn is_glued<R: Rule>(word: &[u8]) -> bool
+    ensures { result ≡ is_glued R.game word.now }
+{
+    if word.len() < 4 {
+        return false;
+    }
+    let (first, rest) = word.split_at(2);
+    is_sure(first) && run_named::<R>(first).is_some() && run_named::<R>(&rest[..2]).is_some()
+}
+
+// Whether the word is a card in capitals that goes somewhere.
+fn is_card_move(word: &[u8], next: &[u8]) -> bool
+    ensures { result ≡ is_card_move word.now next.now }
+{
+    named_card(word).is_some()
+        && !has_small_letters(word)
+        && (is_pointed(next) || matches!(next, [b't', b'o', b' ', ..]))
+}
+
+fn has_small_letters(word: &[u8]) -> bool
+    ensures { result ≡ list_any is_ascii_lowercase word.now }
+{
+    word.iter().any(|byte| byte.is_ascii_lowercase())
+}
+
+// What comes after blanks and tabs.
+fn after_gap(rest: &[u8]) -> &[u8]
+    ensures { result.now ≡ after_gap rest.now }
+{
+    &rest[gap_len(rest)..]
+}
+
+// Whether an arrow comes next, a dash, or `to` and a blank.
+fn is_arrow(next: &[u8]) -> bool
+    ensures { result ≡ is_arrow next.now }
+{
+    match next {
+        [b'-' | b'=' | b'>', ..] => true,
+        [b't', b'o', b' ', ..] => true,
+        _ => false,
+    }
+}
+
+// Whether an arrow with a point comes next.
+fn is_pointed(next: &[u8]) -> bool
+    ensures { result ≡ is_pointed next.now }
+{
+    matches!(next, [b'>', ..] | [_, b'>', ..])
+}
+
+pub(crate) fn push_lower(moves: &mut Vec<u8>, word: &[u8]) -> Result<(), AllocError>
+    ensures { OnOk result (moves.new.items
+        ≡ moves.old.items ++ str_to_ascii_lowercase word.now) }
+{
+    for letter in word {
+        moves.push(letter.to_ascii_lowercase())?;
+    }
+    Ok(())
+}

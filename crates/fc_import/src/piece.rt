@@ -1,0 +1,630 @@
+//! The lines of one piece of a text, scanned once each, up to where the piece ends. Nothing is
+//! promised of where that is.
+ghost use Rattle.{fc_import.specs.Seen.{IsSeen}, std.specs.Prelude.{IfOk}};
+
+use crate::labels::LabelKind;
+use crate::scan::{LineSeen, Placed, named_card};
+use crate::words::{Words, before_mark, uncommented};
+use arrayvec::ArrayVec;
+use fc_board::Rule;
+use fc_text::{Line, Lines};
+use memchr::memchr;
+use std::alloc::{AllocError, Global};
+
+/// The line after the last move of a solution of Freecell Solver, or after none.
+pub(crate) const SOLVED: &[u8] = b"This game is solveable";
+
+/// The rule before a solution of Freecell Solver.
+pub(crate) const FIRST_RULE: &[u8] = b"-=-=-=-=-=";
+
+/// The most lines of a board.
+const MOST_LINES: usize = 48;
+
+/// What a line looks like.
+#[derive(Clone, Copy, PartialEq, Eq, Debug)]
+pub(crate) enum LineKind {
+    /// No word and no mark for a card.
+    Blank,
+    /// A comment, or a name of columns alone.
+    Comment,
+    Foundations,
+    Cells,
+    /// Cards, or none after a colon.
+    Cards,
+    Moves,
+    Other,
+}
+
+impl Default for LineKind {
+    fn default() -> Self {
+        LineKind::Blank
+    }
+}
+
+/// What the lines at the front of a text are.
+#[derive(Clone, Copy, PartialEq, Eq, Debug)]
+pub(crate) enum PieceKind {
+    /// One line that is no board's and no list's, or a blank one.
+    Prose,
+    Board,
+    Moves,
+}
+
+/// A line of a piece: where it is, what it looks like, and which of the piece's cards it has.
+#[derive(Clone, Copy)]
+pub(crate) struct PieceLine {
+    pub(crate) start: usize,
+    pub(crate) len: usize,
+    pub(crate) kind: LineKind,
+    pub(crate) label: LabelKind,
+    pub(crate) first: usize,
+    pub(crate) end: usize,
+    /// The places without a card before the first card, before the last one, and those that a mark
+    /// says.
+    pub(crate) lead: usize,
+    pub(crate) gaps: usize,
+    pub(crate) marks: usize,
+    /// How many tabs and how many bytes it begins with; whether a mark parts any two words, and a
+    /// bar begins it; and the fewest and most blanks between two words.
+    pub(crate) tabs: usize,
+    pub(crate) indent: usize,
+    pub(crate) is_parted: bool,
+    pub(crate) has_bar: bool,
+    pub(crate) least_run: usize,
+    pub(crate) most_run: usize,
+    /// The words that are no cards and of no label, and where the first one is.
+    pub(crate) others: usize,
+    pub(crate) other: usize,
+    /// How many of its cards were there before, in the line or above it.
+    repeats: usize,
+    pub(crate) bits: u64,
+    is_list: bool,
+    names_none_home: bool,
+}
+
+impl Default for PieceLine {
+    fn default() -> Self {
+        PieceLine {
+            start: 0,
+            len: 0,
+            kind: LineKind::Blank,
+            label: LabelKind::Bare,
+            first: 0,
+            end: 0,
+            lead: 0,
+            gaps: 0,
+            marks: 0,
+            tabs: 0,
+            indent: 0,
+            is_parted: false,
+            has_bar: false,
+            least_run: 0,
+            most_run: 0,
+            others: 0,
+            other: 0,
+            repeats: 0,
+            bits: 0,
+            is_list: false,
+            names_none_home: false,
+        }
+    }
+}
+
+/// The lines of a piece, and what they hold together.
+#[derive(Drop)]
+pub(crate) struct Piece {
+    pub(crate) lines: ArrayVec<PieceLine, 48>,
+    placed: Vec<Placed>,
+    /// The moves that its lists name, each after a blank, and those of the last line.
+    pub(crate) moves: Vec<u8>,
+    line_moves: Vec<u8>,
+    /// Where the first word of a solution begins that is of no move.
+    pub(crate) foreign: Option<usize>,
+    /// Whether the last line that was looked at is a number alone, which is a move, and whether it
+    /// names few moves.
+    pub(crate) is_number: bool,
+    has_few_moves: bool,
+    /// The heights of C D H S.
+    pub(crate) heights: [u8; 4],
+    has_heights: bool,
+    has_cells: bool,
+    /// The first word of the foundations that is none.
+    pub(crate) bad_height: Option<usize>,
+    /// How many lines have cards, and how many cards there are, those that are home included.
+    pub(crate) rows: usize,
+    count: usize,
+    bits: u64,
+    /// A card was there twice, or a word of a column is none.
+    is_damaged: bool,
+    /// How many lines there are up to the last blank one, and that one.
+    up_to_blank: usize,
+    /// How many bytes the lines have.
+    pub(crate) len: usize,
+}
+
+impl Piece {
+    /// No lines.
+    pub(crate) fn new(alloc: Global) -> Self {
+        Piece {
+            lines: ArrayVec::new(),
+            placed: Vec::new(alloc),
+            moves: Vec::new(alloc),
+            line_moves: Vec::new(alloc),
+            foreign: None,
+            is_number: false,
+            has_few_moves: true,
+            heights: [0; 4],
+            has_heights: false,
+            has_cells: false,
+            bad_height: None,
+            rows: 0,
+            count: 0,
+            bits: 0,
+            is_damaged: false,
+            up_to_blank: 0,
+            len: 0,
+        }
+    }
+
+    fn clear(&mut self) {
+        self.lines.clear();
+        self.placed.clear();
+        self.moves.clear();
+        self.foreign = None;
+        self.is_number = false;
+        self.heights = [0; 4];
+        self.has_heights = false;
+        self.has_cells = false;
+        self.bad_height = None;
+        self.rows = 0;
+        self.count = 0;
+        self.bits = 0;
+        self.is_damaged = false;
+        self.up_to_blank = 0;
+        self.len = 0;
+    }
+
+    /// Reads the piece at the front of the text in place of the one before, and returns what it is.
+    pub(crate) fn read<R: Rule>(&mut self, text: &[u8]) -> Result<PieceKind, AllocError> {
+        self.clear();
+        let mut lines = Lines::new(text);
+        let Some(first) = lines.next() else {
+            return Ok(PieceKind::Prose);
+        };
+        let line = self.look_at::<R>(first)?;
+        self.len = line.len;
+        match line.kind {
+            LineKind::Moves => {
+                self.go_on_with_moves::<R>(text)?;
+                Ok(PieceKind::Moves)
+            }
+            LineKind::Other if !self.has_few_moves => {
+                self.go_on_with_moves::<R>(text)?;
+                Ok(PieceKind::Moves)
+            }
+            LineKind::Blank | LineKind::Comment | LineKind::Other => Ok(PieceKind::Prose),
+            LineKind::Foundations | LineKind::Cells | LineKind::Cards => {
+                self.add(line, first.text);
+                self.go_on::<R>(lines)?;
+                if line.is_list && !self.is_whole() {
+                    self.go_on_with_moves::<R>(text)?;
+                    return Ok(PieceKind::Moves);
+                }
+                Ok(PieceKind::Board)
+            }
+        }
+    }
+
+    // Takes the lines that may be those of the board.
+    fn go_on<R: Rule>(&mut self, lines: Lines<'_>) -> Result<(), AllocError> {
+        for line in lines {
+            if self.lines.is_full() || line.text.starts_with(b"@") {
+                break;
+            }
+            let seen = self.look_at::<R>(line)?;
+            if !self.takes(seen) {
+                break;
+            }
+            self.add(seen, line.text);
+        }
+        self.drop_blanks();
+        self.len = match self.lines.as_slice().last() {
+            Some(last) => last.start.saturating_add(last.len),
+            None => 0,
+        };
+        Ok(())
+    }
+
+    /// Takes the lines of a solution at the front of the text in place of those that it has: one
+    /// that begins as fcanon's lists do; or as many as there are before a blank line, a header or a
+    /// board; or those of Freecell Solver, which begin with `Move` and may have boards, rules and
+    /// blank lines between them.
+    pub(crate) fn go_on_with_moves<R: Rule>(&mut self, text: &[u8]) -> Result<(), AllocError> {
+        self.clear();
+        let is_said = begins_said(text);
+        let most = if is_said {
+            solution_len(text)
+        } else {
+            text.len()
+        };
+        for line in Lines::new(text) {
+            if line.start >= most || line.start > 0 && self.ends_moves::<R>(line.text, is_said)? {
+                break;
+            }
+            self.take_moves::<R>(line, is_said)?;
+            self.len = line.start.saturating_add(line.text.len());
+            if text.starts_with(b">") {
+                break;
+            }
+        }
+        Ok(())
+    }
+
+    // Whether the solution ends before the line.
+    fn ends_moves<R: Rule>(&mut self, line: &[u8], is_said: bool) -> Result<bool, AllocError> {
+        if line.starts_with(b"@") || line.starts_with(b">") || line.starts_with(FIRST_RULE) {
+            return Ok(true);
+        }
+        if is_said {
+            return Ok(false);
+        }
+        if line.trim_ascii().is_empty() {
+            return Ok(true);
+        }
+        let seen = self.scan::<R>(line)?;
+        let is_list = seen.is_list::<R>(line, self.line_moves.as_slice());
+        Ok(!is_list && begins_board(kind_of(line, &seen, is_list)))
+    }
+
+    // Takes the moves of a line.
+    fn take_moves<R: Rule>(&mut self, line: Line<'_>, is_said: bool) -> Result<(), AllocError> {
+        let text = line.text;
+        let seen = self.scan::<R>(text)?;
+        let is_list = seen.is_list::<R>(text, self.line_moves.as_slice());
+        if is_list && seen.heard.all && seen.heard.from.is_none() {
+            self.moves.extend_from_slice(self.line_moves.as_slice())?;
+            return Ok(());
+        }
+        let is_between = is_said && (text.starts_with(SOLVED) || is_drawn(text));
+        if seen.words == 0 || is_between || self.foreign.is_some() {
+            return Ok(());
+        }
+        if line.start == 0 && seen.words == 1 && seen.numbers {
+            self.moves.extend_from_slice(self.line_moves.as_slice())?;
+            return Ok(());
+        }
+        self.foreign = Some(line.start.saturating_add(seen.other));
+        Ok(())
+    }
+
+    /// Whether each card is in its place, by their number.
+    pub(crate) fn is_whole(&self) -> bool {
+        self.count >= 52
+    }
+
+    /// The cards and gaps of a line.
+    pub(crate) fn placed(&self, line: PieceLine) -> &[Placed] {
+        self.placed
+            .as_slice()
+            .get(line.first..line.end)
+            .unwrap_or(&[])
+    }
+
+    // Scans a line. Its cards come after the others.
+    fn scan<R: Rule>(&mut self, line: &[u8]) -> Result<LineSeen, AllocError>
+        ensures { IfOk result (IsSeen R.game line.now self.new.line_moves.items) }
+    {
+        self.line_moves.clear();
+        LineSeen::of::<R>(line, &mut self.placed, &mut self.line_moves)
+    }
+
+    // What the line looks like.
+    fn look_at<R: Rule>(&mut self, line: Line<'_>) -> Result<PieceLine, AllocError> {
+        let text = line.text;
+        let first = self.placed.len();
+        let seen = self.scan::<R>(text)?;
+        let is_list = seen.is_list::<R>(text, self.line_moves.as_slice());
+        let shape = &seen.shape;
+        let kind = kind_of(text, &seen, is_list);
+        let bold = match kind {
+            LineKind::Cells => bold_after_name(text),
+            _ => None,
+        };
+        self.is_number = seen.words == 1 && seen.numbers && self.line_moves.len() == 3;
+        self.has_few_moves = seen.has_few_moves::<R>(text, self.line_moves.as_slice());
+        Ok(PieceLine {
+            start: line.start,
+            len: text.len(),
+            kind,
+            label: shape.label,
+            first,
+            end: self.placed.len(),
+            lead: shape.lead,
+            gaps: shape.gaps,
+            marks: shape.marks,
+            tabs: shape.tabs,
+            indent: shape.indent,
+            is_parted: shape.is_parted,
+            has_bar: shape.has_bar,
+            least_run: shape.least_run,
+            most_run: shape.most_run,
+            others: shape.others.saturating_add(usize::from(bold.is_some())),
+            other: bold.unwrap_or(shape.other),
+            repeats: shape
+                .cards
+                .saturating_sub(count_of(shape.bits & !self.bits)),
+            bits: shape.bits,
+            is_list,
+            names_none_home: kind == LineKind::Foundations && heights_of(text).0 == [0; 4],
+        })
+    }
+
+    // Whether the line may be the board's.
+    fn takes(&mut self, line: PieceLine) -> bool {
+        let is_whole = self.is_whole();
+        let is_after_blank = self.up_to_blank == self.lines.len() && self.up_to_blank > 0;
+        match line.kind {
+            LineKind::Moves | LineKind::Other => false,
+            LineKind::Comment => !is_whole && self.rows < 8,
+            LineKind::Blank => !is_whole && self.rows < 8 && !self.is_damaged,
+            LineKind::Foundations => {
+                let fits = !is_whole || line.names_none_home;
+                !self.has_heights && fits && !(is_after_blank && self.rows > 0)
+            }
+            LineKind::Cells => !self.has_cells && (!is_whole || line.bits == 0),
+            LineKind::Cards if is_whole => self.rows < 8 && line.bits == 0,
+            LineKind::Cards if line.repeats > 0 && line.is_list => false,
+            LineKind::Cards if self.begins_other(line) => {
+                self.cut_at_blank();
+                false
+            }
+            LineKind::Cards => true,
+        }
+    }
+
+    // Whether another board seems to begin above the line: its cards come again after a blank line,
+    // or most of them do.
+    fn begins_other(&self, line: PieceLine) -> bool {
+        let repeats = line.repeats;
+        let cards = line.end.saturating_sub(line.first);
+        repeats > 0 && self.up_to_blank > 0 || repeats >= 3 && repeats > cards / 2
+    }
+
+    // Leaves the lines after the last blank one to the next board, where this one is not whole.
+    fn cut_at_blank(&mut self) {
+        if !self.is_whole() && self.up_to_blank > 0 {
+            self.lines.truncate(self.up_to_blank);
+        }
+    }
+
+    fn drop_blanks(&mut self) {
+        for _line in 0..MOST_LINES {
+            match self.lines.as_slice().last() {
+                Some(last) if last.kind == LineKind::Blank => {
+                    let _ = self.lines.pop();
+                }
+                _ => break,
+            }
+        }
+    }
+
+    fn add(&mut self, line: PieceLine, text: &[u8]) {
+        match line.kind {
+            LineKind::Foundations => self.add_heights(line.start, text),
+            LineKind::Cells => self.has_cells = true,
+            LineKind::Cards => self.rows = self.rows.saturating_add(1),
+            LineKind::Blank => self.up_to_blank = self.lines.len().saturating_add(1),
+            _ => {}
+        }
+        if line.kind != LineKind::Foundations {
+            self.is_damaged = self.is_damaged || line.repeats > 0 || line.others > 0;
+            self.count = self.count.saturating_add(count_of(line.bits & !self.bits));
+            self.bits |= line.bits;
+        }
+        let _ = self.lines.try_push(line);
+    }
+
+    fn add_heights(&mut self, start: usize, text: &[u8]) {
+        let (heights, bad) = heights_of(text);
+        self.has_heights = true;
+        self.heights = heights;
+        self.is_damaged = self.is_damaged || bad.is_some();
+        if let (Some(place), None) = (bad, self.bad_height) {
+            self.bad_height = Some(start.saturating_add(place));
+        }
+        for height in heights {
+            self.count = self.count.saturating_add(usize::from(height));
+        }
+    }
+}
+
+// How many bytes a solution in words has: up to its end where that is named, and else up to the
+// last line that begins with `Move`, before a header, a list or the rule of another solution.
+fn solution_len(text: &[u8]) -> usize {
+    let mut len: usize = 0;
+    for line in Lines::new(text) {
+        if line.text.starts_with(b"@")
+            || line.text.starts_with(b">")
+            || line.text.starts_with(FIRST_RULE)
+        {
+            break;
+        }
+        if line.text.starts_with(SOLVED) {
+            return line.start.saturating_add(1);
+        }
+        if begins_said(line.text) {
+            len = line.start.saturating_add(1);
+        }
+    }
+    len
+}
+
+// Whether the text begins with a move that Freecell Solver says, in words or before its letters.
+fn begins_said(text: &[u8]) -> bool {
+    text.starts_with(b"Move ") || text.starts_with(b"Move:")
+}
+
+// Whether each word of the line may be in a drawing of a board: a card, one sign, a ten, or the name
+// of a line.
+fn is_drawn(line: &[u8]) -> bool {
+    for word in Words::new(line) {
+        let is_name = word.text == b"Foundations".as_slice()
+            || word.text == b"Freecells".as_slice();
+        let is_part = word.text.len() == 1 || word.text == b"10".as_slice();
+        if !is_name && !is_part && named_card(word.text).is_none() {
+            return false;
+        }
+    }
+    true
+}
+
+fn begins_board(kind: LineKind) -> bool {
+    matches!(
+        kind,
+        LineKind::Foundations | LineKind::Cells | LineKind::Cards
+    )
+}
+
+fn kind_of(line: &[u8], seen: &LineSeen, is_list: bool) -> LineKind {
+    let front = line.trim_ascii_start();
+    match front {
+        [] => LineKind::Blank,
+        [b'#', ..] => LineKind::Comment,
+        [b'>', ..] if seen.shape.cards < 3 || seen.heard.all => LineKind::Moves,
+        _ if begins_said(front) => LineKind::Moves,
+        [b'=', b'=', ..] | [b'-', b'=', ..] => LineKind::Other,
+        _ => kind_by_label(line, seen, is_list),
+    }
+}
+
+fn kind_by_label(line: &[u8], seen: &LineSeen, is_list: bool) -> LineKind {
+    let shape = &seen.shape;
+    match shape.label {
+        LabelKind::Foundations => LineKind::Foundations,
+        LabelKind::Cells => LineKind::Cells,
+        LabelKind::Columns if shape.cards == 0 && shape.others == 0 => LineKind::Comment,
+        _ => kind_by_words(line, seen, is_list),
+    }
+}
+
+// What a line without a name is by its words.
+fn kind_by_words(line: &[u8], seen: &LineSeen, is_list: bool) -> LineKind {
+    let (cards, others) = (seen.shape.cards, seen.shape.others);
+    let has_colon = line.trim_ascii_start().starts_with(b":");
+    let sure = if has_colon {
+        cards
+    } else {
+        cards.saturating_sub(seen.shape.aces)
+    };
+    if cards == 0 && others == 0 {
+        return if has_colon || seen.shape.marks > 1 {
+            LineKind::Cards
+        } else {
+            LineKind::Other
+        };
+    }
+    if others == 0 && sure > 0 || sure > others && sure.saturating_add(others) >= 3 {
+        LineKind::Cards
+    } else if is_list {
+        LineKind::Moves
+    } else {
+        LineKind::Other
+    }
+}
+
+// How many cards these bits are.
+fn count_of(bits: u64) -> usize {
+    usize::from(bits.count_ones() as u16)
+}
+
+// The heights of C D H S that the words after the colon say, and where the first word is that says
+// none.
+fn heights_of(line: &[u8]) -> ([u8; 4], Option<usize>) {
+    let mut heights = [0; 4];
+    let mut bad: Option<usize> = None;
+    let mut suit: Option<usize> = None;
+    let mut named = [false; 4];
+    let text = uncommented(line);
+    let colon = match memchr(b':', text) {
+        Some(colon) => colon,
+        None => 0,
+    };
+    for word in Words::new(text) {
+        if word.start <= colon {
+            continue;
+        }
+        match said_of_height(word.text, suit) {
+            Said::Suit(place) => suit = Some(place),
+            Said::Height(place, height) if !named[place % 4] => {
+                heights[place % 4] = height;
+                named[place % 4] = true;
+                suit = None;
+            }
+            _ => {
+                bad = Some(bad.unwrap_or(word.start));
+                suit = None;
+            }
+        }
+    }
+    if let (Some(_), None) = (suit, bad) {
+        bad = Some(colon);
+    }
+    (heights, bad)
+}
+
+/// What a word of the foundations says.
+#[derive(Clone, Copy)]
+enum Said {
+    /// A suit whose height comes next.
+    Suit(usize),
+    Height(usize, u8),
+    Bad,
+}
+
+fn said_of_height(word: &[u8], suit: Option<usize>) -> Said {
+    if let (Some(card), None) = (named_card(word), suit) {
+        return Said::Height(usize::from(card.suit().number()), card.rank().number());
+    }
+    match (suit, word) {
+        (None, [letter]) => match suit_of(*letter) {
+            Some(place) => Said::Suit(place),
+            None => Said::Bad,
+        },
+        (None, [letter, b'0']) => match suit_of(*letter) {
+            Some(place) => Said::Height(place, 0),
+            None => Said::Bad,
+        },
+        (Some(place), _) => match height_of(word) {
+            Some(height) => Said::Height(place, height),
+            None => Said::Bad,
+        },
+        _ => Said::Bad,
+    }
+}
+
+fn suit_of(letter: u8) -> Option<usize> {
+    memchr(letter.to_ascii_uppercase(), b"CDHS")
+}
+
+// The height that a word says: 0, or a rank.
+fn height_of(word: &[u8]) -> Option<u8> {
+    match word {
+        b"10" => Some(10),
+        [letter] => match memchr(letter.to_ascii_uppercase(), b"0A23456789TJQK") {
+            Some(place) => Some(place as u8),
+            None => None,
+        },
+        _ => None,
+    }
+}
+
+// Where the stars of bold text stand right after the colon of a name, if there are some: they are no
+// empty places.
+fn bold_after_name(text: &[u8]) -> Option<usize> {
+    let colon = before_mark(b':', text).len();
+    if text.get(colon..).unwrap_or(b"").starts_with(b":**") {
+        Some(colon.saturating_add(1))
+    } else {
+        None
+    }
+}
