@@ -2,7 +2,7 @@
 
 boards       keys of canonical boards, passages, and lists carried through them
 collection   the records of a collection, read by fcanon's library or by the program
-schema       the tables and views of a store, and how older ones are brought up
+schema       the tables and views of a store
 store        what is asked of a store
 solver       looks for solutions by a solver of any kind
 commands     what the command fcanon-store does

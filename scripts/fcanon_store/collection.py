@@ -15,7 +15,7 @@ from types import ModuleType
 from typing import BinaryIO, Callable, Dict, Iterator, List, NamedTuple, Optional, Tuple
 
 from . import Fault
-from .boards import BOARD_BYTES, CELLS, GAMES, KEY_BYTES, Moves, Passage, board_of, packed
+from .boards import BOARD_BYTES, CELLS, GAMES, Moves, Passage, board_of
 
 PIECE_BYTES = 1 << 21  # what is read at once; a record is shorter
 RECORD_BYTES = 1 << 16
@@ -36,12 +36,11 @@ class Piece(NamedTuple):
 
 
 class Row(NamedTuple):
-    """What is read of an accepted record. A store keeps all but the canonical board, which its key has."""
+    """What is read of an accepted record."""
 
     name: str
     game: int
-    key: bytes
-    board: bytes
+    key: bytes  # its canonical board
     passage: str
     win: Optional[Moves]  # its first list that wins, as it is played on the canonical board
     line: int
@@ -95,11 +94,15 @@ class Library:
     """Reads by the Python package fcanon."""
 
     def __init__(self, calls: ModuleType):
-        self.board, self.error = calls.Board, calls.Error
-        self.canonicalize, self.pack = calls.canonicalize_all_with_passages, calls.pack_all
+        self.board, self.error, self.canonicalize = calls.Board, calls.Error, calls.canonicalize_all_with_passages
+        self.find_flaw = calls.find_flaw
         self.play = {">": calls.Board.play, ">>": calls.Board.play_run}
         self.patterns = [move_patterns(game) for game in range(len(GAMES))]
         self.numbers = {name.encode(): game for game, name in enumerate(GAMES)}
+
+    def is_closed(self, keys: bytes, game: str) -> bool:
+        """Whether keys are those of a closed list, from whose boards no list of moves wins."""
+        return len(keys) % BOARD_BYTES == 0 and not self.find_flaw(keys, game)
 
     def read(self, piece: Piece) -> Optional[Read]:
         """The rows of a piece, or nothing where a record is not plain."""
@@ -111,8 +114,8 @@ class Library:
         except (NotPlain, self.error):
             return None
         ways = self.ways(plain)
-        rows = [Row(name, game, key, board, passage, win and Passage.read(passage).to_canonical(win), at)
-                for (name, game, _, win), (key, board, passage), at in zip(plain, ways, lines_of(records, line))]
+        rows = [Row(name, game, key, passage, win and Passage.read(passage).to_canonical(win), at)
+                for (name, game, _, win), (key, passage), at in zip(plain, ways, lines_of(records, line))]
         return Read(rows, [], len(rows))
 
     def plain(self, record: bytes, number: int, first_game: str) -> Plain:
@@ -149,21 +152,16 @@ class Library:
             return False
         return board.is_won
 
-    def ways(self, plain: List[Plain]) -> List[Tuple[bytes, bytes, str]]:
-        """The keys of boards, their canonical boards, and the passages to these, in two calls for each game."""
-        found: List[Tuple[bytes, bytes, str]] = [(b"", b"", "")] * len(plain)
+    def ways(self, plain: List[Plain]) -> List[Tuple[bytes, str]]:
+        """The canonical boards of boards, and the passages to these, in one call for each game."""
+        found: List[Tuple[bytes, str]] = [(b"", "")] * len(plain)
         for game, name in enumerate(GAMES):
             places = [at for at, it in enumerate(plain) if it.game == game]
             boards, passages = self.canonicalize(b"".join([plain[at].board for at in places]), name)
-            keys = self.pack(boards, name)
-            ways = zip(cut(keys, KEY_BYTES), cut(boards, BOARD_BYTES), texts_of_passages(passages, game))
-            for at, way in zip(places, ways):
+            keys = (boards[at:at + BOARD_BYTES] for at in range(0, len(boards), BOARD_BYTES))
+            for at, way in zip(places, zip(keys, texts_of_passages(passages, game))):
                 found[at] = way
         return found
-
-
-def cut(text: bytes, size: int) -> Iterator[bytes]:
-    return (text[at:at + size] for at in range(0, len(text), size))
 
 
 def texts_of_passages(passages: bytes, game: int) -> Iterator[str]:
@@ -214,8 +212,7 @@ class Program:
     def row(self, columns: List[str], lists: List[str], line: int) -> Row:
         name, game, board, suits, order, cells, _, win = columns
         found = None if win == "-" else Moves(*lists[int(win) - 1].partition(" ")[::2])
-        canonical = board_of(board)
-        return Row(name, GAMES.index(game), packed(canonical), canonical, f"{suits} {order} {cells}", found, line)
+        return Row(name, GAMES.index(game), board_of(board), f"{suits} {order} {cells}", found, line)
 
 
 def lists_in(canonical: str) -> Iterator[List[str]]:

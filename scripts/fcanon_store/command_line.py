@@ -15,7 +15,7 @@ from .boards import GAMES
 from .solver import FREECELL_PROVER, FREECELL_SOLVER, UNSOLVABLE
 from .store import Store
 
-USAGE = "fcanon-store add|look|solve|export|query|stats|check STORE [OPTION ..]"
+USAGE = "fcanon-store add|look|solve|close|forget|export|query|stats|check STORE\n           [OPTION ..]"
 ABOUT = """Keeps positions with their records and solutions in the file STORE, a database
 of SQLite. Boards that are equivalent are one position: a solution of one is
 found from each other. `fcanon-store COMMAND --help` says more of a command."""
@@ -43,6 +43,10 @@ COMMANDS = {
                     "Print each record of collections with the names under which its position is known, and a list that wins"),
     "solve": Command(commands.solve, "write", "solver",
                      "Look for solutions of the positions that have none, by a solver; what fcanon accepts is kept at once"),
+    "close": Command(commands.close, "write", "keys",
+                     "Mark the positions of keys as unsolvable, where the library accepts these as those of a closed list"),
+    "forget": Command(commands.forget, "write", "forgotten",
+                      "Take records out, and what is known of positions that then have none; or solutions"),
     "export": Command(commands.export, "see", "which",
                       "Print records as a collection, each with the shortest solution, as it is played on its own board"),
     "query": Command(commands.query, "see", "which json",
@@ -91,6 +95,18 @@ def add_files(parser: argparse.ArgumentParser) -> None:
     parser.add_argument("files", metavar="FILE", nargs="*", help="a collection: standard input where none is named, or -")
 
 
+def add_keys(parser: argparse.ArgumentParser) -> None:
+    parser.add_argument("keys", metavar="FILE", nargs="+",
+                        help="the keys of a closed list, a file NAME.GAME.keys as fcanon-close makes them")
+
+
+def add_forgotten(parser: argparse.ArgumentParser) -> None:
+    one = parser.add_mutually_exclusive_group(required=True)
+    one.add_argument("--record", metavar="NAME", help="take out the records of this name")
+    one.add_argument("--source", metavar="FILE", help="take out the records that came from this file")
+    one.add_argument("--solutions", metavar="NAME", help="take out the solutions of the position of the record of this name")
+
+
 def add_variant(parser: argparse.ArgumentParser) -> None:
     parser.add_argument("--variant", choices=GAMES, default=GAMES[0], metavar="GAME",
                         help=f"the game of a first record without a header: {', '.join(GAMES)}")
@@ -127,7 +143,7 @@ def add_json(parser: argparse.ArgumentParser) -> None:
     parser.add_argument("--json", action="store_true", help="print JSON")
 
 
-OPTIONS = {"files": add_files, "variant": add_variant, "solver": add_solver, "which": add_which, "json": add_json}
+OPTIONS = {"files": add_files, "keys": add_keys, "forgotten": add_forgotten, "variant": add_variant, "solver": add_solver, "which": add_which, "json": add_json}
 
 
 def parser() -> Parser:

@@ -9,8 +9,8 @@ from contextlib import nullcontext
 from typing import BinaryIO, ContextManager, Iterable, Iterator, List, Optional, Tuple
 
 from . import Fault
-from .boards import GAMES, Moves, Passage, text_of, unpacked
-from .collection import Piece, Reader, Row, batches
+from .boards import BOARD_BYTES, GAMES, Moves, Passage, text_of
+from .collection import Piece, Reader, Row, batches, library
 from .solver import FREECELL_PROVER, FREECELL_SOLVER, Answer, Solver, answers
 from .store import Added, Limits, Position, Store
 
@@ -62,8 +62,10 @@ def looked_up(store: Store, row: Row) -> str:
     """What is printed of a record."""
     known = store.known(row.game, row.key)
     passage = Passage.read(row.passage)
-    lines = [f"@ {GAMES[row.game]} {row.name}", text_of(row.game, row.board, passage).rstrip("\n"),
+    lines = [f"@ {GAMES[row.game]} {row.name}", text_of(row.game, row.key, passage).rstrip("\n"),
              " ".join(["# known as", *known.names]) if known else "# unknown"]
+    if known and known.classes:
+        lines.append(f"# unsolvable: {known.classes} classes are closed")
     if known and known.solution:
         lines.append(str(passage.to_own(known.solution)))
     return "\n".join([*lines, ""])
@@ -89,7 +91,7 @@ class Progress:
     def __init__(self, store: Store, solver: str, limits: Limits) -> None:
         self.is_shown, self.began, self.shown = sys.stderr.isatty(), time.monotonic(), 0.0
         self.many = store.many_unsolved(solver, limits) if self.is_shown else 0
-        self.counts = {"solved": 0, "unsolvable": 0, "gave up": 0, "wrong": 0}
+        self.counts = {"solved": 0, "said unsolvable": 0, "gave up": 0, "wrong": 0}
 
     def count(self, answer: Answer) -> None:
         self.counts[answer.outcome] += 1
@@ -136,6 +138,45 @@ def solve(store: Store, words: argparse.Namespace) -> int:
     return 0
 
 
+# ---- closing
+
+
+def close(store: Store, words: argparse.Namespace) -> int:
+    """Marks the positions of keys as unsolvable, once the library accepted these as those of a closed list."""
+    reader = library()
+    if not reader:
+        raise Fault("closing needs fcanon's library for Python: docs/LIBRARY.md says how it is installed")
+    status, marked, classes = 0, 0, 0
+    for path in words.keys:
+        with opened(path) as stream:
+            data = stream.read()
+        game = next((number for number, name in enumerate(GAMES) if path.endswith(f".{name}.keys")), None)
+        if game is None or not reader.is_closed(data, GAMES[game]):
+            say([f"not closed: {path}\n"])
+            status = 1
+            continue
+        keys = [data[at:at + BOARD_BYTES] for at in range(0, len(data), BOARD_BYTES)]
+        marked += store.close_positions(((game, key) for key in keys), len(keys), shown(path))
+        classes += len(keys)
+    say([f"classes {classes} newly unsolvable {marked}\n"])
+    return status
+
+
+# ---- forgetting
+
+
+def forget(store: Store, words: argparse.Namespace) -> int:
+    """Takes out records, and with the last record of a position what is known of it; or the solutions of a record's position."""
+    if words.solutions is not None:
+        many, what = store.forget_solutions(words.solutions), "solutions"
+    elif words.source is not None:
+        many, what = store.forget_records("source = (select id from source where name = ?)", words.source), "records"
+    else:
+        many, what = store.forget_records("name = ?", words.record), "records"
+    say([f"{what} {many} taken out\n"])
+    return 0 if many else 1
+
+
 # ---- export, query, stats
 
 
@@ -164,7 +205,7 @@ def export(store: Store, words: argparse.Namespace) -> int:
 
 def exported(store: Store, game: int, key: bytes, name: str, passage: str, position: int) -> str:
     way, solution = Passage.read(passage), store.solution(position)
-    text = f"@ {GAMES[game]} {name}\n" + text_of(game, unpacked(game, key), way)
+    text = f"@ {GAMES[game]} {name}\n" + text_of(game, key, way)
     return text + (f"{way.to_own(solution)}\n" if solution else "")
 
 
@@ -182,7 +223,12 @@ def queried(store: Store, as_json: bool, game: int, key: bytes, name: str, passa
              "source": source, "line": line}
     if as_json:
         return json.dumps(found) + "\n"
-    return "\t".join("-" if it is None else str(it) for it in found.values()) + "\n"
+    return "\t".join("-" if it is None else escaped(str(it)) for it in found.values()) + "\n"
+
+
+def escaped(text: str) -> str:
+    """A text in which %XX stands for each byte that would part fields or lines, and for %."""
+    return "".join(f"%{ord(sign):02X}" if sign == "%" or ord(sign) < 32 or ord(sign) == 127 else sign for sign in text)
 
 
 def stats(store: Store, words: argparse.Namespace) -> int:
@@ -220,14 +266,14 @@ def check(store: Store, words: argparse.Namespace) -> int:
 def solutions_to_check(store: Store) -> Iterator[Tuple[Position, str]]:
     """Each position with a solution, and its record: the canonical board, and the solution."""
     for position, game, key, form, moves in store.solutions():
-        text = text_of(game, unpacked(game, key), Passage.identity(game))
+        text = text_of(game, key, Passage.identity(game))
         yield Position(position, game, key), f"@ {GAMES[game]} {position}\n{text}{Moves(form, moves)}\n"
 
 
 def records_to_check(store: Store) -> Iterator[Tuple[Position, str]]:
     """Each record, with its position."""
     for game, key, name, passage, position, *_ in store.records("true", ()):
-        text = text_of(game, unpacked(game, key), Passage.read(passage))
+        text = text_of(game, key, Passage.read(passage))
         yield Position(position, game, key), f"@ {GAMES[game]} {name}\n{text}"
 
 

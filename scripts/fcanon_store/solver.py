@@ -1,7 +1,8 @@
 """Looks for solutions by a solver of any kind: a program that is given a board and prints what `import` reads.
 
 Where it finds none another one may be asked, the prover, which tries all moves that the game allows. If that says that there
-is no solution, and looked at fewer boards than its limit, the position is marked.
+is no solution, and looked at fewer boards than its limit, the position is marked as said to have none: a solver's word is no
+proof, and `fcanon-store close` takes proofs.
 """
 
 import os
@@ -17,7 +18,7 @@ from threading import Lock
 from typing import Iterable, Iterator, List, NamedTuple, Optional, Set
 
 from . import Fault
-from .boards import GAMES, Moves, Passage, text_of, unpacked
+from .boards import GAMES, Moves, Passage, text_of
 from .collection import Piece, Reader, printed
 from .store import Limits, Position
 
@@ -71,8 +72,7 @@ class Solver:
 
     def solve(self, position: Position) -> Answer:
         """What is found of a position, whose canonical board is given."""
-        canonical = unpacked(position.game, position.key)
-        board = text_of(position.game, canonical, Passage.identity(position.game))
+        board = text_of(position.game, position.key, Passage.identity(position.game))
         answer = Answer(position.id, None, "gave up", self.name)
         with tempfile.NamedTemporaryFile("w", suffix=".board") as file:
             file.write(board)
@@ -83,7 +83,7 @@ class Solver:
                 if answer.solution:
                     return answer
         is_shown = len(self.templates) > 1 and said is not None and self.is_unsolvable(said)
-        return answer._replace(outcome="unsolvable" if is_shown else answer.outcome, finder=self.name)
+        return answer._replace(outcome="said unsolvable" if is_shown else answer.outcome, finder=self.name)
 
     def is_unsolvable(self, said: str) -> bool:
         found = self.unsolvable.search(said)

@@ -15,7 +15,8 @@ from .collection import Row
 POSITION = "select id from position where game = ? and key = ?"
 
 UNSOLVED = """from position where id > ? and not exists (select 1 from solution where position = id)
-    and not exists (select 1 from attempt where position = id and (outcome = 'unsolvable'
+    and not exists (select 1 from closure where position = id)
+    and not exists (select 1 from attempt where position = id and (outcome = 'said unsolvable'
         or solver = ? and boards >= ? and (seconds >= ? or seconds = 0) and (? or seconds = 0)))"""
 
 
@@ -37,10 +38,12 @@ class Position(NamedTuple):
 
 
 class Known(NamedTuple):
-    """What is known of a position: the names of its records, and its shortest solution."""
+    """What is known of a position: the names of its records, its shortest solution, and of how many classes the closed collection
+    has that proves it to have none."""
 
     names: List[str]
     solution: Optional[Moves]
+    classes: Optional[int]
 
 
 class Limits(NamedTuple):
@@ -59,7 +62,7 @@ class Store:
     """A store that is open: `make` also makes one where there is no file, `write` and `read` do not."""
 
     def __init__(self, path: str, use: str, wait: float):
-        self.path = path
+        self.path, self.keeps_log = path, use != "read"
         if use != "make" and not os.path.exists(path):
             raise Fault(f"there is no store {path}: fcanon-store add makes one")
         try:
@@ -82,18 +85,18 @@ class Store:
         return table
 
     def begin(self, use: str, wait: float) -> None:
-        """Makes an empty database a store, brings up an older one, and refuses all others."""
+        """Makes an empty database a store, and refuses what is no store of this version."""
         if use == "make" and not self.number("application_id"):
             with self.writing():
                 if not self.number("application_id") and not self.one("select count(*) from sqlite_master"):
                     schema.create(self.table)
         if self.number("application_id") != schema.MARK:
             raise Fault(f"{self.path} is a database of another program: name another file")
-        if self.number("user_version") > schema.VERSION:
-            raise Fault(f"{self.path} is a store of version {self.number('user_version')}, and this fcanon-store knows "
-                        f"{schema.VERSION}: install a newer fcanon")
-        if self.number("user_version") < schema.VERSION:
-            Store(self.path, "write", wait).table.close() if use == "read" else self.bring_up()
+        version = self.number("user_version")
+        if version != schema.VERSION:
+            advice = "install a newer fcanon" if version > schema.VERSION else \
+                "`fcanon-store export` of the fcanon that made it prints what `add` puts into a new one"
+            raise Fault(f"{self.path} is a store of version {version}, and this fcanon-store knows {schema.VERSION}: {advice}")
         if use != "read":
             self.keep_log(wait)
 
@@ -110,19 +113,13 @@ class Store:
                     raise
             time.sleep(0.01)
 
-    def bring_up(self) -> None:
-        """Makes an older store one of this version. The room that its tables had is given back where that can be."""
-        with self.writing():
-            version = self.number("user_version")
-            if version == schema.VERSION:  # another run has done so by now
-                return
-            schema.bring_up(self.table, version)
-        with suppress(sqlite3.Error):
-            self.table.execute("vacuum")
-            self.table.execute("pragma wal_checkpoint(truncate)")
-
     def close(self) -> None:
-        """Closes the store, whose log SQLite then writes into it; a fault of that loses nothing."""
+        """Closes the store, whose log SQLite then writes into it; a fault of that loses nothing. Where no other run has it open it is
+        one file again, beside which reading leaves none."""
+        with suppress(sqlite3.Error):
+            if self.keeps_log:
+                self.table.execute("pragma busy_timeout = 0")
+                self.table.execute("pragma journal_mode = delete")
         with suppress(sqlite3.Error):
             self.table.close()
 
@@ -203,6 +200,32 @@ class Store:
                            (position, it.length, it.form, it.moves, finder))
         return is_first
 
+    def close_positions(self, keys: Iterable[Tuple[int, bytes]], classes: int, file: str) -> int:
+        """Marks the positions that have one of these games and keys as unsolvable, by a closed collection of so many classes, and
+        returns how many were not marked."""
+        with self.writing():
+            return self.changed("insert or ignore into closure select id, ?, date('now'), ? from position where game = ? and key = ?",
+                                ((classes, file, *it) for it in keys))
+
+    # ---- forgetting
+
+    def forget_records(self, which: str, name: str) -> int:
+        """Takes out the records for which this holds, and all that is known of positions without a record; returns how many they
+        were."""
+        alone = "not exists (select 1 from record where record.position = {})"
+        with self.writing():
+            many = self.changed(f"delete from record where {which}", [(name,)])
+            for table in ("solution", "attempt", "closure"):
+                self.table.execute(f"delete from {table} where {alone.format(f'{table}.position')}")
+            self.table.execute(f"delete from position where {alone.format('position.id')}")
+            self.table.execute("delete from source where not exists (select 1 from record where record.source = source.id)")
+        return many
+
+    def forget_solutions(self, name: str) -> int:
+        """Takes out the solutions of the positions that have a record of this name, and returns how many they were."""
+        with self.writing():
+            return self.changed("delete from solution where position in (select position from record where name = ?)", [(name,)])
+
     # ---- looking up
 
     def known(self, game: int, key: bytes) -> Optional[Known]:
@@ -210,7 +233,8 @@ class Store:
         if found is None:
             return None
         names = self.table.execute("select distinct name from record where position = ? order by name", found)
-        return Known([name for name, in names], self.solution(found[0]))
+        closed = self.table.execute("select classes from closure where position = ?", found).fetchone()
+        return Known([name for name, in names], self.solution(found[0]), closed and closed[0])
 
     def solution(self, position: int) -> Optional[Moves]:
         """The shortest solution of a position."""
@@ -253,8 +277,9 @@ class Store:
             "records": self.one(f"select count(*) from record where {of_game}", (game,)),
             "solved": self.one(f"select count(distinct position) from solution where {of_game}", (game,)),
             "solutions": self.one(f"select count(*) from solution where {of_game}", (game,)),
-            "unsolvable": self.one(
-                f"select count(distinct position) from attempt where outcome = 'unsolvable' and {of_game}", (game,)),
+            "unsolvable": self.one(f"select count(*) from closure where {of_game}", (game,)),
+            "said unsolvable": self.one(
+                f"select count(distinct position) from attempt where outcome = 'said unsolvable' and {of_game}", (game,)),
             "moves": None if least is None else {"least": least, "most": most, "mean": round(mean, 1)},
         }
 
@@ -277,6 +302,5 @@ FAULTS = {
     "disk is full": "could not be written: the disk is full; what was added before is kept",
     "disk I/O error": "could not be written or read: disk I/O error; what was added before is kept",
     "malformed": "is damaged: `sqlite3 STORE .recover | sqlite3 NEW` saves what can be read",
-    "user-defined function": "is an older store with a board that is none: it was not brought up, and is as it was",
     "file is not a database": "is a file of another program: name another file",
 }
