@@ -20,6 +20,12 @@ CALL(uint32_t, fcanon_key,
 CALL(uint32_t, fcanon_keys,
      (uint32_t game, fcanon_board *boards, size_t count, size_t *place),
      (game, boards, count, place))
+CALL(uint32_t, fcanon_closed,
+     (uint32_t game, const fcanon_board *keys, size_t count, size_t *place, fcanon_move *move),
+     (game, keys, count, place, move))
+CALL(uint32_t, fcanon_unsolvable,
+     (uint32_t game, const fcanon_board *board, const fcanon_board *keys, size_t count),
+     (game, board, keys, count))
 CALL(uint32_t, fcanon_hash,
      (uint32_t game, const fcanon_board *board, uint8_t hash[16]),
      (game, board, hash))
@@ -32,12 +38,6 @@ CALL(uint32_t, fcanon_move_sums,
 CALL(uint32_t, fcanon_class_hash,
      (uint32_t game, const fcanon_class_sums *sums, uint8_t hash[16]),
      (game, sums, hash))
-CALL(uint32_t, fcanon_pack,
-     (uint32_t game, const fcanon_board *board, fcanon_packed *packed),
-     (game, board, packed))
-CALL(uint32_t, fcanon_unpack,
-     (uint32_t game, const fcanon_packed *packed, fcanon_board *board),
-     (game, packed, board))
 CALL(uint32_t, fcanon_child,
      (uint32_t game, const fcanon_board *board, const fcanon_move *move, fcanon_board *canonical,
       fcanon_passage *passage),

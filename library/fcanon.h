@@ -4,11 +4,11 @@
  *
  * Answers. A call answers 0 (FCANON_DONE) if and only if it did what is said here, and each other
  * answer if and only if its reason holds. Then it has written nothing, except the place of a fault
- * (fcanon_read), and the keys before it (fcanon_keys). Of several reasons it answers the first, in
+ * (fcanon_read), the keys before it (fcanon_keys), and the place and the move of fcanon_closed. Of several reasons it answers the first, in
  * the order of the arguments.
  *
- * Pointers. A pointer may be null only before a size of 0: that of a text, of boards of fcanon_keys, and
- * of room for moves, runs and keys. What a call writes must not overlap anything else that is handed to
+ * Pointers. A pointer may be null only before a size of 0: that of a text, of boards of fcanon_keys, of
+ * keys, and of room for moves, runs and keys. What a call writes must not overlap anything else that is handed to
  * that call: only fcanon_play and fcanon_play_run work in place on their board, fcanon_carry and
  * fcanon_carry_run on their move, and fcanon_move_sums on its sums.
  * size_t, uint32_t and sums must be aligned as C aligns them; boards, passages, moves and texts may be
@@ -19,9 +19,9 @@
  * may run at once, as long as none writes what another uses.
  *
  * What is stable. A later version may add calls and answers, and then FCANON_VERSION is greater.
- * As long as the SONAME is the same, no call, type or number of this header changes its meaning.
- * Nor do the bytes of boards, keys, packed boards, hashes of both kinds, passages and moves: they may be
- * kept in files.
+ * As long as the first part of the release is the same, and with it the SONAME, no call, type or number
+ * of this header changes its meaning.
+ * Nor do the bytes of boards, keys, hashes of both kinds, passages and moves: they may be kept in files.
  * The words of answers may change.
  */
 #ifndef FCANON_H
@@ -36,9 +36,9 @@
 #define FCANON_RELEASE "@RELEASE@"
 #define FCANON_RELEASE_NUMBER @RELEASE_NUMBER@
 
-/* The version of the calls, which is greater where one was added, and else that of the release before;
- * fcanon_version() answers that of the library. */
-#define FCANON_VERSION 4
+/* The version of the calls, 100 times the first part of the release and the second, of which one is greater
+ * where a call was added; fcanon_version() answers that of the library. */
+#define FCANON_VERSION 100
 
 /* What compilers and linkers are told of the calls. A program may define two of these before this header:
  * FCANON_EXPORT, as __declspec(dllimport), and FCANON_CHECKED as nothing, where it leaves answers unread
@@ -118,12 +118,6 @@ typedef struct fcanon_class_sums {
     uint64_t sums[24][2];
 } fcanon_class_sums;
 
-/* A board in 32 bytes: the same for boards that differ in the order of their columns and of their cells
- * alone. */
-typedef struct fcanon_packed {
-    uint8_t bytes[32]; /* one number, its lowest byte first */
-} fcanon_packed;
-
 /* What a card lies on, in place of the byte of a card: 1 to 52 is that card. */
 #define FCANON_ON_FOOT 0  /* the foot of a column */
 #define FCANON_ON_CELL 53 /* a cell */
@@ -144,6 +138,13 @@ enum fcanon_answer {
     FCANON_NO_DEAL,    /* the game has no deal with this number */
     FCANON_NO_COLUMN,  /* no column has this digit */
     FCANON_NO_ROOM,    /* the moves are more than there is room for */
+    /* why boards are not those of a closed list, by fcanon_closed; of two of them by fcanon_unsolvable */
+    FCANON_NOT_CANONICAL = 16, /* a board is not its own key */
+    FCANON_NOT_ASCENDING,      /* it is not above the one before it */
+    FCANON_WON,                /* it is won */
+    FCANON_OPEN,               /* a move leads to a board whose key is not among them */
+    FCANON_NOT_CLOSED,         /* they are not those of a closed list */
+    FCANON_NOT_AMONG,          /* they are, but the board's key is not among them */
     /* why the game refuses a move; of several reasons the first */
     FCANON_SAME_PILE = 32,
     FCANON_EMPTY_SOURCE,
@@ -232,19 +233,6 @@ FCANON_CALL uint32_t fcanon_move_sums(uint32_t game, uint8_t card, uint8_t from,
  * n * n / 2^65; and where a wrong match would do harm, compare the keys. */
 FCANON_CALL uint32_t fcanon_class_hash(uint32_t game, const fcanon_class_sums *sums, uint8_t hash[16]);
 
-/* Packs a board into 32 bytes. Two boards of a game have the same if and only if orders of columns and
- * cells lead from the one to the other; so two boards have one key if and only if their keys are packed
- * into the same bytes. These are a number, its lowest byte first, which has a digit for each card, that of card 1
- * the lowest. The digit of card c is 0 to c + 8, and at most 2 * c: 0 where the card is home, else one more
- * than the bytes less than c before it in this row: the cards in cells, the least first, and 0; then of each
- * column its cards, and 0. The columns come in the order of their least cards, empty ones last. */
-FCANON_CALL uint32_t fcanon_pack(uint32_t game, const fcanon_board *board, fcanon_packed *packed);
-
-/* The board that was packed, with its columns in the order of their least cards and its cells in that of
- * their cards, empty ones last. Its key is that of the board that was packed. Where no board of the game
- * is packed into these bytes, the answer is FCANON_NO_BOARD. */
-FCANON_CALL uint32_t fcanon_unpack(uint32_t game, const fcanon_packed *packed, fcanon_board *board);
-
 /* The canonical board of the board after a move, and the passage to it from the board after the
  * move: fcanon_play, and then fcanon_canon. The board stays. */
 FCANON_CALL uint32_t fcanon_child(uint32_t game, const fcanon_board *board, const fcanon_move *move,
@@ -319,6 +307,21 @@ FCANON_CALL_NONNULL(2, 5) uint32_t fcanon_run_moves(uint32_t game, const fcanon_
  * them. */
 FCANON_CALL_NONNULL(2, 7) uint32_t fcanon_children(uint32_t game, const fcanon_board *board,
     fcanon_move *moves, size_t moves_room, fcanon_board *keys, size_t keys_room, size_t *count);
+
+/* Whether keys are those of a closed list: they are canonical boards, each above the one before it by
+ * memcmp, none is won, and each move of one card leads from each to a board whose key is among them. Then
+ * no list of moves, of one card or of several, wins from any of them. Nothing is searched: each move is
+ * tried, and the key after it looked up. Where they are not, *place is the index of a key and the answer
+ * what is wrong with it: of the first that is no board, not canonical or not ascending; and where there
+ * is none, of the first that is won or has a move that leads out, which is the first in the order of
+ * fcanon_moves and goes into *move. No other answer says that a board can be won. */
+FCANON_CALL_NONNULL(4, 5) uint32_t fcanon_closed(uint32_t game, const fcanon_board *keys, size_t count,
+    size_t *place, fcanon_move *move);
+
+/* Whether keys show that no list of moves wins from the board: they are those of a closed list, as
+ * fcanon_closed says it, and the key of the board is among them. */
+FCANON_CALL_NONNULL(2) uint32_t fcanon_unsolvable(uint32_t game, const fcanon_board *board,
+    const fcanon_board *keys, size_t count);
 
 /* Microsoft's deal with this number, 1 to 2,147,483,647, of FreeCell and Baker's Game. */
 FCANON_CALL uint32_t fcanon_deal(uint32_t game, uint32_t number, fcanon_board *board);

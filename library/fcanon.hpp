@@ -5,8 +5,8 @@
  *   std::cout << there.board.text() << "> " << there.passage.carry(fcanon::Move("3a")).text() << '\n';
  *
  * fcanon.h says what each call does. Here every answer but 0 is thrown as fcanon::Error; no value that
- * was made holds what its game forbids. A Board, a PackedBoard and a Passage know their game, and hold the
- * bytes that fcanon.h describes; they and moves are values: they are copied, compared by == and by <, and
+ * was made holds what its game forbids. A Board and a Passage know their game, and hold the bytes that
+ * fcanon.h describes; they and moves are values: they are copied, compared by == and by <, and
  * hashed by std::hash, by all their bytes. A call takes memory where it gives a string or a vector, and is not
  * noexcept; nothing is kept, so that calls of several threads may run at once on values of their own.
  *
@@ -201,7 +201,6 @@ private:
     fcanon_class_sums held;
 };
 
-class PackedBoard;
 struct Canonical;
 struct Children;
 
@@ -246,6 +245,7 @@ public:
     /* The canonical board after a move, and the passage to it from the board after the move. */
     Canonical child(Move move) const;
     Children children() const;
+    bool is_unsolvable(Span<const fcanon_board> keys) const;
     std::array<std::uint8_t, 16> hash() const {
         std::array<std::uint8_t, 16> made;
         detail::must(fcanon_hash(number, &held, made.data()));
@@ -256,8 +256,6 @@ public:
         detail::must(fcanon_sums(number, &held, &made.held));
         return made;
     }
-    /* The board in 32 bytes, of which PackedBoard::board makes it again. */
-    PackedBoard packed() const;
     /* The passage to another board; FCANON_APART is thrown where there is none. */
     Passage passage_to(const Board &other) const {
         if (number != other.number) throw Error(FCANON_APART);
@@ -320,39 +318,10 @@ public:
     }
 
 private:
-    friend class PackedBoard;
     explicit Board(std::uint32_t game) noexcept : number(game), held() {}
     std::uint32_t number;
     fcanon_board held;
 };
-
-/* A board in 32 bytes: the same for boards that differ in the order of their columns and of their cells alone. */
-class PackedBoard {
-public:
-    /* The packed board of these bytes. */
-    PackedBoard(std::uint32_t game, const fcanon_packed &bytes) : number(game), held(bytes) { board(); }
-
-    std::uint32_t game() const noexcept { return number; }
-    const fcanon_packed &bytes() const noexcept { return held; }
-    /* The board, with its columns and its cells in order: as fcanon_unpack. */
-    Board board() const {
-        Board made(number);
-        detail::must(fcanon_unpack(number, &held, &made.held));
-        return made;
-    }
-
-private:
-    friend class Board;
-    explicit PackedBoard(std::uint32_t game) noexcept : number(game), held() {}
-    std::uint32_t number;
-    fcanon_packed held;
-};
-
-inline PackedBoard Board::packed() const {
-    PackedBoard made(number);
-    detail::must(fcanon_pack(number, &held, &made.held));
-    return made;
-}
 
 struct Canonical {
     Board board;
@@ -392,6 +361,28 @@ inline void make_keys(std::uint32_t game, Span<fcanon_board> boards) {
     if (std::uint32_t answer = fcanon_keys(game, boards.data(), boards.size(), &place)) throw Error(answer, place);
 }
 
+/* What is wrong with keys, or FCANON_DONE; with which of them, and for FCANON_OPEN the move that leads out. */
+struct Flaw {
+    std::uint32_t answer;
+    std::size_t place;
+    Move move;
+};
+
+/* Whether keys are those of a closed list, as fcanon_closed says it; if not, what is wrong with them. */
+inline Flaw find_flaw(std::uint32_t game, Span<const fcanon_board> keys) {
+    Flaw flaw = {FCANON_DONE, nowhere, Move()};
+    flaw.answer = fcanon_closed(game, keys.data(), keys.size(), &flaw.place, &flaw.move);
+    if (flaw.answer == FCANON_NO_GAME) throw Error(flaw.answer);
+    return flaw;
+}
+
+/* Whether keys show that no list of moves wins from the board, as fcanon_unsolvable says it. */
+inline bool Board::is_unsolvable(Span<const fcanon_board> keys) const {
+    std::uint32_t answer = fcanon_unsolvable(number, &held, keys.data(), keys.size());
+    if (answer != FCANON_NOT_CLOSED && answer != FCANON_NOT_AMONG) detail::must(answer);
+    return answer == FCANON_DONE;
+}
+
 /* Two values are one if all their bytes are, and their games. */
 inline bool operator==(const Move &one, const Move &other) noexcept { return !detail::order(one, other); }
 inline bool operator<(const Move &one, const Move &other) noexcept { return detail::order(one, other) < 0; }
@@ -409,39 +400,23 @@ inline bool operator==(const Board &one, const Board &other) noexcept {
 inline bool operator<(const Board &one, const Board &other) noexcept {
     return one.game() != other.game() ? one.game() < other.game() : detail::order(one.bytes(), other.bytes()) < 0;
 }
-inline bool operator==(const PackedBoard &one, const PackedBoard &other) noexcept {
-    return one.game() == other.game() && !detail::order(one.bytes(), other.bytes());
-}
-inline bool operator<(const PackedBoard &one, const PackedBoard &other) noexcept {
-    return one.game() != other.game() ? one.game() < other.game() : detail::order(one.bytes(), other.bytes()) < 0;
-}
 #ifndef __cpp_impl_three_way_comparison
 inline bool operator!=(const Move &one, const Move &other) noexcept { return !(one == other); }
 inline bool operator!=(const Run &one, const Run &other) noexcept { return !(one == other); }
 inline bool operator!=(const Passage &one, const Passage &other) noexcept { return !(one == other); }
 inline bool operator!=(const Board &one, const Board &other) noexcept { return !(one == other); }
-inline bool operator!=(const PackedBoard &one, const PackedBoard &other) noexcept { return !(one == other); }
 #endif
 
 } // namespace fcanon
 
-/* The types of fcanon.h, for tables of the bytes of boards and of packed boards. */
+/* The type of fcanon.h, for tables of the bytes of boards. */
 inline bool operator==(const fcanon_board &one, const fcanon_board &other) noexcept {
     return fcanon_equal(&one, &other);
-}
-inline bool operator==(const fcanon_packed &one, const fcanon_packed &other) noexcept {
-    return !fcanon::detail::order(one, other);
 }
 
 namespace std {
 template <> struct hash<fcanon_board> {
     size_t operator()(const fcanon_board &it) const noexcept { return fcanon::detail::hash(it, 0); }
-};
-template <> struct hash<fcanon_packed> {
-    size_t operator()(const fcanon_packed &it) const noexcept { return fcanon::detail::hash(it, 0); }
-};
-template <> struct hash<fcanon::PackedBoard> {
-    size_t operator()(const fcanon::PackedBoard &it) const noexcept { return fcanon::detail::hash(it.bytes(), it.game()); }
 };
 template <> struct hash<fcanon::Board> {
     size_t operator()(const fcanon::Board &it) const noexcept { return fcanon::detail::hash(it.bytes(), it.game()); }

@@ -8,4 +8,4 @@ export default async function init(source = new URL('fcanon.wasm', import.meta.u
 }
 
 export { GAMES } from './calls.js';
-export { Board, ClassSums, FcanonError, Passage, canonicalizeAll } from './fcanon.js';
+export { Board, FcanonError, Passage, canonicalizeAll, findFlaw } from './fcanon.js';

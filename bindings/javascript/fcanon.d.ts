@@ -45,20 +45,6 @@ export class Passage {
   toString(): string;
 }
 
-/** The sums of a board, from which the hash of its class is made. They never change. structuredClone keeps none of them: post
- * their board. */
-export class ClassSums {
-  private constructor();
-  readonly game: Game;
-  /** The sums when this card, 1 to 52, lies on the one no more, but on the other. A card lies on another card, 1 to 52, on the
-   * foot of a column, 0, in a cell, 53, or at home, 54, from where none comes back. */
-  moved(card: number, from: number, onto: number): ClassSums;
-  /** A hash of the board's class in 16 bytes, the same in each run and on each machine: equivalent boards have one. */
-  classHash(): Uint8Array;
-  /** Whether the sums are the same. */
-  equals(other: ClassSums): boolean;
-}
-
 /** The bytes of the canonical boards of boards, of which each is 72 bytes. */
 export function canonicalizeAll(boards: Uint8Array, game?: Game): Uint8Array;
 
@@ -71,9 +57,6 @@ export class Board {
   static deal(number: number, game?: Game): Board;
   /** The board of these 72 bytes, which fcanon.h describes. */
   static fromBytes(bytes: Uint8Array, game?: Game): Board;
-  /** The board of these 32 bytes, which `packed` gives, with its columns in the order of their least cards and its cells in
-   * that of their cards, empty ones last. */
-  static fromPacked(bytes: Uint8Array, game?: Game): Board;
   readonly game: Game;
   /** Its text. */
   readonly board: string;
@@ -85,17 +68,12 @@ export class Board {
   readonly isWon: boolean;
   /** Whether the boards are one, card for card. */
   equals(other: Board): boolean;
-  /** The board in 32 bytes, the same for boards that differ in the order of their columns and of their cells alone: those of
-   * canonical boards are short keys. */
-  packed(): Uint8Array;
   /** The canonical board of all that are equivalent to this one. */
   canonical(): Board;
   /** The canonical board, and the passage to it. */
   canonicalize(): { board: Board; passage: Passage };
   /** A hash of the canonical board in 16 bytes, the same in each run and on each machine. */
   canonicalHash(): Uint8Array;
-  /** The sums of the board, which a search moves with it to hash its class. */
-  classSums(): ClassSums;
   /** The canonical board of the board after a move of one card, and the passage to it. */
   child(move: string): { board: Board; passage: Passage };
   /** The moves of one card that the game allows. */
@@ -106,6 +84,8 @@ export class Board {
   children(): { move: string; board: Board }[];
   /** The renamings that with some orders lead from the board to itself; the first is 'CDHS'. */
   symmetries(): string[];
+  /** Whether keys of a closed list, of 72 bytes each, show that no list of moves wins from the board. */
+  isUnsolvable(keys: Uint8Array): boolean;
   /** The passage to another board, or null if that is not equivalent. */
   passageTo(other: Board): Passage | null;
   /** The board after a move of one card, as '3a'. */
@@ -123,3 +103,9 @@ export class Board {
   /** The board as `fcanon show` prints it. */
   toString(): string;
 }
+
+/** What is wrong with keys of 72 bytes each that are said to be those of a closed list, with which of them, and for answer 19
+ * the move that leads out; or null: then no list of moves wins from the board of any of them. */
+export function findFlaw(
+  keys: Uint8Array, game?: Game,
+): { answer: number; reason: string; place: number; move: string | null } | null;

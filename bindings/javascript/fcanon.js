@@ -6,6 +6,7 @@ import {
 } from './calls.js';
 
 const MOST_SYMMETRIES = 24;
+const [OPEN, NOT_CLOSED, NOT_AMONG] = [19, 20, 21];
 
 export class FcanonError extends Error {
   constructor(answer, place = null) {
@@ -126,35 +127,6 @@ export class Passage {
   }
 }
 
-// The sums of a board, which a search moves with it.
-export class ClassSums {
-  #sums;
-
-  constructor(sums, game) {
-    if (!(sums instanceof Made)) throw new TypeError('write board.classSums()');
-    this.#sums = sums.bytes;
-    this.game = game;
-    Object.freeze(this);
-  }
-
-  moved(card, from, onto) {
-    if (![card, from, onto].every((it) => Number.isInteger(it) && it >= 0 && it < 256)) throw new FcanonError(3);
-    const sums = this.#sums.slice();
-    call('move_sums', this.game, card, from, onto, sums);
-    return new ClassSums(new Made(sums), this.game);
-  }
-
-  classHash() {
-    const hash = new Uint8Array(16);
-    call('class_hash', this.game, this.#sums.slice(), hash);
-    return hash;
-  }
-
-  equals(other) {
-    return this.game === other.game && this.#sums.every((byte, at) => byte === other.#sums[at]);
-  }
-}
-
 // The bytes of the board that a text spells.
 function bytesOf(text, game) {
   const bytes = typeof text === 'string' ? new TextEncoder().encode(text) : Uint8Array.from(text);
@@ -171,7 +143,7 @@ export function canonicalizeAll(boards, game = 'freecell') {
   return keys;
 }
 
-// The bytes of a board, or of sums, that a call wrote; no other file can make one.
+// The bytes of a board that a call wrote; no other file can make one.
 class Made {
   constructor(bytes) {
     this.bytes = bytes;
@@ -201,13 +173,6 @@ export class Board {
     return new Board(new Made(board), game);
   }
 
-  static fromPacked(bytes, game = 'freecell') {
-    if (bytes.length !== 32) throw new FcanonError(4);
-    const board = new Uint8Array(72);
-    call('unpack', game, Uint8Array.from(bytes), board);
-    return new Board(new Made(board), game);
-  }
-
   get bytes() {
     return this.#bytes.slice();
   }
@@ -232,12 +197,6 @@ export class Board {
     return this.game === other.game && this.#bytes.every((byte, at) => byte === other.#bytes[at]);
   }
 
-  packed() {
-    const packed = new Uint8Array(32);
-    call('pack', this.game, this.bytes, packed);
-    return packed;
-  }
-
   canonical() {
     const board = new Uint8Array(72);
     call('key', this.game, this.bytes, board);
@@ -248,12 +207,6 @@ export class Board {
     const hash = new Uint8Array(16);
     call('hash', this.game, this.bytes, hash);
     return hash;
-  }
-
-  classSums() {
-    const sums = new Uint8Array(384);
-    call('sums', this.game, this.bytes, sums);
-    return new ClassSums(new Made(sums), this.game);
   }
 
   canonicalize() {
@@ -299,6 +252,16 @@ export class Board {
     return letters.slice(0, 4 * numberIn(count)).match(/.{4}/g);
   }
 
+  isUnsolvable(keys) {
+    try {
+      call('unsolvable', this.game, this.bytes, keys, BigInt(keys.length / 72));
+    } catch (error) {
+      if (error.answer === NOT_CLOSED || error.answer === NOT_AMONG) return false;
+      throw error;
+    }
+    return true;
+  }
+
   passageTo(other) {
     if (this.game !== other.game) return null;
     const passage = new Uint8Array(20);
@@ -342,4 +305,17 @@ export class Board {
     call('write', this.game, this.bytes, text);
     return textOf(text);
   }
+}
+
+// What is wrong with keys of a list that is said to be closed, or null.
+export function findFlaw(keys, game = 'freecell') {
+  const [place, move] = [new Uint8Array(8), new Uint8Array(2)];
+  try {
+    call('closed', game, keys, BigInt(keys.length / 72), place, move);
+  } catch (error) {
+    if (error.answer === 1) throw error;
+    const { answer, reason } = error;
+    return { answer, reason, place: numberIn(place), move: answer === OPEN ? nameOf(move) : null };
+  }
+  return null;
 }

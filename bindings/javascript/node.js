@@ -8,4 +8,4 @@ start(new WebAssembly.Module(readFileSync(new URL('fcanon.wasm', import.meta.url
 export default async function init() {}
 
 export { GAMES } from './calls.js';
-export { Board, ClassSums, FcanonError, Passage, canonicalizeAll } from './fcanon.js';
+export { Board, FcanonError, Passage, canonicalizeAll, findFlaw } from './fcanon.js';

@@ -1,4 +1,4 @@
-/* calls.c: the module fcanon._calls: Board, Passage and ClassSums, and calls of fcanon.h over many boards.
+/* calls.c: the module fcanon._calls: Board and Passage, and calls of fcanon.h over many boards.
  *
  * It is written for Python's stable ABI from 3.8 on, so that one file serves every later version.
  * errors.py has the class Error, and hands it to this module.
@@ -20,18 +20,12 @@ typedef struct {
     fcanon_passage passage;
 } Passage;
 
-typedef struct {
-    PyObject_HEAD
-    uint32_t game;
-    fcanon_class_sums sums;
-} ClassSums;
-
 /* tools/tables wrote this from fcanon.h, to the next empty line. */
 enum { GAMES = 3 };
 static const char *const game_names[GAMES] = {"freecell", "bakers_game", "eight_off"};
 static const int cell_counts[GAMES] = {4, 4, 8};
 
-static PyTypeObject *board_type, *passage_type, *sums_type;
+static PyTypeObject *board_type, *passage_type;
 static PyObject *error_class, *games[GAMES];
 
 /* ---- errors, games and moves */
@@ -104,12 +98,6 @@ static Board *new_board(uint32_t game) {
 
 static Passage *new_passage(uint32_t game) {
     Passage *it = (Passage *)PyType_GenericAlloc(passage_type, 0);
-    if (it) it->game = game;
-    return it;
-}
-
-static ClassSums *new_sums(uint32_t game) {
-    ClassSums *it = (ClassSums *)PyType_GenericAlloc(sums_type, 0);
     if (it) it->game = game;
     return it;
 }
@@ -279,38 +267,6 @@ static PyObject *passage_str(Passage *self) {
 
 static PyObject *passage_repr(Passage *self) { return PyUnicode_FromFormat("<Passage %S>", self); }
 
-/* ---- sums */
-
-/* Sums are made by Board.class_sums alone. */
-static PyObject *sums_new(PyTypeObject *type, PyObject *words, PyObject *names) {
-    PyErr_SetString(PyExc_TypeError, "write board.class_sums()");
-    return NULL;
-}
-
-static PyObject *sums_moved(ClassSums *self, PyObject *words) {
-    long card, from, onto;
-    if (!PyArg_ParseTuple(words, "lll", &card, &from, &onto)) return NULL;
-    if ((card | from | onto) & ~255L) return refuse(FCANON_NO_MOVE, -1);
-    ClassSums *made = new_sums(self->game);
-    if (!made) return NULL;
-    made->sums = self->sums;
-    return given(made, fcanon_move_sums(self->game, (uint8_t)card, (uint8_t)from, (uint8_t)onto, &made->sums));
-}
-
-static PyObject *sums_class_hash(ClassSums *self, PyObject *unused) {
-    uint8_t hash[16];
-    uint32_t answer = fcanon_class_hash(self->game, &self->sums, hash);
-    return answer ? refuse(answer, -1) : PyBytes_FromStringAndSize((const char *)hash, 16);
-}
-
-static PyObject *sums_compare(PyObject *self, PyObject *other, int how) {
-    if (Py_TYPE(other) != sums_type || (how != Py_EQ && how != Py_NE)) Py_RETURN_NOTIMPLEMENTED;
-    ClassSums *a = (ClassSums *)self, *b = (ClassSums *)other;
-    return compare(self, other, &a->sums, &b->sums, sizeof a->sums, how);
-}
-
-static Py_hash_t sums_hash(ClassSums *self) { return mixed(self->game, &self->sums, sizeof self->sums); }
-
 /* ---- boards */
 
 static PyObject *board_new(PyTypeObject *type, PyObject *words, PyObject *names) {
@@ -359,28 +315,6 @@ static PyObject *board_from_bytes(PyObject *type, PyObject *words, PyObject *nam
     return (PyObject *)made;
 }
 
-static PyObject *board_from_packed(PyObject *type, PyObject *words, PyObject *names) {
-    int game;
-    PyObject *data = bytes_of(argument(words, names, "bytes_", &game));
-    if (!data) return NULL;
-    Board *made = NULL;
-    fcanon_packed packed;
-    if (PyBytes_Size(data) != sizeof packed) {
-        refuse(FCANON_NO_BOARD, -1);
-    } else if ((made = new_board(game))) {
-        memcpy(&packed, PyBytes_AsString(data), sizeof packed);
-        made = (Board *)given(made, fcanon_unpack(game, &packed, &made->board));
-    }
-    Py_DECREF(data);
-    return (PyObject *)made;
-}
-
-static PyObject *board_packed(Board *self, PyObject *unused) {
-    fcanon_packed packed;
-    uint32_t answer = fcanon_pack(self->game, &self->board, &packed);
-    return answer ? refuse(answer, -1) : PyBytes_FromStringAndSize((const char *)&packed, sizeof packed);
-}
-
 static PyObject *board_canonical(Board *self, PyObject *unused) {
     Board *made = new_board(self->game);
     return made ? given(made, fcanon_key(self->game, &self->board, &made->board)) : NULL;
@@ -390,11 +324,6 @@ static PyObject *board_canonical_hash(Board *self, PyObject *unused) {
     uint8_t hash[16];
     uint32_t answer = fcanon_hash(self->game, &self->board, hash);
     return answer ? refuse(answer, -1) : PyBytes_FromStringAndSize((const char *)hash, 16);
-}
-
-static PyObject *board_class_sums(Board *self, PyObject *unused) {
-    ClassSums *made = new_sums(self->game);
-    return made ? given(made, fcanon_sums(self->game, &self->board, &made->sums)) : NULL;
 }
 
 static PyObject *board_canonicalize(Board *self, PyObject *unused) {
@@ -469,6 +398,23 @@ static PyObject *board_symmetries(Board *self, PyObject *unused) {
         made = with_item(made, i, PyUnicode_FromString(name));
     }
     return made;
+}
+
+static PyObject *boards_of(PyObject *data);
+
+static PyObject *board_is_unsolvable(Board *self, PyObject *keys) {
+    PyObject *data = boards_of(keys);
+    if (!data) return NULL;
+    const fcanon_board *boards = (const fcanon_board *)PyBytes_AsString(data);
+    size_t count = (size_t)PyBytes_Size(data) / 72;
+    uint32_t answer;
+    Py_BEGIN_ALLOW_THREADS
+    answer = fcanon_unsolvable(self->game, &self->board, boards, count);
+    Py_END_ALLOW_THREADS
+    Py_DECREF(data);
+    if (answer == FCANON_NOT_CLOSED || answer == FCANON_NOT_AMONG) Py_RETURN_FALSE;
+    if (answer) return refuse(answer, -1);
+    Py_RETURN_TRUE;
 }
 
 static PyObject *board_passage_to(Board *self, PyObject *other) {
@@ -666,12 +612,21 @@ static PyObject *hash_all(PyObject *module, PyObject *words, PyObject *names) {
     return of_each_board(words, names, 16, fcanon_hash);
 }
 
-static uint32_t pack_bytes(uint32_t game, const fcanon_board *board, uint8_t *bytes) {
-    return fcanon_pack(game, board, (fcanon_packed *)bytes);
-}
-
-static PyObject *pack_all(PyObject *module, PyObject *words, PyObject *names) {
-    return of_each_board(words, names, sizeof(fcanon_packed), pack_bytes);
+static PyObject *find_flaw(PyObject *module, PyObject *words, PyObject *names) {
+    int game;
+    PyObject *data = boards_of(argument(words, names, "keys", &game));
+    if (!data) return NULL;
+    const fcanon_board *keys = (const fcanon_board *)PyBytes_AsString(data);
+    size_t count = (size_t)PyBytes_Size(data) / 72, place = 0;
+    fcanon_move move;
+    uint32_t answer;
+    Py_BEGIN_ALLOW_THREADS
+    answer = fcanon_closed(game, keys, count, &place, &move);
+    Py_END_ALLOW_THREADS
+    Py_DECREF(data);
+    if (!answer) Py_RETURN_NONE;
+    if (answer != FCANON_OPEN) return Py_BuildValue("(InO)", answer, (Py_ssize_t)place, Py_None);
+    return Py_BuildValue("(Ins#)", answer, (Py_ssize_t)place, (const char *)&move, (Py_ssize_t)2);
 }
 
 /* ---- the module */
@@ -710,31 +665,15 @@ static PyMethodDef passage_methods[] = {
     METHOD("__reduce__", passage_reduce, METH_NOARGS, NULL),
     {0}};
 
-static PyMethodDef sums_methods[] = {
-    METHOD("moved", sums_moved, METH_VARARGS,
-           "The sums when this card, 1 to 52, lies on the one no more, but on the other.\n\n"
-           "A card lies on another card, 1 to 52, on the foot of a column, 0, in a cell, 53, or\n"
-           "at home, 54, from where none comes back."),
-    METHOD("class_hash", sums_class_hash, METH_NOARGS,
-           "A hash of the board's class in 16 bytes: equivalent boards have one."),
-    {0}};
-
 static PyMethodDef board_methods[] = {
     METHOD("deal", board_deal, BY_NAME | METH_CLASS,
            "One of Microsoft's numbered deals, of FreeCell or Baker's Game."),
     METHOD("from_bytes", board_from_bytes, BY_NAME | METH_CLASS,
            "The board of these 72 bytes, which fcanon.h describes."),
-    METHOD("from_packed", board_from_packed, BY_NAME | METH_CLASS,
-           "The board of these 32 bytes, which packed gives, with its columns and its cells in order."),
-    METHOD("packed", board_packed, METH_NOARGS,
-           "The board in 32 bytes, the same for boards that differ in the order of their columns and\n"
-           "of their cells alone: those of canonical boards are short keys."),
     METHOD("canonical", board_canonical, METH_NOARGS,
            "The canonical board of all that are equivalent to this one."),
     METHOD("canonical_hash", board_canonical_hash, METH_NOARGS,
            "A hash of the canonical board in 16 bytes, the same in each run and on each machine."),
-    METHOD("class_sums", board_class_sums, METH_NOARGS,
-           "The sums of the board, which a search moves with it to hash its class."),
     METHOD("canonicalize", board_canonicalize, METH_NOARGS,
            "The canonical board, and the passage to it."),
     METHOD("child", board_child, METH_O,
@@ -746,6 +685,8 @@ static PyMethodDef board_methods[] = {
            "The moves of one card that the game allows, each with the canonical board after it."),
     METHOD("symmetries", board_symmetries, METH_NOARGS,
            "The renamings that with some orders lead from the board to itself, from \"CDHS\" on."),
+    METHOD("is_unsolvable", board_is_unsolvable, METH_O,
+           "Whether keys of a closed list show that no list of moves wins from the board."),
     METHOD("passage_to", board_passage_to, METH_O,
            "The passage to another board, or None if that is not equivalent."),
     METHOD("play", board_play, METH_O, "The board after a move of one card."),
@@ -759,9 +700,6 @@ static PyMethodDef board_methods[] = {
     {0}};
 
 static PyGetSetDef passage_fields[] = {
-    {"game", get_game, NULL, "The game, one of GAMES.", NULL},
-    {0}};
-static PyGetSetDef sums_fields[] = {
     {"game", get_game, NULL, "The game, one of GAMES.", NULL},
     {0}};
 static PyGetSetDef board_fields[] = {
@@ -780,15 +718,6 @@ static PyType_Slot passage_slots[] = {
     {Py_tp_str, passage_str},
     {Py_tp_repr, passage_repr},
     {0}};
-static PyType_Slot sums_slots[] = {
-    {Py_tp_doc, "The sums of a board, from which the hash of its class is made. They never change."},
-    {Py_tp_new, sums_new},
-    {Py_tp_dealloc, forget},
-    {Py_tp_methods, sums_methods},
-    {Py_tp_getset, sums_fields},
-    {Py_tp_richcompare, sums_compare},
-    {Py_tp_hash, sums_hash},
-    {0}};
 static PyType_Slot board_slots[] = {
     {Py_tp_doc, "A board of a game, on which each of the 52 cards is once. It never changes."},
     {Py_tp_new, board_new},
@@ -802,8 +731,6 @@ static PyType_Slot board_slots[] = {
     {0}};
 static PyType_Spec passage_spec = {
     "fcanon.Passage", sizeof(Passage), 0, Py_TPFLAGS_DEFAULT, passage_slots};
-static PyType_Spec sums_spec = {
-    "fcanon.ClassSums", sizeof(ClassSums), 0, Py_TPFLAGS_DEFAULT, sums_slots};
 static PyType_Spec board_spec = {"fcanon.Board", sizeof(Board), 0, Py_TPFLAGS_DEFAULT, board_slots};
 
 static PyMethodDef functions[] = {
@@ -815,8 +742,9 @@ static PyMethodDef functions[] = {
            "The same, and with it the bytes of the passages to them, of which each is 20 bytes."),
     METHOD("hash_all", hash_all, BY_NAME,
            "The canonical hashes of boards, each in 16 bytes, of boards of 72 bytes."),
-    METHOD("pack_all", pack_all, BY_NAME,
-           "The packed bytes of boards, each in 32 bytes, of boards of 72 bytes."),
+    METHOD("find_flaw", find_flaw, BY_NAME,
+           "None where keys of 72 bytes are those of a closed list, from whose boards no list of moves\n"
+           "wins; else an Answer, which key, and for Answer.OPEN the move that leads out, or None."),
     METHOD("set_error", set_error, METH_O, NULL),
     METHOD("words_of", words_of, METH_O, NULL),
     {0}};
@@ -842,8 +770,7 @@ PyMODINIT_FUNC PyInit__calls(void) {
         are_named &= (games[game] = PyUnicode_InternFromString(game_names[game])) != NULL;
     board_type = type_in(module, "Board", &board_spec);
     passage_type = board_type ? type_in(module, "Passage", &passage_spec) : NULL;
-    sums_type = passage_type ? type_in(module, "ClassSums", &sums_spec) : NULL;
-    if (are_named && sums_type &&
+    if (are_named && passage_type &&
         !PyModule_AddStringConstant(module, "__version__", FCANON_RELEASE))
         return module;
     Py_DECREF(module);

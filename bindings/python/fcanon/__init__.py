@@ -14,33 +14,22 @@ and a renaming of suits that keeps the building rule lead from the one to the ot
 never change, are equal, hashed and ordered by their games and bytes, and so are keys of sets and
 dicts.
 
-packed gives a board in 32 bytes, the same in whichever order its columns and its cells are. So the
-packed bytes of canonical boards are their keys in files and tables.
-
->>> key = canonical.packed()
->>> len(key), Board.from_packed(key).canonical() == canonical
-(32, True)
-
-The class_sums of a board are kept up to date by the one card that a move touches, and their class_hash
-is one for equivalent boards: a search hashes classes by it, and no canonical board is made.
-
->>> board.class_sums().moved(7, 30, 53) == board.play("3a").class_sums()
-True
-
 A move of one card is a str as "3a"; one of several cards is a str as "14v3" or "14". What a call of
 the library refuses is raised as an Error, a ValueError with the reason and the place.
 
-canonicalize_all, canonicalize_all_with_passages, hash_all and pack_all take the bytes of many boards, 72
+canonicalize_all, canonicalize_all_with_passages and hash_all take the bytes of many boards, 72
 each: as bytes, a bytearray, a memoryview, or an array of numpy with 72 columns. They return bytes,
 which numpy.frombuffer reads without a copy. Other threads run meanwhile.
+
+find_flaw takes the keys of a closed list, 72 bytes each in ascending order, and gives None where it is
+one; and the method is_unsolvable of a board says whether such keys show that no list of moves wins from it.
 
 run does what a command of the program fcanon does over a whole collection, and import_text what
 `fcanon import` does: in memory, and without the program.
 """
 
 from ._calls import (
-    Board, ClassSums, Passage, __version__, canonicalize_all, canonicalize_all_with_passages, hash_all,
-    pack_all,
+    Board, Passage, __version__, canonicalize_all, canonicalize_all_with_passages, find_flaw, hash_all,
 )
 from .commands import Printed, import_text, run
 from .errors import Error
@@ -51,7 +40,6 @@ __all__ = [
     "GAMES",
     "Answer",
     "Board",
-    "ClassSums",
     "Command",
     "Error",
     "Game",
@@ -60,8 +48,8 @@ __all__ = [
     "__version__",
     "canonicalize_all",
     "canonicalize_all_with_passages",
+    "find_flaw",
     "hash_all",
     "import_text",
-    "pack_all",
     "run",
 ]

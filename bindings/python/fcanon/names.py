@@ -38,6 +38,12 @@ class Answer(IntEnum):
     OUT_OF_MEMORY = 12
     INPUT_TOO_LARGE = 13
     INPUT_NOT_READ_TO_ITS_END = 14
+    NOT_CANONICAL = 16
+    NOT_ASCENDING = 17
+    WON = 18
+    OPEN = 19
+    NOT_CLOSED = 20
+    NOT_AMONG = 21
     SAME_PILE = 32
     EMPTY_SOURCE = 33
     TARGET_TAKEN = 34

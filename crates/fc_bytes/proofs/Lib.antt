@@ -5,15 +5,10 @@ pub mod DecodedLemmas
 mod BitsDecoded
 pub mod MovesDecoded
 pub mod PassageDecoded
-pub mod PackedRow
-pub mod PackedBound
-pub mod PackedNumber
-pub mod PackedGrown
-pub mod PackedOrder
-pub mod PackedBoards
 mod PutCards
 mod ChildrenLemmas
-mod LegalMoves
+pub mod LegalMoves
 mod RunMoves
 mod AskedColumns
+mod EmptyPiles
 pub mod SumLemmas

@@ -1,8 +1,6 @@
 -- Boards, passages and moves as bytes, and what calls of C do.
 pub mod class_hash
 pub mod inside
-pub mod packed
-pub mod packing
 use Rattle.std.specs.{Int.{to_le_bytes, w64}, List.{Contains, filter, flat_map}}
 use Rattle.std.specs.{Option.{is_none, unwrap_or}, Prelude.{◌++◌, ◌+◌, ◌-◌, ◌<◌, ◌↔◌, ◌∷◌, ◌≡◌}}
 use Rattle.std.specs.Prelude.{◌≤◌, [], drop, if◌then◌else◌, length, List, map, nat_lt, None, Option}

@@ -6,7 +6,8 @@ use Rattle.std.specs.Prelude.{slice_index_or, Some, take, true, ℕ}
 use Rattle.fc_card.specs.{rank_of, renamed_code}
 use Rattle.fc_board.specs.{Boards.{Board}, Games.{Game}, Moves.{move_between}}
 use Rattle.fc_board.specs.Steps.{column_at, column_refusal, last_card}
-use Rattle.fc_board.specs.declared.moves.Place.{Place, TheVariants.{Column as ToColumn}}
+use Rattle.fc_board.specs.declared.moves.{Move.{Move}, Place.{Place}}
+use Rattle.fc_board.specs.declared.moves.Place.TheVariants.{Cell as ToCell, Column as ToColumn}
 use Rattle.fc_board.specs.declared.moves.Source.{Source, TheVariants.{Column as FromColumn}}
 use Rattle.fc_board.specs.declared.run_move.RunMove.{RunMove, TheVariants.{One, Run}}
 use Rattle.fc_bytes.specs.class_hash.{card_weight, place_weight, renamed_place}
@@ -97,3 +98,14 @@ abbrev pub AreAsked : Game → Board → ℕ → List Bool → List Bool → Typ
 AreAsked game board count some columns =
     (column card : ℕ) → column < count → column_refusal game card (last_card (column_at board column)) ≡ None → rank_of card ≤ 13 →
     (slice_index_or some (rank_of card) false ≡ true) × (slice_index_or columns (8 * rank_of card + column) false ≡ true)
+
+-- ---- moves that lead to equivalent boards
+-- both are cells, or columns without a card
+abbrev pub AreFreeAlike : Board → Place → Place → Type 0
+AreFreeAlike board (ToCell cell) (ToCell other) = Unit {0}
+AreFreeAlike board (ToColumn column) (ToColumn other) = (column_at board column ≡ []) × (column_at board other ≡ [])
+AreFreeAlike board place other = ⊥
+
+-- the moves take one card to two such piles
+abbrev pub AreAlike : Board → Move → Move → Type 0
+AreAlike board one other = (one.from ≡ other.from) × AreFreeAlike board one.to other.to

@@ -7,7 +7,6 @@ pub mod canonical;
 pub mod children;
 pub mod keys;
 pub mod moves;
-pub mod packed;
 pub mod run_moves;
 pub mod runs;
 pub mod sums;

@@ -9,13 +9,11 @@ mod class_hash;
 mod hash;
 mod laid;
 mod moves;
-mod packed;
 mod passage;
 mod runs;
 
 pub use board::BoardBytes;
 pub use class_hash::ClassSums;
 pub use moves::MoveBytes;
-pub use packed::PackedBoard;
 pub use passage::{PassageBytes, suit_bytes};
 pub use runs::RunBytes;

@@ -51,12 +51,6 @@ next_text-after records bytes text =
     by_test true = omega arith
     by_test false = refl
 
--- the texts with one byte more in front
-abbrev pub step : Bool → RecordText → ℕ → List ℕ → List RecordText
-step b text byte rest =
-    let next = cond b (next_text text) (longer text byte) in
-    (cond b (text ∷ []) [] ++ finished next rest) ++ begun next rest ∷ []
-
 pub cut-after : (records bytes : ℕ) (text : RecordText) (rest : List ℕ)
     → cut (placed_after records bytes text) rest ≡ map (placed_after records bytes) (cut text rest)
 cut-after records bytes text rest =

@@ -71,16 +71,6 @@ if_accepted-number number (Accepted heading contents) =
     All-cons (λ member. member.number ≡ number) _ [] refl (All-nil (λ member. member.number ≡ number))
 if_accepted-number number (Refused name fault) = All-nil (λ member. member.number ≡ number)
 
-pub members-Numbered : (variant : Variant) (most : ℕ) (records : List RecordText) → All (λ text. text.number ≤ most) records
-    → All (λ member. member.number ≤ most) (members_among variant records)
-members-Numbered variant most [] small = All-nil (λ member. member.number ≤ most)
-members-Numbered variant most (text ∷ records) small =
-    All-append (λ member. member.number ≤ most) (if_accepted text.number (reading_of variant text.bytes)) (members_among variant records)
-    (All-weaker (λ member. member.number ≡ text.number) (λ member. member.number ≤ most)
-    (λ member is. omega (arith, is, All-head (λ text. text.number ≤ most) text records small))
-    (if_accepted text.number (reading_of variant text.bytes)) (if_accepted-number text.number (reading_of variant text.bytes)))
-    (members-Numbered variant most records (All-tail (λ text. text.number ≤ most) text records small))
-
 if_accepted-one : (number : ℕ) (reading : Reading) (member other : Member) → Contains (if_accepted number reading) member
     → Contains (if_accepted number reading) other → member ≡ other
 if_accepted-one number (Accepted heading contents) member other (zero, inside, at) (zero, inside', at') = sym at ∙ at'

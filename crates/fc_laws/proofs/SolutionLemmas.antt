@@ -277,11 +277,6 @@ unchanged owner list e = rw (e, append-nil (shared_line owner owner list), eq-eq
 
 -- ---- what the members of a group get
 
--- what is printed for the member are these lists, each of which wins from its board and can be printed
-pub record AreGiven (owner : Option Member) (member : Member) (lists : List MoveList) : Type 0 where
-  pub line : solution_line member owner ≡ flat_map list_line lists
-  pub are : All (λ list. Wins (game_of member.heading.variant) member.contents.board list × CanPrint (game_of member.heading.variant) list) lists
-
 -- the list wins from the board, and can be printed
 abbrev IsSolution : Game → Board → MoveList → Type 0
 IsSolution game board list = Wins game board list × CanPrint game list
@@ -376,22 +371,6 @@ module _ (variant : Variant) (collection : List ℕ) (group : List Member) (know
             wins'.0,
             rw (is, same) (end_lines front (list_line shared)),
           )
-
-  -- the lists that a member gets, where this is the owner
-  pub given_to : (owner : Option Member) (member : Member) → owner_among group ≡ owner → Contains group member
-      → (lists : List MoveList) × AreGiven owner member lists
-  given_to None member e there' = ([], record { line = refl; are = All-nil (IsSolution (game_of member.heading.variant) member.contents.board) })
-  given_to (Some owner) member e there' =
-      let (place, at, (list, is), first) = owner-first group owner e in
-      let (shared, solves, same) = gets owner member (at-Contains group place owner at) there' list is in (
-        shared ∷ [],
-        record {
-          line = rw (is, same);
-          are =
-              All-cons (IsSolution (game_of member.heading.variant) member.contents.board) shared [] solves
-              (All-nil (IsSolution (game_of member.heading.variant) member.contents.board));
-        },
-      )
 
   pub none_for_all : ((member : Member) (list : MoveList) → Contains group member → Contains member.contents.lists list
       → ¬ Wins (game_of member.heading.variant) member.contents.board list)

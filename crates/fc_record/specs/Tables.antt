@@ -43,7 +43,6 @@ first_win game board number [] = dash ∷ []
 first_win game board number (list ∷ lists) = if is_win (list_verdict game board list) then decimal number else first_win game board (number + 1) lists
 
 -- the name, the variant, the canonical text; the passage that leads there: renaming, columns and cells; how many lists there are, and which of them wins first
--- said again: lines_have_eight_columns.fields, boards_are_read_from_their_column, the_first_win_is_named, columns_hold_what_others_print
 abbrev pub table_fields : ℕ → Heading → Contents → List (List ℕ)
 table_fields number heading contents =
     let passage = chosen_passage (renamings_of heading.variant) contents.board in

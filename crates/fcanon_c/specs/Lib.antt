@@ -21,11 +21,17 @@ DealsBoard game number board = IsDealNumber number × HoldsBoard game board (dea
 
 -- ======== The words for what calls answer; those for reasons and faults are the ones that the program prints. From: this project's profile.
 
--- the words of the answers from 0 on
+-- the words for other numbers
+abbrev pub no_words : List ℕ
+no_words = codes "no such answer"
+
+-- the words of the answers from 0 on; those from 10 to 15 are of runs over memory
 abbrev pub call_words : List (List ℕ)
 call_words =
     codes "done" ∷ codes "no such game" ∷ codes "no passage" ∷ codes "no move" ∷ codes "no board" ∷ codes "no other board"
-    ∷ codes "not equivalent" ∷ codes "no such deal" ∷ codes "no such column" ∷ codes "too little room" ∷ []
+    ∷ codes "not equivalent" ∷ codes "no such deal" ∷ codes "no such column" ∷ codes "too little room"
+    ∷ no_words ∷ no_words ∷ no_words ∷ no_words ∷ no_words ∷ no_words ∷ codes "not canonical" ∷ codes "not ascending" ∷ codes "won" ∷ codes "open"
+    ∷ codes "not closed" ∷ codes "not among the keys" ∷ []
 
 -- the words of an answer, by the numbers that answers have
 abbrev pub words_if_any : ℕ → Option (List ℕ)
@@ -36,4 +42,4 @@ words_if_any answer =
     else None
 
 abbrev pub answer_words : ℕ → List ℕ
-answer_words answer = unwrap_or (words_if_any answer) (codes "no such answer")
+answer_words answer = unwrap_or (words_if_any answer) no_words

@@ -18,9 +18,9 @@ macro_rules! in_game {
 
 mod canonical;
 mod children;
+mod closed;
 mod keys;
 mod moves;
-mod packed;
 mod runs;
 mod sums;
 mod symmetry;

@@ -9,12 +9,12 @@ use fc_bytes::calls::answers::{DONE, NO_DEAL, NO_GAME};
 use fc_bytes::calls::texts::{read_of, write_of};
 use fc_deal::{Numbered, deal_board};
 
-const VERSION: u32 = 4;
+const VERSION: u32 = 100;
 
 /// The version of these calls.
 #[unsafe(no_mangle)]
 pub extern "C" fn fcanon_version() -> u32
-    ensures { result ≡ 4 }
+    ensures { result ≡ 100 }
 {
     VERSION
 }

@@ -2,9 +2,9 @@
 ghost use Rattle.std.specs.Prelude.{◌≡◌};
 ghost use Rattle.{fc_bytes.specs.{padded}, fcanon_c.specs.{answer_words}};
 
-/// The words of the answers from 0 on.
+/// The words of the answers from 0 on; no call here has one of the answers from 10 to 15.
 #[rattlefmt::skip]
-static CALLS: [[u8; 20]; 10] = [
+static CALLS: [[u8; 20]; 22] = [
     *b"done\0\0\0\0\0\0\0\0\0\0\0\0\0\0\0\0",
     *b"no such game\0\0\0\0\0\0\0\0",
     *b"no passage\0\0\0\0\0\0\0\0\0\0",
@@ -15,6 +15,18 @@ static CALLS: [[u8; 20]; 10] = [
     *b"no such deal\0\0\0\0\0\0\0\0",
     *b"no such column\0\0\0\0\0\0",
     *b"too little room\0\0\0\0\0",
+    *b"no such answer\0\0\0\0\0\0",
+    *b"no such answer\0\0\0\0\0\0",
+    *b"no such answer\0\0\0\0\0\0",
+    *b"no such answer\0\0\0\0\0\0",
+    *b"no such answer\0\0\0\0\0\0",
+    *b"no such answer\0\0\0\0\0\0",
+    *b"not canonical\0\0\0\0\0\0\0",
+    *b"not ascending\0\0\0\0\0\0\0",
+    *b"won\0\0\0\0\0\0\0\0\0\0\0\0\0\0\0\0\0",
+    *b"open\0\0\0\0\0\0\0\0\0\0\0\0\0\0\0\0",
+    *b"not closed\0\0\0\0\0\0\0\0\0\0",
+    *b"not among the keys\0\0",
 ];
 
 /// Those of the reasons against a move, from 32 on.
@@ -59,7 +71,7 @@ fn text_of(answer: u32) -> &'static [u8; 20]
     ensures { result.now ≡ padded 20 (answer_words answer) }
 {
     match answer {
-        0..=9 => &CALLS[answer as usize],
+        0..=21 => &CALLS[answer as usize],
         32..=40 => &REASONS[answer as usize - 32],
         64..=69 => &FAULTS[answer as usize - 64],
         128..=179 => &MISSING,

@@ -51,14 +51,6 @@ pub struct fcanon_run_move {
     pub count: u8,
 }
 
-/// A board in 32 bytes, the same in whichever order its columns and its cells are.
-#[repr(C)]
-#[derive(Clone, Copy, PartialEq, Eq, PartialOrd, Ord, Hash, Debug)]
-pub struct fcanon_packed {
-    /// One number, its lowest byte first.
-    pub bytes: [u8; 32],
-}
-
 /// The sums of a board: 384 bytes, one sum for each renaming, in two words of which the lower is first.
 #[repr(C)]
 #[derive(Clone, Copy, PartialEq, Eq, PartialOrd, Ord, Hash, Debug)]
@@ -92,7 +84,7 @@ as_bytes!(fcanon_run_move, 3);
 
 // tools/tables wrote this from fcanon.h, to the next empty line.
 /// The version of these calls.
-pub const FCANON_VERSION: u32 = 4;
+pub const FCANON_VERSION: u32 = 100;
 /// A move of several cards is never more moves of one card than these.
 pub const FCANON_MOST_MOVES: usize = 49;
 /// A board never allows more moves of one card than these.
@@ -121,14 +113,25 @@ extern "C" {
     ) -> u32;
     pub fn fcanon_class_hash(game: u32, sums: *const fcanon_class_sums, hash: *mut [u8; 16])
         -> u32;
-    pub fn fcanon_pack(game: u32, board: *const fcanon_board, packed: *mut fcanon_packed) -> u32;
-    pub fn fcanon_unpack(game: u32, packed: *const fcanon_packed, board: *mut fcanon_board) -> u32;
     pub fn fcanon_child(
         game: u32,
         board: *const fcanon_board,
         mv: *const fcanon_move,
         canonical: *mut fcanon_board,
         passage: *mut fcanon_passage,
+    ) -> u32;
+    pub fn fcanon_closed(
+        game: u32,
+        keys: *const fcanon_board,
+        count: usize,
+        place: *mut usize,
+        mv: *mut fcanon_move,
+    ) -> u32;
+    pub fn fcanon_unsolvable(
+        game: u32,
+        board: *const fcanon_board,
+        keys: *const fcanon_board,
+        count: usize,
     ) -> u32;
     pub fn fcanon_symmetries(
         game: u32,

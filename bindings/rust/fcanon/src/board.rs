@@ -1,14 +1,15 @@
 use crate::class_sums::ClassSums;
-use crate::error::{made, Error};
+use crate::error::{made, Error, Reason};
 use crate::moves::{Move, Moves, Run};
 use crate::passage::Passage;
 use core::{fmt, str::FromStr};
 use fcanon_sys::{
     fcanon_board, fcanon_board as BoardBytes, fcanon_canon, fcanon_capacity, fcanon_child,
-    fcanon_children, fcanon_deal, fcanon_expand, fcanon_hash, fcanon_key, fcanon_keys, fcanon_move,
-    fcanon_moves, fcanon_pack, fcanon_packed, fcanon_play, fcanon_play_run, fcanon_read,
-    fcanon_run_move, fcanon_run_moves, fcanon_same, fcanon_sums, fcanon_symmetries, fcanon_unpack,
-    fcanon_write, FCANON_MOST_CHILDREN, FCANON_MOST_MOVES, FCANON_MOST_RUN_MOVES,
+    fcanon_children, fcanon_closed, fcanon_deal, fcanon_expand, fcanon_hash, fcanon_key,
+    fcanon_keys, fcanon_move, fcanon_moves, fcanon_play, fcanon_play_run, fcanon_read,
+    fcanon_run_move, fcanon_run_moves, fcanon_same, fcanon_sums, fcanon_symmetries,
+    fcanon_unsolvable, fcanon_write, FCANON_MOST_CHILDREN,
+    FCANON_MOST_MOVES, FCANON_MOST_RUN_MOVES,
 };
 
 // tools/tables wrote this from fcanon.h, to the next empty line.
@@ -87,20 +88,6 @@ impl Board {
         Ok(Board { game, bytes })
     }
 
-    /// The board of these 32 bytes, which [`packed`](Board::packed) gives, with its columns in the
-    /// order of their least cards and its cells in that of their cards, empty ones last.
-    ///
-    /// # Errors
-    ///
-    /// [`Reason::NoBoard`](crate::Reason::NoBoard), where the bytes are those of no board of the
-    /// game.
-    pub fn from_packed(game: Game, bytes: [u8; 32]) -> Result<Board, Error> {
-        let packed = fcanon_packed { bytes };
-        // SAFETY: all is apart.
-        let bytes = made(NONE, |it| unsafe { fcanon_unpack(game as u32, &packed, it) })?;
-        Ok(Board { game, bytes })
-    }
-
     /// The bytes of the board.
     #[must_use]
     pub fn bytes(&self) -> &fcanon_board {
@@ -126,25 +113,6 @@ impl Board {
         // SAFETY: all is apart.
         let key = made(NONE, |it| unsafe { fcanon_key(game as u32, &bytes, it) });
         Board { game, bytes: always(key) }
-    }
-
-    /// The board in 32 bytes, the same for boards that differ in the order of their columns and of
-    /// their cells alone. Those of canonical boards are keys that are less than half as long.
-    ///
-    /// ```
-    /// use fcanon::{Board, Game};
-    /// let board = Board::deal(Game::FreeCell, 1)?;
-    /// let key: [u8; 32] = board.canonical().packed();
-    /// assert_eq!(Board::try_from(key)?.canonical(), board.canonical());
-    /// # Ok::<(), fcanon::Error>(())
-    /// ```
-    #[must_use]
-    pub fn packed(&self) -> [u8; 32] {
-        let packed = made(fcanon_packed { bytes: [0; 32] }, |it| {
-            // SAFETY: all is apart.
-            unsafe { fcanon_pack(self.game as u32, &self.bytes, it) }
-        });
-        always(packed).bytes
     }
 
     /// A hash of the canonical board, the same in each run and on each machine.
@@ -297,6 +265,17 @@ impl Board {
         })
     }
 
+    /// Whether keys show that no list of moves wins from the board: they are those of a closed list,
+    /// as [`find_flaw`] says it, and the board's own key is among them.
+    #[must_use]
+    pub fn is_unsolvable(&self, keys: &[BoardBytes]) -> bool {
+        // SAFETY: so many keys are there.
+        let done = made((), |()| unsafe {
+            fcanon_unsolvable(self.game as u32, &self.bytes, keys.as_ptr(), keys.len())
+        });
+        done.is_ok()
+    }
+
     /// How many cards can go at once to a column, 1 to 8.
     ///
     /// # Errors
@@ -324,21 +303,38 @@ pub fn canonicalize_all(game: Game, boards: &mut [BoardBytes]) -> Result<(), Err
     done.map(drop).map_err(|error| error.at(place))
 }
 
+/// What is wrong with keys that are not those of a closed list.
+#[derive(Clone, Copy, PartialEq, Eq, Debug)]
+pub struct Flaw {
+    /// What is wrong.
+    pub reason: Reason,
+    /// With which key, from 0.
+    pub place: usize,
+    /// The first move that leads out, where the reason is [`Reason::Open`](crate::Reason::Open).
+    pub mv: Option<Move>,
+}
+
+/// What is wrong with keys of a list that is said to be closed, or `None`: then they are canonical
+/// boards in ascending order, none is won, and each move of one card leads to a board whose key is
+/// among them. So no list of moves wins from any of them.
+#[must_use]
+pub fn find_flaw(game: Game, keys: &[BoardBytes]) -> Option<Flaw> {
+    let (mut place, mut mv) = (0, fcanon_move { from: 0, to: 0 });
+    // SAFETY: so many keys are there, and what is written is apart from them.
+    let done = made((), |()| unsafe {
+        fcanon_closed(game as u32, keys.as_ptr(), keys.len(), &mut place, &mut mv)
+    });
+    let Error { reason, .. } = done.err()?;
+    let mv = (reason == Reason::Open).then_some(Move(mv));
+    Some(Flaw { reason, place, mv })
+}
+
 /// The bytes of a board of FreeCell; [`Board::from_bytes`] takes those of the other games too.
 impl TryFrom<[u8; 72]> for Board {
     type Error = Error;
 
     fn try_from(bytes: [u8; 72]) -> Result<Board, Error> {
         Board::from_bytes(Game::FreeCell, bytes)
-    }
-}
-
-/// The 32 bytes of a board of FreeCell; [`Board::from_packed`] takes those of the other games too.
-impl TryFrom<[u8; 32]> for Board {
-    type Error = Error;
-
-    fn try_from(bytes: [u8; 32]) -> Result<Board, Error> {
-        Board::from_packed(Game::FreeCell, bytes)
     }
 }
 

@@ -21,7 +21,7 @@ mod error;
 mod moves;
 mod passage;
 
-pub use board::{canonicalize_all, Board, Game};
+pub use board::{canonicalize_all, find_flaw, Board, Flaw, Game};
 pub use class_sums::{ClassSums, ON_CELL, ON_FOOT, ON_HOME};
 pub use error::{Card, Error, Reason};
 pub use fcanon_sys::{fcanon_board as BoardBytes, fcanon_passage as PassageBytes};

@@ -14,7 +14,7 @@ pub(crate) const NO_PASSAGE: u32 = 2;
 /// The bytes hold no move of the game.
 pub(crate) const NO_MOVE: u32 = 3;
 /// The bytes hold no board of the game.
-pub(crate) const NO_BOARD: u32 = 4;
+pub const NO_BOARD: u32 = 4;
 /// The bytes of the other board hold none.
 pub(crate) const NO_OTHER: u32 = 5;
 /// No passage leads from the one board to the other.

@@ -1,15 +1,11 @@
 //! Laws of groups.
-ghost use Rattle.std.specs.{List.{All, Contains, filter, flat_map}, Prelude.{◌↔◌, ◌∷◌, ◌≡◌, ◌≤◌}};
-ghost use Rattle.std.specs.Prelude.{[], length, List, map, slice_get, Some, take, true, ℕ};
-ghost use Rattle.{fc_board.specs.declared.rule.Variant.{Variant}, fc_card.specs.{pick}};
+ghost use Rattle.std.specs.{List.{Contains, filter}, Prelude.{◌↔◌, ◌∷◌, ◌≡◌, [], length, List}};
+ghost use Rattle.std.specs.Prelude.{map, slice_get, Some, take, true, ℕ};
 ghost use Rattle.fc_board.specs.{Boards.{IsWellFormed}, Games.{game_of}};
 ghost use Rattle.fc_board.specs.Moves.{ListFits, MoveList};
-ghost use Rattle.fc_canon.specs.{Equivalent};
-ghost use Rattle.fc_record.specs.Printing.{canon_lines, expand_lines, printed, show_lines};
-ghost use Rattle.fc_collect.specs.Groups.{belong_together, group_lines, grouped, groups_of};
-ghost use Rattle.fc_collect.specs.Groups.{leaders_after, Member, members_among, share_lines};
-ghost use Rattle.fc_collect.specs.{Groups.{unique_output}, Limits.{most_countable}};
-ghost use Rattle.fc_collect.specs.Records.{output_of_records, records_of, whole_output};
+ghost use Rattle.{fc_board.specs.declared.rule.Variant.{Variant}, fc_canon.specs.{Equivalent}};
+ghost use Rattle.fc_collect.specs.Groups.{belong_together, groups_of, leaders_after, Member};
+ghost use Rattle.fc_collect.specs.{Groups.{members_among}, Records.{records_of}};
 
 /// The accepted records of a collection have well-formed boards and lists of moves of their games,
 /// and no two of them have one number.
@@ -69,64 +65,4 @@ pub fn each_member_has_one_leader()
 pub fn leaders_come_first()
     ensures { (members : List Member) → map (take 1) (groups_of members)
         ≡ map (λ leader. leader ∷ []) (leaders_after [] members) }
-{}
-
-/// What `show`, `canon` and `expand` print of a collection is read as a collection with the same
-/// groups: they have their members at the same places among the accepted records; and so has what
-/// `share` prints, at the places that they have where the groups come one after another. Of what
-/// `group` and `unique` print, each record is a group of its own.
-pub fn groups_stay_in_what_is_printed()
-    ensures shown { (variant : Variant) (collection : List ℕ)
-        → All (λ text. text.number ≤ most_countable) (records_of collection)
-        → (places : List (List ℕ))
-        × (groups_of (members_among variant (records_of collection))
-        ≡ map (pick (members_among variant (records_of collection))) places)
-        × (groups_of (members_among variant
-        (records_of (output_of_records (printed show_lines variant) collection)))
-        ≡ map (pick (members_among variant
-        (records_of (output_of_records (printed show_lines variant) collection)))) places) }
-    ensures canonical { (variant : Variant) (collection : List ℕ)
-        → All (λ text. text.number ≤ most_countable) (records_of collection)
-        → (places : List (List ℕ))
-        × (groups_of (members_among variant (records_of collection))
-        ≡ map (pick (members_among variant (records_of collection))) places)
-        × (groups_of (members_among variant
-        (records_of (output_of_records (printed canon_lines variant) collection)))
-        ≡ map (pick (members_among variant
-        (records_of (output_of_records (printed canon_lines variant) collection)))) places) }
-    ensures expanded { (variant : Variant) (collection : List ℕ)
-        → All (λ text. text.number ≤ most_countable) (records_of collection)
-        → (places : List (List ℕ))
-        × (groups_of (members_among variant (records_of collection))
-        ≡ map (pick (members_among variant (records_of collection))) places)
-        × (groups_of (members_among variant
-        (records_of (output_of_records (printed expand_lines variant) collection)))
-        ≡ map (pick (members_among variant
-        (records_of (output_of_records (printed expand_lines variant) collection)))) places) }
-    ensures grouped { (variant : Variant) (collection : List ℕ)
-        → All (λ text. text.number ≤ most_countable) (records_of collection)
-        → groups_of (members_among variant
-        (records_of (whole_output (printed (λ number heading contents. []) variant)
-        (grouped group_lines variant) collection)))
-        ≡ map (λ member. member ∷ []) (members_among variant
-        (records_of (whole_output (printed (λ number heading contents. []) variant)
-        (grouped group_lines variant) collection))) }
-    ensures shared { (variant : Variant) (collection : List ℕ)
-        → All (λ text. text.number ≤ most_countable) (records_of collection)
-        → (places : List (List ℕ))
-        × (groups_of (members_among variant (records_of collection))
-        ≡ map (pick (flat_map (λ group. group)
-        (groups_of (members_among variant (records_of collection))))) places)
-        × (groups_of (members_among variant
-        (records_of (whole_output (printed (λ number heading contents. []) variant)
-        (grouped share_lines variant) collection)))
-        ≡ map (pick (members_among variant
-        (records_of (whole_output (printed (λ number heading contents. []) variant)
-        (grouped share_lines variant) collection)))) places) }
-    ensures unique { (variant : Variant) (collection : List ℕ)
-        → All (λ text. text.number ≤ most_countable) (records_of collection)
-        → groups_of (members_among variant
-        (records_of (unique_output variant (records_of collection))))
-        ≡ map (λ member. member ∷ []) (members_among variant
-        (records_of (unique_output variant (records_of collection)))) }
 {}

@@ -1,18 +1,16 @@
 //! Laws of the records of a collection, and of what is printed for them.
-ghost use Rattle.std.specs.{List.{All, AllZip, count_by, filter, flat_map}, Prelude.{◌++◌, ◌+◌}};
-ghost use Rattle.std.specs.Prelude.{◌-◌, ◌^◌, ◌↔◌, ◌∷◌, ◌≡◌, ◌≤◌, [], Bool, drop, if◌then◌else◌};
-ghost use Rattle.std.specs.Prelude.{length, List, map, Ok, Option, Some, true, ℕ};
-ghost use Rattle.fc_board.specs.{Games.{game_of}, Moves.{list_image, MoveList, OneCard}};
-ghost use Rattle.fc_board.specs.{Passages.{carried, identity_passage}, Play.{Wins}};
+ghost use Rattle.std.specs.{List.{All, count_by, flat_map}, Prelude.{◌++◌, ◌+◌, ◌-◌, ◌^◌, ◌↔◌}};
+ghost use Rattle.std.specs.Prelude.{◌∷◌, ◌≡◌, ◌≤◌, [], Bool, drop, if◌then◌else◌, length, List};
+ghost use Rattle.std.specs.Prelude.{map, Ok, Some, true, ℕ};
+ghost use Rattle.fc_board.specs.{Games.{game_of}, Moves.{list_image}};
+ghost use Rattle.fc_board.specs.Passages.{carried, identity_passage};
 ghost use Rattle.fc_board.specs.declared.rule.Variant.{Variant};
-ghost use Rattle.fc_record.specs.Grammar.{Accepted, begins_with, list_mark, Reading, reading_of};
-ghost use Rattle.fc_record.specs.{Grammar.{with_header}, Printing.{canon_lines, expand_lines}};
-ghost use Rattle.fc_record.specs.Printing.{expanded_line, heading_line, image_line, list_line};
-ghost use Rattle.fc_record.specs.Printing.{one_card_moves, passage_line, printed, show_lines};
+ghost use Rattle.fc_record.specs.Grammar.{Accepted, reading_of, with_header};
+ghost use Rattle.fc_record.specs.Printing.{canon_lines, heading_line, image_line, passage_line};
+ghost use Rattle.fc_record.specs.Printing.{printed, show_lines};
 ghost use Rattle.fc_record.specs.RecordTexts.{ends_line, header_mark, RecordText};
-ghost use Rattle.fc_collect.specs.Groups.{canonical_text, group_lines, grouped, groups_of};
-ghost use Rattle.fc_collect.specs.Groups.{leaders_after, Member, members_among, name_of_member};
-ghost use Rattle.fc_collect.specs.Groups.{owner_among, passage_of, share_lines, solution_line};
+ghost use Rattle.fc_collect.specs.Groups.{canonical_text, members_among, name_of_member};
+ghost use Rattle.fc_collect.specs.Groups.{passage_of};
 ghost use Rattle.fc_collect.specs.Limits.{AreCountable, largest, most_countable, standard};
 ghost use Rattle.fc_collect.specs.Pieces.{header_starts, IsPiece, outputs_of_pieces, placed_after};
 ghost use Rattle.fc_collect.specs.{Promises.{Begins, IsWithinLimits}, Records.{cut, finished_from}};
@@ -194,37 +192,6 @@ pub fn what_canon_prints_is_read_again()
         })) (members_among variant (records_of collection)) }
 {}
 
-/// The records of what `expand` prints are the accepted records of the collection, each with its
-/// board and, in their order, the moves of one card of those of its lists for which a line that
-/// begins with `>` was printed; none is refused. So `expand` prints of its own output what it
-/// printed, but no comment.
-pub fn what_expand_prints_is_read_again()
-    ensures records { (variant : Variant) (collection : List ℕ)
-        → All (λ text. text.number ≤ most_countable) (records_of collection)
-        → map (λ text. reading_of variant text.bytes)
-        (records_of (output_of_records (printed expand_lines variant) collection))
-        ≡ map (λ member. Accepted (if member.heading.has_header
-        then with_header member.heading.variant (Some (name_of_member member))
-        else member.heading) (record {
-          board = member.contents.board;
-          lists = map (λ list. OneCard (one_card_moves (game_of member.heading.variant)
-              member.contents.board list)) (filter (λ list. begins_with list_mark
-              (expanded_line (game_of member.heading.variant) member.contents.board 1 list))
-              member.contents.lists);
-        })) (members_among variant (records_of collection)) }
-    ensures bytes { (variant : Variant) (collection : List ℕ)
-        → All (λ text. text.number ≤ most_countable) (records_of collection)
-        → output_of_records (printed expand_lines variant)
-        (output_of_records (printed expand_lines variant) collection)
-        ≡ flat_map (λ member. show_lines member.number member.heading (record {
-          board = member.contents.board;
-          lists = map (λ list. OneCard (one_card_moves (game_of member.heading.variant)
-              member.contents.board list)) (filter (λ list. begins_with list_mark
-              (expanded_line (game_of member.heading.variant) member.contents.board 1 list))
-              member.contents.lists);
-        })) (members_among variant (records_of collection)) }
-{}
-
 /// What `canon` prints of its own output is the same headers, canonical boards and images, each
 /// with the passage that changes nothing, and no line of a refused record.
 pub fn canonical_collections_stay()
@@ -236,39 +203,6 @@ pub fn canonical_collections_stay()
         ++ passage_line (identity_passage (game_of member.heading.variant))
         ++ flat_map (image_line (passage_of member)) member.contents.lists)
         (members_among variant (records_of collection)) }
-{}
-
-/// The records of what `group` prints are the records that lead the groups, in their order, each
-/// under a header with the name that it was printed with, with its canonical board and no list;
-/// none is refused.
-pub fn what_group_prints_is_read_again()
-    ensures { (variant : Variant) (collection : List ℕ)
-        → All (λ text. text.number ≤ most_countable) (records_of collection)
-        → map (λ text. reading_of variant text.bytes)
-        (records_of (whole_output (printed (λ number heading contents. []) variant)
-        (grouped group_lines variant) collection))
-        ≡ map (λ leader. Accepted
-        (with_header leader.heading.variant (Some (name_of_member leader)))
-        (record { board = carried (passage_of leader) leader.contents.board; lists = [] }))
-        (leaders_after [] (members_among variant (records_of collection))) }
-{}
-
-/// The records of what `share` prints are the members of all groups, each under a header with the
-/// name that it was printed with, with its own board and the list that was printed for it, if there
-/// is one; each such list wins from that board, and none is refused.
-pub fn what_share_prints_is_read_again()
-    ensures { (variant : Variant) (collection : List ℕ)
-        → All (λ text. text.number ≤ most_countable) (records_of collection)
-        → AllZip (λ (reading : Reading) (owned : Option Member × Member). (lists : List MoveList)
-        × (reading ≡ Accepted (with_header owned.1.heading.variant (Some (name_of_member owned.1)))
-        (record { board = owned.1.contents.board; lists = lists }))
-        × (solution_line owned.1 owned.0 ≡ flat_map list_line lists)
-        × All (Wins (game_of owned.1.heading.variant) owned.1.contents.board) lists)
-        (map (λ text. reading_of variant text.bytes)
-        (records_of (whole_output (printed (λ number heading contents. []) variant)
-        (grouped share_lines variant) collection)))
-        (flat_map (λ group. map (λ member. (owner_among group, member)) group)
-        (groups_of (members_among variant (records_of collection)))) }
 {}
 
 /// Where a run succeeds and its output is as it was, nothing was due: no record and no end of the

@@ -1,14 +1,14 @@
 //! Laws of the lines of a table.
 ghost use Rattle.json.specs.Json.{document, member as member_of, no_members, null, number, object};
 ghost use Rattle.json.specs.Json.{string};
-ghost use Rattle.std.specs.{Fmt.{decimal}, List.{All, Contains, flat_map, slice_split}};
-ghost use Rattle.std.specs.Prelude.{◌++◌, ◌+◌, ◌<◌, ◌==◌, ◌^◌, ◌↔◌, ◌∷◌, ◌≡◌, ◌≢◌, [], codes, drop};
+ghost use Rattle.std.specs.{Fmt.{decimal}, List.{All, Contains, slice_split}, Prelude.{◌++◌, ◌+◌}};
+ghost use Rattle.std.specs.Prelude.{◌<◌, ◌==◌, ◌^◌, ◌↔◌, ◌∷◌, ◌≡◌, ◌≢◌, [], codes, drop};
 ghost use Rattle.std.specs.Prelude.{if◌then◌else◌, length, List, Option, slice_get, slice_index_or};
 ghost use Rattle.std.specs.{Prelude.{Some, take, true, ℕ}, Str.{bytes_eq}};
 ghost use Rattle.fc_board.specs.{Boards.{IsWellFormed}, Games.{game_of, renamings_of}};
 ghost use Rattle.fc_board.specs.{Moves.{MoveList}, Play.{Wins}};
 ghost use Rattle.{fc_board.specs.declared.rule.Variant.{Variant}, fc_canon.specs.{chosen_passage}};
-ghost use Rattle.fc_text.specs.Bytes.{blank, IsLess, line_feed, tab};
+ghost use Rattle.fc_text.specs.Bytes.{IsLess, line_feed, tab};
 ghost use Rattle.fc_record.specs.Grammar.{Contents, Heading, reading_of, Refused};
 ghost use Rattle.fc_record.specs.Printing.{header_text, name_of, passage_line, record_reason};
 ghost use Rattle.fc_record.specs.{RecordTexts.{RecordText}, Tables.{json_object, json_string}};
@@ -33,21 +33,6 @@ pub fn boards_are_known_by_their_columns()
         → IsLess (canonical_text member) (canonical_text other)
         ↔ IsLess (slice_index_or (table_fields member.number member.heading member.contents) 2 [])
         (slice_index_or (table_fields other.number other.heading other.contents) 2 []) }
-{}
-
-/// The third column is the lines of the canonical text with two blanks between them, and no line,
-/// with a blank after it, has two blanks together. So the text comes back where each two blanks,
-/// from the left, become a line feed, and one more is put at the end.
-pub fn boards_are_read_from_their_column()
-    ensures { (member : Member)
-        → IsWellFormed (game_of member.heading.variant) member.contents.board
-        → (lines : List (List ℕ))
-        × (flat_map (λ line. line ++ line_feed ∷ []) lines ≡ canonical_text member)
-        × (flat_map (λ line. line ++ blank ∷ blank ∷ []) lines
-        ≡ slice_index_or (table_fields member.number member.heading member.contents) 2 []
-        ++ blank ∷ blank ∷ [])
-        × All (λ line. (front rest : List ℕ)
-        → line ++ blank ∷ [] ≢ front ++ blank ∷ blank ∷ rest) lines }
 {}
 
 /// The line of an accepted record, cut at its tabs, has the eight fields and no line feed within.

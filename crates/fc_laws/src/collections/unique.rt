@@ -1,12 +1,10 @@
 //! Laws of what `unique` prints.
-ghost use Rattle.std.specs.{List.{All, Contains, filter, flat_map}, Prelude.{◌++◌, ◌∷◌, ◌≡◌, ◌≤◌}};
-ghost use Rattle.std.specs.Prelude.{[], false, if◌then◌else◌, length, List, map, Some, true, ℕ};
+ghost use Rattle.std.specs.List.{All, flat_map};
+ghost use Rattle.std.specs.Prelude.{◌++◌, ◌∷◌, ◌≡◌, [], false, List, true, ℕ};
 ghost use Rattle.fc_board.specs.declared.rule.Variant.{Variant};
-ghost use Rattle.fc_record.specs.Grammar.{Accepted, reading_of, with_header};
 ghost use Rattle.fc_record.specs.Printing.{is_refused, show_lines};
 ghost use Rattle.fc_record.specs.RecordTexts.{ends_line, header_mark, RecordText};
-ghost use Rattle.fc_collect.specs.Groups.{belong_together, leaders_after, Member, members_among};
-ghost use Rattle.fc_collect.specs.{Groups.{name_of_member, unique_output}, Limits.{most_countable}};
+ghost use Rattle.fc_collect.specs.Groups.{leaders_after, members_among, unique_output};
 ghost use Rattle.fc_collect.specs.{Pieces.{header_starts}, Promises.{Begins}};
 ghost use Rattle.fc_collect.specs.Records.{finished_records, outputs_after, records_of};
 
@@ -52,36 +50,4 @@ pub fn unique_prints_the_leaders()
         → unique_output variant records
         ≡ flat_map (λ member. show_lines member.number member.heading member.contents)
         (leaders_after [] (members_among variant records)) }
-{}
-
-/// The records of what `unique` prints are those accepted records of the collection that lead the
-/// groups, each with its board and its lists, under the name that it was printed with where it had
-/// a header; none is refused. So no two of them belong together, and each accepted record of the
-/// collection belongs together with exactly one of them; and `unique` prints of its own output what
-/// it printed, but no line of a refused record.
-pub fn what_unique_prints_is_read_again()
-    ensures records { (variant : Variant) (collection : List ℕ)
-        → All (λ text. text.number ≤ most_countable) (records_of collection)
-        → map (λ text. reading_of variant text.bytes)
-        (records_of (unique_output variant (records_of collection)))
-        ≡ map (λ member. Accepted (if member.heading.has_header
-        then with_header member.heading.variant (Some (name_of_member member))
-        else member.heading) member.contents)
-        (leaders_after [] (members_among variant (records_of collection))) }
-    ensures apart { (variant : Variant) (collection : List ℕ)
-        → All (λ text. text.number ≤ most_countable) (records_of collection)
-        → (member : Member) → Contains (members_among variant
-        (records_of (unique_output variant (records_of collection)))) member
-        → length (filter (λ other. belong_together other member) (members_among variant
-        (records_of (unique_output variant (records_of collection))))) ≡ 1 }
-    ensures each { (variant : Variant) (collection : List ℕ)
-        → All (λ text. text.number ≤ most_countable) (records_of collection)
-        → (member : Member) → Contains (members_among variant (records_of collection)) member
-        → length (filter (λ other. belong_together other member) (members_among variant
-        (records_of (unique_output variant (records_of collection))))) ≡ 1 }
-    ensures bytes { (variant : Variant) (collection : List ℕ)
-        → All (λ text. text.number ≤ most_countable) (records_of collection)
-        → unique_output variant (records_of (unique_output variant (records_of collection)))
-        ≡ flat_map (λ member. show_lines member.number member.heading member.contents)
-        (leaders_after [] (members_among variant (records_of collection))) }
 {}

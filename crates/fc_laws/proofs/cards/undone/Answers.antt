@@ -1,5 +1,5 @@
 use Rattle.std.proofs.Common.{refl}
-use Rattle.fc_laws.proofs.RefusalLemmas.{inverse-inverse, product-inverse}
+use Rattle.fc_laws.proofs.UndoneLemmas.{inverse-inverse, product-inverse}
 use Rattle.fc_laws.proofs.cards.undone.Goals as goal
 
 pub returns : goal.returns

@@ -1,4 +1,4 @@
--- What expand prints for a list, and that what it prints for a record is read as the record with its lists expanded.
+-- What expand prints for a list.
 use Rattle.std.proofs.Common.{◌++◌, ◌+◌, ◌<◌, ◌↔◌, ◌∙◌, ◌∷◌, ◌≡◌, ◌≤◌, ◌⊎◌, [], All, ap, append-nil}
 use Rattle.std.proofs.Common.{append_assoc, arith, Bool, codes, cond, Contains, false, filter}
 use Rattle.std.proofs.Common.{if◌then◌else◌, inl, inr, length, List, map, nat_le, refl, slice_index}
@@ -11,37 +11,25 @@ use Rattle.fc_board.proofs.MoveListLemmas.{list_allowed-exactly, list_refused-ex
 use Rattle.fc_board.proofs.MoveListLemmas.{list_won-exactly}
 use Rattle.fc_board.proofs.RunPlayLemmas.{list_expanded, one_card, wins_expanded}
 use Rattle.fc_board.specs.{Boards.{Board, IsWellFormed}, Games.{Game, game_of, RuleLaws}}
-use Rattle.fc_board.specs.Moves.{Fits, ListFits, move_count, MoveList, OneCard, Runs}
-use Rattle.fc_board.specs.Play.{Legal, list_verdict, OnlyLegal, Plays, Refused, RefusedAt, Verdict}
-use Rattle.fc_board.specs.{Play.{Won}, Steps.{step_reason}}
+use Rattle.fc_board.specs.{Moves.{ListFits, move_count, MoveList, OneCard, Runs}, Play.{Legal}}
+use Rattle.fc_board.specs.Play.{list_verdict, OnlyLegal, Plays, Refused, RefusedAt, Verdict, Won}
+use Rattle.fc_board.specs.Steps.{step_reason}
 use Rattle.fc_board.specs.declared.fault.StepFault.{StepFault}
-use Rattle.fc_laws.proofs.ReadAgainLemmas.{all_again, AreReadAs, ReadsAgain, same_printed, Stays}
 use Rattle.fc_board.specs.declared.fault.StepFault.TheVariants as step
 use Rattle.fc_board.specs.laws.RenamingTests.{bakers_game_laws, eight_off_laws, freecell_laws}
 use Rattle.fc_board.specs.declared.moves.Move.{Move}
 use Rattle.fc_board.specs.declared.rule.Variant.TheVariants.{BakersGame, EightOff, FreeCell}
 use Rattle.fc_board.specs.declared.rule.Variant.{Variant}
-use Rattle.fc_text.proofs.{LineLemmas.{InLine}, PrintedTextLemmas.{text_spells}}
-use Rattle.fc_text.specs.{Bytes.{blank, line_feed, number_sign}, Notation.{most_moves}}
-use Rattle.fc_text.specs.Printed.{text_of}
-use Rattle.fc_record.proofs.HeadingLemmas.{heading_said}
-use Rattle.fc_record.proofs.LineLemmas.{one_card_moves-Fit, played-ListLegal}
-use Rattle.fc_record.proofs.PrintedPartLemmas.{lines_of_board}
-use Rattle.fc_record.specs.Grammar.{Accepted, begins_with, Contents, Heading, list_mark, Reading}
-use Rattle.fc_record.specs.Printing.{check_lines, comment_line, expand_lines, expanded_by}
-use Rattle.fc_record.specs.Printing.{expanded_line, heading_line, list_line, name_of}
-use Rattle.fc_record.specs.Printing.{numbered_lines, one_card_moves, printed, show_lines}
-use Rattle.fc_record.specs.{Printing.{verdict_line, verdict_words}, RecordTexts.{header_mark}}
-use Rattle.fc_collect.{proofs.LimitLemmas.{IsNumbered}, specs.Groups.{Member, members_among}}
-use Rattle.fc_collect.specs.{Limits.{most_countable}, Records.{output_of_records, records_of}}
-use Rattle.fc_laws.proofs.AcceptanceLemmas.{Says-from_accepted}
-use Rattle.fc_laws.proofs.HeaderSaysLemmas.{ok-from_HeaderSays}
-use Rattle.fc_laws.proofs.ListAfterLemmas.{IsReadAs-comment, IsReadAs-list}
-use Rattle.fc_laws.proofs.MemberLemmas.{CanPrint, IsSaid, lists_can, member-Can}
-use Rattle.fc_laws.proofs.MemberLemmas.{member-IsWellFormed, members-said}
-use Rattle.fc_laws.proofs.PrintedRecordLemmas.{board_first, heading_again, lines-IsReadAs}
-use Rattle.fc_laws.proofs.PrintedRecordLemmas.{printed_heading, printed_variant}
-use Rattle.fc_laws.proofs.ReadAgainLemmas.{codes_in_line, decimal_in_line, IsReadAs}
+use Rattle.fc_text.{proofs.LineLemmas.{InLine}, specs.Bytes.{blank, line_feed, number_sign}}
+use Rattle.fc_text.specs.{Notation.{most_moves}, Printed.{text_of}}
+use Rattle.fc_record.proofs.LineLemmas.{played-ListLegal}
+use Rattle.fc_record.specs.{Grammar.{begins_with, Heading, list_mark}, Printing.{check_lines}}
+use Rattle.fc_record.specs.Printing.{comment_line, expand_lines, expanded_by, expanded_line}
+use Rattle.fc_record.specs.Printing.{heading_line, list_line, name_of, numbered_lines}
+use Rattle.fc_record.specs.Printing.{one_card_moves, verdict_line, verdict_words}
+use Rattle.fc_collect.specs.{Groups.{Member, members_among}, Records.{records_of}}
+use Rattle.fc_laws.proofs.MemberLemmas.{CanPrint, member-Can, member-IsWellFormed}
+use Rattle.fc_laws.proofs.ReadAgainLemmas.{codes_in_line, decimal_in_line}
 use Rattle.fc_laws.proofs.VerdictLineLemmas.{not_both, small_index, verdict_Refused}
 
 -- ---- a list and its expansion
@@ -87,13 +75,6 @@ module _ where
   verdict-kept FreeCell = same_verdict freecell_laws
   verdict-kept BakersGame = same_verdict bakers_game_laws
   verdict-kept EightOff = same_verdict eight_off_laws
-
-  expansion-Fits : (own : Variant) (board : Board) (list : MoveList) → IsWellFormed (game_of own) board → ListFits (game_of own) list
-      → Legal (game_of own) board list
-      → All (Fits (game_of own)) (one_card_moves (game_of own) board list)
-  expansion-Fits FreeCell = one_card_moves-Fit freecell_laws
-  expansion-Fits BakersGame = one_card_moves-Fit bakers_game_laws
-  expansion-Fits EightOff = one_card_moves-Fit eight_off_laws
 
 -- ---- comments
 
@@ -168,180 +149,6 @@ module _ (own : Variant) (board : Board) (well : IsWellFormed (game_of own) boar
             (λ ((after, plays), short). not_both game board after list index fault fits plays e),
             comment_is number (verdict_words 0 (Refused index fault)) (refusal_in_line index fault),
           )
-
-  pub expanded-exactly : (number : ℕ) (list : MoveList) → ListFits game list
-      → (begins_with list_mark (expanded_line game board number list) ≡ true) ↔ CanExpand list
-  expanded-exactly number list fits = by (line-verdict number list fits)
-    where
-      by : (CanExpand list × (expanded_line game board number list ≡ list_line (as_one_card list)))
-          ⊎ ((CanExpand list → ⊥) × IsCommentLine (expanded_line game board number list))
-          → (begins_with list_mark (expanded_line game board number list) ≡ true) ↔ CanExpand list
-      by (inl (can, line)) = ((λ e. can), (λ can. ap (begins_with list_mark) line))
-      by (inr (never, (comment, in_line, line))) = ((λ e. absurd (true≢false (sym e ∙ ap (begins_with list_mark) line))), (λ can. absurd (never can)))
-
-  -- what is printed of it is a list of the board again
-  pub expansion-Can : (list : MoveList) → ListFits game list → CanExpand list → CanPrint game (as_one_card list)
-  expansion-Can list fits can = (expansion-Fits own board list well fits can.0, can.1)
-
-  -- and printed as it is
-  expanded-again : (number : ℕ) (list : MoveList) → ListFits game list → CanExpand list
-      → expanded_line game board number (as_one_card list) ≡ list_line (as_one_card list)
-  expanded-again number list fits can = by (line-verdict number (as_one_card list) (expansion-Can list fits can).0)
-    where
-      again : CanExpand (as_one_card list)
-      again = ((can.0.0, expansion-leads own board well can.0.0 list can.0.1), can.1)
-
-      by : (CanExpand (as_one_card list) × (expanded_line game board number (as_one_card list) ≡ list_line (as_one_card list)))
-          ⊎ ((CanExpand (as_one_card list) → ⊥) × IsCommentLine (expanded_line game board number (as_one_card list)))
-          → expanded_line game board number (as_one_card list) ≡ list_line (as_one_card list)
-      by (inl (can, line)) = line
-      by (inr (never, line)) = absurd (never again)
-
-  -- ---- the lists of a record
-
-  -- a line that begins with a list's mark is printed for it
-  abbrev pub is_expanded : MoveList → Bool
-  is_expanded list = begins_with list_mark (expanded_line game board 1 list)
-
-  abbrev pub expanded_lists : List MoveList → List MoveList
-  expanded_lists lists = map as_one_card (filter is_expanded lists)
-
-  abbrev numbered : ℕ → List MoveList → List ℕ
-  numbered number lists = numbered_lines (expanded_line game board) number lists
-
-  -- printed again, they are printed as they are
-  pub numbered-again : (number : ℕ) (lists : List MoveList) → All (CanPrint game) lists
-      → numbered number (expanded_lists lists) ≡ flat_map list_line (expanded_lists lists)
-  numbered-again number [] can = refl
-  numbered-again number (list ∷ lists) can =
-      by (is_expanded list) refl (numbered-again number lists (All-tail (CanPrint game) list lists can))
-      (numbered-again (number + 1) lists (All-tail (CanPrint game) list lists can))
-    where
-      kept : Bool → List MoveList
-      kept b = map as_one_card (cond b (list ∷ filter is_expanded lists) (filter is_expanded lists))
-
-      by : (b : Bool) → is_expanded list ≡ b → numbered number (expanded_lists lists) ≡ flat_map list_line (expanded_lists lists)
-          → numbered (number + 1) (expanded_lists lists) ≡ flat_map list_line (expanded_lists lists)
-          → numbered number (kept b) ≡ flat_map list_line (kept b)
-      by true e same later =
-          let fits = (All-head (CanPrint game) list lists can).0 in
-          rw (expanded-again number list fits ((expanded-exactly 1 list fits).0 e), later)
-      by false e same later = same
-
-  module _ (variant : Variant) (has : Bool) (heading : Heading) (same : game ≡ game_of heading.variant) where
-    -- the bytes are read as the board with these lists
-    abbrev Read : List ℕ → List MoveList → Type 0
-    Read bytes lists = IsReadAs variant has bytes (Accepted heading (record { board = board; lists = lists }))
-
-    pub lists_read : (number : ℕ) (lists : List MoveList) → All (CanPrint game) lists → (bytes : List ℕ) (before : List MoveList)
-        → IsReadAs variant has bytes (Accepted heading (record { board = board; lists = before }))
-        → IsReadAs variant has (bytes ++ numbered number lists) (Accepted heading (record { board = board; lists = before ++ expanded_lists lists }))
-    lists_read number [] can bytes before is =
-        rw (append-nil bytes, append-nil before) is
-    lists_read number (list ∷ lists) can bytes before is =
-        by (lists_read (number + 1) lists (All-tail (CanPrint game) list lists can))
-        (line-verdict number list (All-head (CanPrint game) list lists can).0)
-      where
-        fits : ListFits game list
-        fits = (All-head (CanPrint game) list lists can).0
-
-        Later : Type 0
-        Later = (bytes : List ℕ) (before : List MoveList) → Read bytes before
-            → Read (bytes ++ numbered (number + 1) lists) (before ++ expanded_lists lists)
-
-        kept : Bool → List MoveList
-        kept b = map as_one_card (cond b (list ∷ filter is_expanded lists) (filter is_expanded lists))
-
-        Goal : List ℕ → Bool → Type 0
-        Goal line b = Read (bytes ++ (line ++ numbered (number + 1) lists)) (before ++ kept b)
-
-        by_list : Later → CanExpand list → Goal (list_line (as_one_card list)) true
-        by_list later can =
-            let shown = as_one_card list in
-            let is_list = IsReadAs-list variant has bytes heading (record { board = board; lists = before }) shown
-            (subst (λ game. CanPrint game shown) same (expansion-Can list fits can)) is in
-            let all = later (bytes ++ list_line shown) (before ++ shown ∷ []) is_list in
-            rw (
-              append_assoc bytes (list_line shown) (numbered (number + 1) lists),
-              append_assoc before (shown ∷ []) (expanded_lists lists),
-            ) at all
-
-        by_comment : Later → (comment : List ℕ) → All InLine comment → Goal (number_sign ∷ comment ++ line_feed ∷ []) false
-        by_comment later comment in_line =
-            let line = number_sign ∷ comment ++ line_feed ∷ [] in
-            let is_comment = IsReadAs-comment variant has bytes comment heading (record { board = board; lists = before }) in_line is in
-            rw (append_assoc bytes line (numbered (number + 1) lists)) at (later (bytes ++ line) before is_comment)
-
-        not_expanded : (CanExpand list → ⊥) → (b : Bool) → is_expanded list ≡ b → b ≡ false
-        not_expanded never true e = absurd (never ((expanded-exactly 1 list fits).0 e))
-        not_expanded never false e = refl
-
-        by : Later
-            → (CanExpand list × (expanded_line game board number list ≡ list_line (as_one_card list)))
-            ⊎ ((CanExpand list → ⊥) × IsCommentLine (expanded_line game board number list))
-            → Goal (expanded_line game board number list) (is_expanded list)
-        by later (inl (can, line)) = rw (line, (expanded-exactly 1 list fits).1 can) (by_list later can)
-        by later (inr (never, (comment, in_line, line))) = rw (line, not_expanded never (is_expanded list) refl) (by_comment later comment in_line)
-
--- ---- what expand prints
-
--- the board, with its lists expanded
-abbrev pub expanded_contents : Member → Contents
-expanded_contents member = record {
-  board = member.contents.board;
-  lists = map (λ list. OneCard (one_card_moves (game_of member.heading.variant) member.contents.board list))
-      (filter (λ list. begins_with list_mark (expanded_line (game_of member.heading.variant) member.contents.board 1 list)) member.contents.lists);
-}
-
-abbrev pub expanded_again : Member → Reading
-expanded_again member = Accepted (printed_heading member) (expanded_contents member)
-
--- its lines are read as the record with its lists expanded
-expanded-IsReadAs : (variant : Variant) → AreReadAs variant expand_lines expanded_again
-expanded-IsReadAs variant number bytes heading contents small accepted =
-    let says = Says-from_accepted variant bytes heading contents accepted in
-    let member : Member = record { number = number; heading = heading; contents = contents } in
-    let has = begins_with header_mark bytes in
-    let game = game_of heading.variant in
-    let well = says.board.well_formed in
-    let text = text_of contents.board in
-    let alone : Contents = record { board = contents.board; lists = [] } in
-    let begun =
-    lines-IsReadAs variant text alone (lines_of_board game contents.board well) has number heading small
-    (heading_said variant bytes heading (ok-from_HeaderSays says.header))
-    refl (board_first game contents.board [] well) (text_spells game contents.board well) (All-nil (CanPrint game)) contents in
-    let all =
-    lists_read heading.variant contents.board well variant has (printed_heading member) (ap game_of (sym (printed_variant member))) 1 contents.lists
-    (lists_can says.lists) (heading_line number heading ++ (text ++ [])) [] begun in
-    rw (append-nil text) at all
-
-abbrev output : Variant → List ℕ → List ℕ
-output variant collection = output_of_records (printed expand_lines variant) collection
-
-pub expanded-records : (variant : Variant) → ReadsAgain variant expand_lines expanded_again
-expanded-records variant = all_again variant expand_lines expanded_again (expanded-IsReadAs variant)
-
--- ---- expanded twice
-
-abbrev pub expanded_once : Member → List ℕ
-expanded_once member = show_lines member.number member.heading (expanded_contents member)
-
-lines_stay : (variant : Variant) (number : ℕ) (member : Member) → IsSaid variant member
-    → expand_lines number (printed_heading member) (expanded_contents member) ≡ expanded_once member
-lines_stay variant number member (bytes, says) = rw (
-  heading_again number member,
-  printed_variant member,
-  numbered-again member.heading.variant member.contents.board says.board.well_formed 1 member.contents.lists (lists_can says.lists),
-)
-
-pub expanded-bytes : (variant : Variant) (collection : List ℕ) → All (IsNumbered most_countable) (records_of collection)
-    → output variant (output variant collection) ≡ flat_map expanded_once (members_among variant (records_of collection))
-expanded-bytes variant collection small =
-    let said = members-said variant (records_of collection) in
-    same_printed variant expand_lines expanded_again expanded_once
-    (records_of (output variant collection)) (members_among variant (records_of collection)) (expanded-records variant collection small)
-    (All-weaker (IsSaid variant) (Stays variant expand_lines expanded_again expanded_once)
-    (λ member said text. lines_stay variant text.number member said) (members_among variant (records_of collection)) said)
 
 -- ---- lists of the accepted records
 
