@@ -1,6 +1,6 @@
 # `make` proves and builds the program build/fcanon; `make help` lists the other targets.
 .POSIX:
-.PHONY: all demo library page book paper deals test bench chaos edits mutants install uninstall \
+.PHONY: all demo library page book paper deals settled test bench chaos edits mutants install uninstall \
 	install-program install-library dist clean help needs-rt needs-python3 needs-cc needs-fc-solve \
 	needs-pdflatex
 
@@ -24,6 +24,8 @@ PLACES = PROGRAM=$(PROGRAM) DESTDIR=$(DESTDIR) PREFIX=$(PREFIX) BIN=$(BIN) \
 CRATE =
 MADE =
 MINUTES = 60
+GAME = freecell
+FIRST = 1
 LAST = 32000
 
 all: needs-rt ## proves and builds the program build/fcanon
@@ -53,6 +55,9 @@ paper: needs-pdflatex ## makes a paper of six pages on it, build/fcanon-paper.pd
 
 deals: all needs-python3 needs-fc-solve ## makes a store of Microsoft's deals, solved, in build/deals: LAST=32000
 	@tools/deals build/fcanon build/deals 1 $(LAST)
+
+settled: all library needs-python3 needs-cc ## settles deals by proof, in build/settled: GAME=freecell FIRST=1 LAST=32000
+	@tools/settled build/settled $(GAME) $(FIRST) $(LAST)
 
 test: needs-rt needs-python3 needs-cc ## proves all from nothing, tries wrong bodies, runs all tests
 	@tests/all

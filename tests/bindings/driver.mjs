@@ -5,7 +5,7 @@ import assert from 'node:assert';
 import fs from 'node:fs';
 import { pathToFileURL } from 'node:url';
 
-const { Board, FcanonError, GAMES, Passage, canonicalizeAll } = await import(pathToFileURL(process.argv[2]));
+const { Board, FcanonError, GAMES, Passage, canonicalizeAll, findFlaw } = await import(pathToFileURL(process.argv[2]));
 const said = [];
 const lineOf = (board) => String(board).replaceAll('\n', '|');
 const hexOf = (bytes) => Buffer.from(bytes).toString('hex');
@@ -25,11 +25,6 @@ function tellBoard(board) {
   const capacities = [1, 2, 3, 4, 5, 6, 7, 8].map((column) => board.capacity(column));
   said.push(`capacity ${capacities.join(' ')}`);
   said.push(`key ${hexOf(canonical.bytes)} ${hexOf(board.canonicalHash())}`);
-  said.push(`class ${hexOf(board.classSums().classHash())}`);
-  assert.deepEqual(board.classSums().classHash(), canonical.classSums().classHash());
-  said.push(`packed ${hexOf(board.packed())} ${hexOf(canonical.packed())}`);
-  const ordered = Board.fromPacked(board.packed(), board.game);
-  assert.deepEqual([ordered.packed(), ordered.canonical().bytes], [board.packed(), canonical.bytes]);
   said.push(`symmetries ${board.symmetries().join(' ')}`);
   assert(passage.image(board).equals(canonical) && passage.inverse().image(canonical).equals(board));
   assert(passage.followedBy(passage.inverse()).image(board).equals(board));
@@ -37,6 +32,10 @@ function tellBoard(board) {
   const children = board.children();
   assert(children.every(({ move, board: child }) => board.child(move).board.equals(child)));
   said.push(['children', ...children.map(({ move }) => move)].join(' '));
+  const flaw = findFlaw(canonical.bytes, board.game);
+  assert.equal(board.isUnsolvable(canonical.bytes), flaw === null);
+  assert.deepEqual(findFlaw(keys, board.game), { answer: 17, reason: 'not ascending', place: 1, move: null });
+  said.push(`closed ${flaw === null ? 'yes' : `${flaw.answer} ${flaw.place} ${flaw.move ?? '-'}`}`);
 }
 
 function tellChild(board, move) {
@@ -118,10 +117,9 @@ function tellAnswers(seed, rounds) {
     const board = Board.deal(draw() % 1000 + 1);
     const bytes = damaged(draw, board.bytes);
     const passage = damaged(draw, board.canonicalize().passage.bytes);
-    const packed = damaged(draw, board.packed());
     const move = signs[draw() % signs.length] + signs[draw() % signs.length];
     const asked = [() => Board.fromBytes(bytes, game), () => new Passage(passage, game),
-      () => Board.fromPacked(packed, game), () => board.play(move), () => board.playRun(`${move}v3`)];
+      () => board.play(move), () => board.playRun(`${move}v3`)];
     for (const call of asked) total = (Math.imul(31, total) + answerTo(call)) >>> 0;
   }
   said.push(`answers ${total}`);

@@ -7,8 +7,7 @@ import pickle
 import sys
 
 from fcanon import (
-    GAMES, Answer, Board, Error, Passage, canonicalize_all, canonicalize_all_with_passages, hash_all,
-    pack_all,
+    GAMES, Answer, Board, Error, Passage, canonicalize_all, canonicalize_all_with_passages, find_flaw, hash_all,
 )
 
 
@@ -29,18 +28,12 @@ def tell_board(board):
     passages = bytes(passage) + bytes(canonical.canonicalize()[1])
     assert canonicalize_all_with_passages(both, board.game) == (keys, passages)
     assert hash_all(both, board.game) == board.canonical_hash() * 2
-    assert pack_all(both, board.game) == board.packed() + canonical.packed()
     assert pickle.loads(pickle.dumps((board, passage))) == (board, passage)
     print("show", line_of(board))
     print("canon", line_of(canonical))
     print("#", passage)
     print("capacity", *(board.capacity(column) for column in range(1, 9)))
     print("key", bytes(canonical).hex(), board.canonical_hash().hex())
-    print("class", board.class_sums().class_hash().hex())
-    assert board.class_sums().class_hash() == canonical.class_sums().class_hash()
-    print("packed", board.packed().hex(), canonical.packed().hex())
-    ordered = Board.from_packed(board.packed(), board.game)
-    assert (ordered.packed(), ordered.canonical()) == (board.packed(), canonical)
     print("symmetries", *board.symmetries())
     assert passage.image(board) == canonical and passage.inverse().image(canonical) == board
     assert passage.then(passage.inverse()).image(board) == board
@@ -48,6 +41,9 @@ def tell_board(board):
     children = board.children()
     assert all(board.child(move)[0] == child for move, child in children)
     print(" ".join(["children", *(move for move, _ in children)]))
+    flaw = find_flaw(bytes(canonical), board.game)
+    assert board.is_unsolvable(bytes(canonical)) == (flaw is None) and find_flaw(keys, board.game) == (Answer.NOT_ASCENDING, 1, None)
+    print("closed", "yes" if flaw is None else f"{flaw[0]} {flaw[1]} {flaw[2] or '-'}")
 
 
 def verdict(board, moves, play):
@@ -116,7 +112,6 @@ def tell_answers(seed, rounds):
         board = Board.deal(next(draw) % 1000 + 1)
         asked = [(Board.from_bytes, damaged(draw, bytes(board)), game)]
         asked += [(Passage.from_bytes, damaged(draw, bytes(board.canonicalize()[1])), game)]
-        asked += [(Board.from_packed, damaged(draw, board.packed()), game)]
         move = signs[next(draw) % len(signs)] + signs[next(draw) % len(signs)]
         asked += [(board.play, move), (board.play_run, move + "v3")]
         for it in asked:

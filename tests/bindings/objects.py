@@ -11,13 +11,13 @@ from concurrent.futures import ThreadPoolExecutor
 
 from fcanon import (
     COMMANDS, GAMES, Answer, Board, Error, Passage, canonicalize_all, canonicalize_all_with_passages,
-    hash_all, import_text, pack_all, run,
+    hash_all, import_text, run,
 )
 
 BOARD = Board.deal(1)
 PASSAGE = BOARD.canonicalize()[1]
 TWO = bytes(BOARD) * 2
-BATCHES = [canonicalize_all, canonicalize_all_with_passages, hash_all, pack_all]
+BATCHES = [canonicalize_all, canonicalize_all_with_passages, hash_all]
 
 
 def shaped(*shape):
@@ -38,9 +38,6 @@ REFUSED = [
     ("another game of a board", setattr, [BOARD, "game", "eight_off"], AttributeError, "game"),
     ("another game of a passage", setattr, [PASSAGE, "game", "eight_off"], AttributeError, "game"),
     ("a move that is no str", BOARD.play, [31], TypeError, "str"),
-    ("bytes that no board is packed into", Board.from_packed, [b"\1" * 32], Error, "no board"),
-    ("31 bytes of a packed board", Board.from_packed, [BOARD.packed()[:31]], Error, "no board"),
-    ("a packed board of no game", Board.from_packed, [BOARD.packed(), "golf"], Error, "no such game"),
     ("a passage that is none", Passage.from_bytes, [b"\1" * 20], Error, "no passage"),
     ("an order of a board and a passage", max, [BOARD, PASSAGE], TypeError, "not supported"),
     ("a command that is none", run, ["swim", ""], ValueError, "one of show, .*, not 'swim'"),

@@ -10,7 +10,7 @@ def tell(command: Command, game: Game) -> Printed:
     board = Board.deal(1, game)
     canonical, passage = board.canonicalize()
     back: Passage = Passage.from_bytes(bytes(passage), board.game)
-    assert Board.from_packed(board.packed(), board.game).packed() == board.packed()
+    assert Board.from_bytes(bytes(board), board.game) == board
     assert min(board, canonical) <= board and max(back, passage) >= back
     try:
         board.play("9a")

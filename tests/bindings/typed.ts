@@ -9,10 +9,10 @@ export async function tell(): Promise<number> {
   await initRuns(new URL('https://example.org/fcanon_runs.wasm'));
   const options = { format: 'json', game: 'eight_off', anySize: true } as const;
   const made: Printed = run('group', String(Board.deal(1)), options);
-  const board: Board = Board.fromPacked(Board.deal(1).packed(), 'bakers_game');
+  const board: Board = Board.fromBytes(Board.deal(1).bytes, 'bakers_game');
   const again: Uint8Array = importText(made.text, { lines: 'rows' }).said;
   const own = await Runs.from(again);
-  return board.packed().length + own.run(COMMANDS[0], 'x').status + made.records;
+  return board.bytes.length + own.run(COMMANDS[0], 'x').status + made.records;
 }
 
 export function wrong(): void {

@@ -10,8 +10,10 @@ WORD = re.compile(r"[A-Za-z_◌][\w'◌-]*")
 DEFINED = re.compile(r"\s*(?:(?:abbrev|unfoldable|pub|record|data|mutual)\s+)*([^\s:({]+)")
 HEADING = re.compile(r"-- (?:={8}|-{8}) ")
 USE = re.compile(r"^(?:pub |ghost )*use ([^;]*?)(?:;|$(?!\n  ))", re.M | re.S)
+USE_IN_CODE = re.compile(r"^ *(?:pub |pub\(crate\) )?(?:ghost )?use ([^;]*?);", re.M | re.S)  # in a block too
 PUBLIC = re.compile(r"^( *)pub (?:const |unsafe |extern \"C\" )*fn (\w+)(.*?)^\1\{", re.M | re.S)
 SEEN = re.compile(r"^(?:pub trait (\w+)|pub struct (\w+)|impl\b[^\n]* Model for (\w+)).*?^\}", re.M | re.S)
+METHOD = re.compile(r"^    fn (\w+)(.*?)(?:^    \{|;$)", re.M | re.S)  # of a trait
 GHOST = re.compile(r"ghost \w+ ?[:=] \{(.*?)\}", re.S)
 
 
@@ -46,8 +48,17 @@ def used(tree, front=""):
             yield (name or last).strip(), (module, last)
 
 
-def imports_of(text):
-    return {name: home for tree in USE.findall(text) for name, home in used(re.sub(r"\s+", " ", tree))}
+def imports_of(text, use=USE):
+    return {name: home for tree in use.findall(text) for name, home in used(re.sub(r"\s+", " ", tree))}
+
+
+def is_proof(module):
+    """Whether what ghost fields cite of a module are proofs, which the prover checks: that a type has the laws of a trait."""
+    return ".specs.laws" in module
+
+
+def clauses_in(text):
+    return re.split(r"\b(?:ensures|requires)\b", text)[1:]
 
 
 def definitions_of(path, crate, module):
@@ -63,9 +74,9 @@ def definitions_of(path, crate, module):
             yield Definition(DEFINED.match(own[0])[1], crate, module, "\n".join(body), laws, lines, heading)
 
 
-def public_types(crate):
-    """The names that the crate's root brings out."""
-    root = CRATES[crate] / "src" / "lib.rt"
+def public_types(folder):
+    """The names that the root of a crate in this folder brings out."""
+    root = folder / "src" / "lib.rt"
     brought = re.findall(r"^pub use ([^;]*);", root.read_text(), re.M) if root.exists() else []
     return set(re.findall(r"\w+", " ".join(brought)))
 
@@ -73,27 +84,27 @@ def public_types(crate):
 class Repository:
     """All definitions by module and name, the imports of each module, and the clauses of contracts and laws."""
 
-    def __init__(self):
+    def __init__(self, crates=CRATES):
         self.found, self.imports = {}, {}
-        for crate, folder in CRATES.items():
+        for crate, folder in crates.items():
             for path in sorted((folder / "specs").rglob("*.antt")):
                 parts = path.relative_to(folder / "specs").with_suffix("").parts
                 module = ".".join(["Rattle", crate, "specs", *([] if parts == ("Lib",) else parts)])
                 self.imports[module] = imports_of(path.read_text())
                 self.found |= {(module, it.name): it for it in definitions_of(path, crate, module)}
-        self.contracts, self.laws = {crate: [] for crate in CRATES}, {}
-        for crate, folder in CRATES.items():
+        self.contracts, self.laws = {crate: [] for crate in crates}, {}
+        for crate, folder in crates.items():
             for path in sorted((folder / "src").rglob("*.rt")):
-                self.take_contracts(crate, path)
+                self.take_contracts(crate, path, public_types(folder))
 
-    def take_contracts(self, crate, path):
-        """The clauses of each public function, and the ghost fields of public traits, structs and models: each with its name and
-        what it cites."""
+    def take_contracts(self, crate, path, types):
+        """The clauses of each public function and of each method of a public trait, and the ghost fields of public traits, structs
+        and models: each with its name and what it cites."""
         text = path.read_text()
-        names = imports_of(text)
+        names = imports_of(text, USE_IN_CODE)
         is_law = crate == "fc_laws" or path.stem == "laws"
         for _, name, clauses in PUBLIC.findall(text):
-            clauses = re.split(r"\b(?:ensures|requires)\b", clauses)[1:]
+            clauses = clauses_in(clauses)
             if is_law:
                 for clause in clauses:
                     cited = self.homes_in(clause, names)
@@ -102,9 +113,12 @@ class Repository:
             else:
                 self.contracts[crate].append((f"{crate}::{name}", self.homes_in(" ".join(clauses), names)))
         for block in [] if is_law else SEEN.finditer(text):
-            if public_types(crate) & {*block.groups()}:
+            if types & {*block.groups()}:
                 name = f"{crate}::{block[1] or block[2] or block[3]}"
-                self.contracts[crate].append((name, self.homes_in(" ".join(GHOST.findall(block[0])), names)))
+                cited = self.homes_in(" ".join(GHOST.findall(block[0])), names)
+                self.contracts[crate].append((name, {home for home in cited if not is_proof(home[0])}))
+                for method, said in METHOD.findall(block[0]) if block[1] else []:
+                    self.contracts[crate].append((f"{name}::{method}", self.homes_in(" ".join(clauses_in(said)), names)))
 
     def home_of(self, name, module):
         """Where the definition is that this name means in a module, if it is one of this repository."""
@@ -135,6 +149,16 @@ class Repository:
             homes = set().union(*(self.laws.get(law, set()) for law in it.laws)) if it.laws else self.cited_by(home)
             left += [(other, it.name) for other in homes - {home}]
         return believed, again
+
+    def cited_in_all(self, roots):
+        """What these cite, and what that cites, whatever says it again."""
+        seen, left = set(), [home for _, homes in roots for home in homes]
+        while left:
+            home = left.pop()
+            if home not in seen:
+                seen.add(home)
+                left += self.cited_by(home)
+        return seen
 
     def contracts_of(self, crates):
         return [it for crate in crates for it in self.contracts[crate]]

@@ -3,8 +3,7 @@
  * Boards are deals some moves on, as they are or with bytes changed; passages and moves are made by chance. Each call must
  * leave what it writes as it was where it answers no 0, must not write past it, and must do what it says where it answers
  * 0: what is printed is read back, canonical twice is once, images come back, both boards play alike,
- * the moves of a run lead where the run leads, keys, hashes and children are canonical boards', and what is packed is
- * unpacked, and packed again the same.
+ * the moves of a run lead where the run leads, and keys, hashes and children are canonical boards'.
  */
 #define _GNU_SOURCE
 #define FCANON_CHECKED /* a move by chance may be refused */
@@ -119,22 +118,6 @@ static void try_key(uint32_t game, const fcanon_board *board, const fcanon_board
     must(*count == 24 || suits[23][3] == 7, "symmetries wrote past their count", turn);
 }
 
-/* A board in 32 bytes, and the board that these give, or others by chance. */
-static void try_packed(uint32_t game, const fcanon_board *board, const fcanon_board *canonical, uint32_t answer, long turn) {
-    static fcanon_packed *packed, *again;
-    static fcanon_board was;
-    if (!packed) packed = fenced(32), again = fenced(32);
-    memset(packed, 7, 32), memset(&was, 7, 72), *room.key = was;
-    must(fcanon_pack(game, board, packed) == answer, "pack disagrees", turn);
-    must(!answer || (packed->bytes[0] == 7 && packed->bytes[31] == 7), "pack wrote at a refusal", turn);
-    must(answer || !fcanon_unpack(game, packed, room.key), "not unpacked", turn);
-    must(answer || (!fcanon_key(game, room.key, room.many) && fcanon_equal(room.many, canonical)), "another board unpacked", turn);
-    spoil(packed->bytes, 32), *room.key = was;
-    uint32_t got = counted(fcanon_unpack(game, packed, room.key));
-    must(!got || fcanon_equal(room.key, &was), "unpack wrote at a refusal", turn);
-    must(got || (!fcanon_pack(game, room.key, again) && !memcmp(packed, again, 32)), "packed again otherwise", turn);
-}
-
 /* The keys of three boards, of which this is the second, and the child by a move. */
 static void try_keys(uint32_t game, const fcanon_board *board, const fcanon_board *canonical,
                      uint32_t answer, long turn) {
@@ -153,6 +136,20 @@ static void try_keys(uint32_t game, const fcanon_board *board, const fcanon_boar
     must(fcanon_equal(room.key, child ? &was : many + 1), "another child", turn);
     must(!child || room.passage->cells[7] == 7, "child wrote at a refusal", turn);
     must(strlen(fcanon_answer_text(child)) < 20, "words", turn);
+}
+
+/* A board alone as a closed list, right before the forbidden pages: it is one only if it is its own key, not won, and no move
+ * leads to another board. */
+static void try_closed(uint32_t game, const fcanon_board *board, const fcanon_board *canonical, uint32_t answer, long turn) {
+    fcanon_board *one = room.children + FCANON_MOST_CHILDREN - 1, after, key;
+    *one = *board, *room.place = 7, *room.move = (fcanon_move){7, 7};
+    uint32_t got = counted(fcanon_closed(game, one, 1, room.place, room.move));
+    must(answer ? got == answer : (got == FCANON_NOT_CANONICAL) == !fcanon_equal(one, canonical), "closed disagrees", turn);
+    must(*room.place == (got < FCANON_NO_BOARD ? 7 : 0) && (room.move->from == 7) == (got != FCANON_OPEN), "what closed wrote", turn);
+    after = *one;
+    must(got != FCANON_OPEN || (!fcanon_play(game, &after, room.move) && !fcanon_key(game, &after, &key) && !fcanon_equal(&key, one)), "no move out", turn);
+    got = counted(fcanon_unsolvable(game, board, one, 1));
+    must(answer ? got == answer : (got == 0) == !fcanon_closed(game, one, 1, room.place, room.move), "unsolvable disagrees", turn);
 }
 
 /* The moves of a board, into room by chance directly before the forbidden pages: those of its children, and those of
@@ -226,9 +223,9 @@ int main(int argc, char **argv) {
         answer = counted(fcanon_canon(game, board, canonical, passage));
         must(!memcmp(board, &before, sizeof before), "a board that is read was changed", turn);
         try_key(game, board, canonical, answer, turn);
-        try_packed(game, board, canonical, answer, turn);
         try_keys(game, board, canonical, answer, turn);
         try_moves(game, board, answer, turn);
+    try_closed(game, board, canonical, answer, turn);
         try_children(game, board, answer, turn);
         if (answer) {
             must(canonical->cards[51] == 7 && !memcmp(passage, &was, sizeof was), "canon wrote at a refusal", turn);

@@ -9,16 +9,15 @@ enum { GAMES = 3, DEALS = 20, STEPS = 20 };
 
 /* What the calls give of a board. */
 typedef struct given {
-    fcanon_board key, canonical, child, unpacked;
+    fcanon_board key, canonical, child;
     fcanon_passage passage, back, itself, onward;
     fcanon_class_sums sums;
-    fcanon_packed packed;
     fcanon_move moves[FCANON_MOST_CHILDREN];
     fcanon_board keys[FCANON_MOST_CHILDREN];
     uint8_t hash[16], class_hash[16];
     char text[256];
     size_t count;
-    uint32_t answers[12];
+    uint32_t answers[10];
 } given;
 
 static fcanon_board boards[GAMES][DEALS][STEPS];
@@ -33,8 +32,6 @@ static void call_all(uint32_t game, const fcanon_board *board, given *it) {
     *answer++ = fcanon_hash(game, board, it->hash);
     *answer++ = fcanon_sums(game, board, &it->sums);
     *answer++ = fcanon_class_hash(game, &it->sums, it->class_hash);
-    *answer++ = fcanon_pack(game, board, &it->packed);
-    *answer++ = fcanon_unpack(game, &it->packed, &it->unpacked);
     *answer++ = fcanon_write(game, board, it->text);
     *answer++ = fcanon_children(game, board, it->moves, FCANON_MOST_CHILDREN, it->keys, FCANON_MOST_CHILDREN, &it->count);
     *answer++ = it->count ? fcanon_child(game, board, it->moves, &it->child, &it->onward) : FCANON_DONE;

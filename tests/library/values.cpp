@@ -16,7 +16,6 @@ static_assert(std::is_same<Span<int>, std::span<int>>::value, "a span is another
 #error "C++20 has std::span"
 #endif
 static_assert(std::is_trivially_copyable<Board>::value && std::is_trivially_copyable<Passage>::value, "values are copied as bytes");
-static_assert(std::is_trivially_copyable<PackedBoard>::value, "so are packed boards");
 static_assert(sizeof(Move) == 2 && sizeof(Run) == 3, "moves are as large as those of fcanon.h");
 
 static int faults;
@@ -52,6 +51,10 @@ static void try_moves(const Board &board) {
         MUST(after.image(board.child(moves[at]).passage) == after.key());
         MUST(board.after(Run(moves[at])) == after);
     }
+    std::vector<fcanon_board> keys(1, board.key().bytes());
+    Flaw flaw = fcanon::find_flaw(board.game(), keys);
+    MUST(board.is_unsolvable(keys) == (flaw.answer == FCANON_DONE) && (flaw.answer == FCANON_OPEN) == !moves.empty());
+    MUST(flaw.answer != FCANON_OPEN || board.key().after(flaw.move) != board.key());
     for (const Run &run : board.run_moves()) {
         Board after = board;
         for (const Move &move : board.expand(run)) after = after.after(move);
@@ -75,12 +78,6 @@ static void try_board(const Board &board) {
     sums.move(1, FCANON_ON_CELL, 2);
     MUST(!fcanon_move_sums(board.game(), 1, FCANON_ON_CELL, 2, &anew) && !std::memcmp(&anew, &sums.sums(), sizeof anew));
     MUST(ANSWER(sums.move(53, 0, 0)) == FCANON_NO_MOVE);
-    PackedBoard packed = board.packed();
-    fcanon_packed bytes;
-    MUST(packed.game() == board.game() && !fcanon_pack(board.game(), &board.bytes(), &bytes) && packed.bytes() == bytes);
-    MUST(packed == PackedBoard(board.game(), bytes) && packed.board().packed() == packed && packed.board().key() == there.board);
-    MUST(std::hash<PackedBoard>()(packed) == std::hash<PackedBoard>()(packed.board().packed()));
-    MUST(!(packed < packed) && (packed != there.board.packed()) == (packed < there.board.packed() || there.board.packed() < packed));
     MUST(std::hash<Board>()(there.board) == std::hash<Board>()(board.key()));
     MUST(!(board < board) && (board == there.board || (board < there.board) != (there.board < board)));
     try_moves(board);
@@ -105,22 +102,17 @@ static std::vector<Board> play(Board board) {
 static void try_sets(const std::vector<Board> &boards) {
     std::unordered_set<Board> classes;
     std::unordered_set<fcanon_board> keys;
-    std::unordered_set<PackedBoard> packed;
-    std::unordered_set<fcanon_packed> packed_keys;
     std::unordered_map<Passage, int> passages;
     std::unordered_map<Move, int> moves;
     std::set<Passage> ordered;
     for (const Board &board : boards) {
         classes.insert(board.key());
         keys.insert(board.key().bytes());
-        packed.insert(board.key().packed());
-        packed_keys.insert(board.key().packed().bytes());
         passages[board.canonicalize().passage]++;
         ordered.insert(board.canonicalize().passage);
         for (const Move &move : board.moves()) moves[move]++;
     }
     MUST(classes.size() == keys.size() && keys.size() > 3 && passages.size() == ordered.size() && ordered.size() > 1);
-    MUST(packed.size() == keys.size() && packed_keys.size() == keys.size());
     MUST(moves.size() > 9 && moves.size() < 200);
     std::unordered_set<std::size_t> hashes;
     for (const Board &board : boards) hashes.insert(std::hash<Board>()(board));
@@ -149,11 +141,6 @@ static void try_refusals() {
     MUST(ANSWER(Board::deal(FCANON_EIGHT_OFF, 1)) == FCANON_NO_DEAL && place == nowhere);
     MUST(ANSWER(Board::deal(3, 1)) == FCANON_NO_GAME);
     MUST(ANSWER(Board(0, fcanon_board())) == FCANON_NO_BOARD && ANSWER(Board(7, board.bytes())) == FCANON_NO_GAME);
-    fcanon_packed none;
-    std::memset(&none, 255, sizeof none);
-    MUST(ANSWER(PackedBoard(0, none)) == FCANON_NO_BOARD && ANSWER(PackedBoard(3, board.packed().bytes())) == FCANON_NO_GAME);
-    MUST(board.packed() != bakers.packed() && board.packed().bytes() == bakers.packed().bytes());
-    MUST((board.packed() < bakers.packed()) != (bakers.packed() < board.packed()));
     MUST(ANSWER(Board::read(0, "KC KC\n")) == FCANON_REPEATED_CARD && place == 3);
     MUST(ANSWER(Board::read(0, nullptr, 0)) == FCANON_FIRST_MISSING_CARD);
     MUST(ANSWER(Passage(0, fcanon_passage())) == FCANON_NO_PASSAGE);

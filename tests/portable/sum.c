@@ -71,12 +71,15 @@ static void try_keys(uint32_t game, const fcanon_board *board) {
     add_number(place);
 }
 
-static void try_packed(uint32_t game, const fcanon_board *board) {
-    fcanon_packed packed = {{0}};
-    fcanon_board again = {{0}, {0}, {0}, {0}};
-    did(fcanon_pack(game, board, &packed), &packed, sizeof packed);
-    if (chance(5) == 0) packed.bytes[chance(32)] ^= (uint8_t)(1 << chance(8));
-    did(fcanon_unpack(game, &packed, &again), &again, sizeof again);
+static void try_closed(uint32_t game, const fcanon_board *board) {
+    fcanon_board keys[2];
+    fcanon_move move = {7, 7};
+    size_t place = 7;
+    keys[0] = keys[1] = *board;
+    if (chance(2)) did(fcanon_key(game, board, keys), keys, sizeof keys);
+    did(fcanon_closed(game, keys, 1 + chance(2), &place, &move), &move, sizeof move);
+    add_number(place);
+    did(fcanon_unsolvable(game, board, keys, 1), keys, sizeof keys);
 }
 
 static void try_sums(uint32_t game, const fcanon_board *board) {
@@ -152,7 +155,7 @@ int main(int argc, char **argv) {
         fcanon_board board = any_board(game);
         try_texts(game, &board);
         try_keys(game, &board);
-        try_packed(game, &board);
+        try_closed(game, &board);
         try_sums(game, &board);
         try_children(game, &board);
         try_lists(game, &board);

@@ -35,7 +35,6 @@ static void call_each(uint32_t deal, const fcanon_board *board, const fcanon_mov
     char text[256];
     uint8_t hash[16], suits[24][4];
     fcanon_class_sums sums;
-    fcanon_packed packed;
     uint32_t cards;
     const char *words;
     size_t place;
@@ -56,8 +55,6 @@ static void call_each(uint32_t deal, const fcanon_board *board, const fcanon_mov
     fcanon_sums(GAME, board, &sums);
     fcanon_move_sums(GAME, 7, 30, FCANON_ON_CELL, &sums);
     fcanon_class_hash(GAME, &sums, hash);
-    fcanon_pack(GAME, board, &packed);
-    fcanon_unpack(GAME, &packed, &other);
     fcanon_child(GAME, board, move, &other, &back);
     fcanon_carry(GAME, &passage, &image);
     fcanon_carry_run(GAME, &passage, &carried);
@@ -65,6 +62,8 @@ static void call_each(uint32_t deal, const fcanon_board *board, const fcanon_mov
     fcanon_image(GAME, &passage, board, &other);
     fcanon_then(GAME, &passage, &back, &back_again);
     fcanon_same(GAME, board, &canonical, &back);
+    fcanon_closed(GAME, &canonical, 1, &place, &image);
+    fcanon_unsolvable(GAME, board, &canonical, 1);
     fcanon_symmetries(GAME, board, suits, &cards);
     fcanon_expand(GAME, board, &run, moves, FCANON_MOST_MOVES, &place);
     fcanon_moves(GAME, board, moves, FCANON_MOST_CHILDREN, &place);

@@ -1,6 +1,6 @@
 //! The Rust crate which does what each line of standard input asks for; tests/bindings/run says
 //! how.
-use fcanon::{canonicalize_all, Board, BoardBytes, Error, Game, Move, Passage, Reason, Run};
+use fcanon::{canonicalize_all, find_flaw, Board, BoardBytes, Error, Flaw, Game, Move, Passage, Reason, Run};
 use std::collections::HashSet;
 use std::io::Read;
 
@@ -23,12 +23,13 @@ fn tell_board(board: &Board) {
     assert_eq!(keys, [*canonical.bytes(); 2]);
     let capacities = (1..=8).map(|column| format!(" {}", board.capacity(column).unwrap()));
     println!("capacity{}", capacities.collect::<String>());
-    println!("key {} {}", hex_of(&packed(canonical.bytes())), hex_of(&board.canonical_hash()));
-    println!("class {}", hex_of(&board.class_sums().class_hash()));
+    println!(
+        "key {} {}",
+        hex_of(&<[u8; 72]>::from(*canonical.bytes())),
+        hex_of(&board.canonical_hash())
+    );
+    println!("class {} {}", board.game() as u32, hex_of(&board.class_sums().class_hash()));
     assert_eq!(board.class_sums().class_hash(), canonical.class_sums().class_hash());
-    println!("packed {} {}", hex_of(&board.packed()), hex_of(&canonical.packed()));
-    let ordered = Board::from_packed(board.game(), board.packed()).unwrap();
-    assert_eq!((ordered.packed(), ordered.canonical()), (board.packed(), canonical));
     let letters = |suits: [u8; 4]| suits.map(|it| char::from(b"CDHS"[usize::from(it)]));
     let names = board.symmetries().flat_map(|suits| [' '].into_iter().chain(letters(suits)));
     println!("symmetries{}", names.collect::<String>());
@@ -46,6 +47,21 @@ fn tell_children(board: &Board) {
         format!(" {mv}")
     });
     println!("children{}", moves.collect::<String>());
+    tell_closed(board);
+}
+
+fn tell_closed(board: &Board) {
+    let keys = [*board.canonical().bytes(); 2];
+    let doubled = find_flaw(board.game(), &keys).map(|flaw| (flaw.reason, flaw.place, flaw.mv));
+    assert_eq!(doubled, Some((Reason::NotAscending, 1, None)));
+    assert_eq!(board.is_unsolvable(&keys[..1]), find_flaw(board.game(), &keys[..1]).is_none());
+    match find_flaw(board.game(), &keys[..1]) {
+        None => println!("closed yes"),
+        Some(Flaw { reason, place, mv }) => {
+            let mv = mv.map_or("-".to_string(), |it| it.to_string());
+            println!("closed {} {place} {mv}", reason.answer());
+        }
+    }
 }
 
 /// Whether a reason against a move or a fault of a text has the name that its words make.
@@ -67,10 +83,6 @@ fn verdict(start: &Board, moves: &[Run], play: fn(&mut Board, Run) -> Result<(),
         }
     }
     format!("{} {}", if board.is_won() { "wins" } else { "legal" }, moves.len())
-}
-
-fn packed(bytes: &BoardBytes) -> [u8; 72] {
-    (*bytes).into()
 }
 
 fn hex_of(bytes: &[u8]) -> String {
@@ -126,7 +138,7 @@ fn tell_list(board: &Board, mark: &str, words: &[&str]) -> Result<(), Error> {
     Ok(())
 }
 
-fn unpacked(hex: &str) -> Vec<u8> {
+fn bytes_in(hex: &str) -> Vec<u8> {
     let byte = |at| u8::from_str_radix(&hex[at..at + 2], 16).unwrap();
     (0..hex.len()).step_by(2).map(byte).collect()
 }
@@ -171,13 +183,11 @@ fn tell_answers(seed: u32, rounds: u32) {
         let board = Board::deal(Game::FreeCell, draw.below(1000) as u32 + 1).unwrap();
         let bytes = draw.damaged((*board.bytes()).into());
         let passage = draw.damaged((*board.canonicalize().1.bytes()).into());
-        let short = draw.damaged(board.packed());
         let mv: String = (0..2).map(|_| signs[draw.below(signs.len())]).collect();
         let (mut one, mut other) = (board, board);
         let answers = [
             answer_to(Board::from_bytes(game, bytes)),
             answer_to(Passage::from_bytes(game, passage)),
-            answer_to(Board::from_packed(game, short)),
             answer_to(mv.parse().and_then(|it| one.play(it))),
             answer_to(format!("{mv}v3").parse().and_then(|it| other.play_run(it))),
         ];
@@ -190,12 +200,12 @@ fn tell_answers(seed: u32, rounds: u32) {
 fn made(what: &str, game: &str, given: &str) -> Result<Board, Error> {
     let game = GAMES[game.parse::<usize>().unwrap()];
     match what {
-        "board" => Board::read(game, &unpacked(given)),
+        "board" => Board::read(game, &bytes_in(given)),
         "boards" => {
-            let mut boards: Vec<BoardBytes> = unpacked(given).chunks(72).map(bytes_of).collect();
+            let mut boards: Vec<BoardBytes> = bytes_in(given).chunks(72).map(bytes_of).collect();
             canonicalize_all(game, &mut boards).map(|()| unreachable!())
         }
-        "bytes" => Board::from_bytes(game, bytes_of(&unpacked(given))),
+        "bytes" => Board::from_bytes(game, bytes_of(&bytes_in(given))),
         _ => Board::deal(game, given.parse().unwrap()),
     }
 }
