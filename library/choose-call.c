@@ -86,4 +86,12 @@ CALL(uint32_t, fcanon_children,
      (uint32_t game, const fcanon_board *board, fcanon_move *moves, size_t moves_room,
       fcanon_board *keys, size_t keys_room, size_t *count),
      (game, board, moves, moves_room, keys, keys_room, count))
+CALL(uint32_t, fcanon_child_hashes,
+     (uint32_t game, const fcanon_board *board, const fcanon_class_sums *sums,
+      fcanon_child_hash *children, size_t room, size_t *count),
+     (game, board, sums, children, room, count))
+CALL(uint32_t, fcanon_known_child_hashes,
+     (uint32_t game, const fcanon_board *board, const fcanon_class_sums *sums,
+      fcanon_child_hash *children, size_t room, size_t *count),
+     (game, board, sums, children, room, count))
 CALL(uint32_t, fcanon_deal, (uint32_t game, uint32_t number, fcanon_board *board), (game, number, board))

@@ -8,12 +8,12 @@
  * the order of the arguments.
  *
  * Pointers. A pointer may be null only before a size of 0: that of a text, of boards of fcanon_keys, of
- * keys, and of room for moves, runs and keys. What a call writes must not overlap anything else that is handed to
+ * keys, and of room for moves, runs, keys and child hashes. What a call writes must not overlap anything else that is handed to
  * that call: only fcanon_play and fcanon_play_run work in place on their board, fcanon_carry and
  * fcanon_carry_run on their move, and fcanon_move_sums on its sums.
- * size_t, uint32_t and sums must be aligned as C aligns them; boards, passages, moves and texts may be
+ * size_t, uint32_t and sums must be aligned as C aligns them; boards, passages, moves, hashes and texts may be
  * anywhere. None of this is tested, as with memcpy. What the bytes are is tested: no bytes of a board,
- * a passage, a move or a text are forbidden.
+ * a passage, a move or a text are forbidden, but those of the board of fcanon_known_child_hashes.
  *
  * Threads. A call takes no memory and keeps nothing of what it is given. Calls of several threads
  * may run at once, as long as none writes what another uses.
@@ -117,6 +117,12 @@ typedef struct fcanon_run_move {
 typedef struct fcanon_class_sums {
     uint64_t sums[24][2];
 } fcanon_class_sums;
+
+/* A move of one card, and the hash of the class of the board after it, 18 bytes. */
+typedef struct fcanon_child_hash {
+    fcanon_move move;
+    uint8_t hash[16];
+} fcanon_child_hash;
 
 /* What a card lies on, in place of the byte of a card: 1 to 52 is that card. */
 #define FCANON_ON_FOOT 0  /* the foot of a column */
@@ -307,6 +313,19 @@ FCANON_CALL_NONNULL(2, 5) uint32_t fcanon_run_moves(uint32_t game, const fcanon_
  * them. */
 FCANON_CALL_NONNULL(2, 7) uint32_t fcanon_children(uint32_t game, const fcanon_board *board,
     fcanon_move *moves, size_t moves_room, fcanon_board *keys, size_t keys_room, size_t *count);
+
+/* The moves that fcanon_moves finds, how many they are, and for each the class hash of the board after it:
+ * that of the sums as fcanon_move_sums makes them for the move. No board is made. The sums must be those of
+ * the board, by fcanon_sums or kept by fcanon_move_sums: the board is tested, but not whether they are its
+ * own. Where there is room for FCANON_MOST_CHILDREN, there is for all; too little room is answered last. The
+ * board and the sums stay, and so does what children has after them. */
+FCANON_CALL_NONNULL(2, 3, 6) uint32_t fcanon_child_hashes(uint32_t game, const fcanon_board *board,
+    const fcanon_class_sums *sums, fcanon_child_hash *children, size_t room, size_t *count);
+
+/* The same of a board that a call made or accepted as one of this game: it is not tested again. Other bytes
+ * must not be handed to this call. */
+FCANON_CALL_NONNULL(2, 3, 6) uint32_t fcanon_known_child_hashes(uint32_t game, const fcanon_board *board,
+    const fcanon_class_sums *sums, fcanon_child_hash *children, size_t room, size_t *count);
 
 /* Whether keys are those of a closed list: they are canonical boards, each above the one before it by
  * memcmp, none is won, and each move of one card leads from each to a board whose key is among them. Then

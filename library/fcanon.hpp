@@ -281,7 +281,12 @@ public:
         detail::must(fcanon_run_moves(number, &held, found, FCANON_MOST_RUN_MOVES, &count));
         return {found, found + count};
     }
-    /* The same as moves and children, into room that is there; so many were written. */
+    /* The moves, each with the class hash of the board after it, made of this board's sums: as fcanon_known_child_hashes. */
+    std::vector<fcanon_child_hash> child_hashes(const ClassSums &sums) const {
+        fcanon_child_hash found[FCANON_MOST_CHILDREN];
+        return {found, found + child_hashes_into(sums, found)};
+    }
+    /* The same as moves, children and child_hashes, into room that is there; so many were written. */
     std::size_t moves_into(Span<fcanon_move> room) const {
         std::size_t count;
         detail::must(fcanon_moves(number, &held, room.data(), room.size(), &count));
@@ -290,6 +295,12 @@ public:
     std::size_t children_into(Span<fcanon_move> moves, Span<fcanon_board> keys) const {
         std::size_t count;
         detail::must(fcanon_children(number, &held, moves.data(), moves.size(), keys.data(), keys.size(), &count));
+        return count;
+    }
+    std::size_t child_hashes_into(const ClassSums &sums, Span<fcanon_child_hash> room) const {
+        if (number != sums.number) throw Error(FCANON_NO_BOARD);
+        std::size_t count;
+        detail::must(fcanon_known_child_hashes(number, &held, &sums.held, room.data(), room.size(), &count));
         return count;
     }
     /* The board after a move; or the game's reason is thrown, and this board stays in each case. */

@@ -1,7 +1,7 @@
-/* class-sums PLAYS STATES: sums that are moved with a board are those of the board, boards of one class have
- * one class hash, and those of other classes have others. PLAYS boards are played to by chance, and STATES
- * are found by two searches in each game, each once by its class hash. Prints what is wrong, and how many
- * of each there were. */
+/* class-sums PLAYS STATES: sums that are moved with a board are those of the board, child hashes are those of
+ * moved sums, boards of one class have one class hash, and those of other classes have others. PLAYS boards
+ * are played to by chance, and STATES are found by two searches in each game, each once by its class hash.
+ * Prints what is wrong, and how many of each there were. */
 #define FCANON_CHECKED /* what must be 0 is looked at by `must` */
 #include "fcanon.h"
 #include <stdio.h>
@@ -141,6 +141,23 @@ static void try_runs(uint32_t game, const state *it) {
     }
 }
 
+/* The child hashes are those of the sums moved by each of the moves, in the order of these. */
+static void try_child_hashes(uint32_t game, const state *it) {
+    static fcanon_child_hash hashes[FCANON_MOST_CHILDREN];
+    fcanon_move moves[FCANON_MOST_CHILDREN];
+    size_t count, many;
+    fcanon_moves(game, &it->board, moves, FCANON_MOST_CHILDREN, &many);
+    must(!fcanon_child_hashes(game, &it->board, &it->sums, hashes, FCANON_MOST_CHILDREN, &count), "no child hashes");
+    must(count == many, "another number of child hashes than of moves");
+    for (size_t i = 0; i < count; i++) {
+        state next = *it;
+        uint8_t hash[16];
+        play(game, &next, moves + i);
+        fcanon_class_hash(game, &next.sums, hash);
+        must(!memcmp(&hashes[i].move, moves + i, 2) && !memcmp(hashes[i].hash, hash, 16), "another child hash");
+    }
+}
+
 static void play_by_chance(uint32_t plays) {
     fcanon_move moves[FCANON_MOST_CHILDREN];
     for (uint32_t deal = 1; plays; deal++) {
@@ -151,6 +168,7 @@ static void play_by_chance(uint32_t plays) {
         for (int i = 0; i < 100 && plays; i++, plays--) {
             compare(game, &it);
             try_runs(game, &it);
+            try_child_hashes(game, &it);
             fcanon_moves(game, &it.board, moves, FCANON_MOST_CHILDREN, &count);
             if (!count) break;
             play(game, &it, moves + chance((uint32_t)count));

@@ -86,6 +86,8 @@ static struct {
     fcanon_passage *passage;
     fcanon_move *move, *moves;
     fcanon_run_move *runs;
+    fcanon_class_sums *sums;
+    fcanon_child_hash *hashes;
     uint8_t *hash, *other, (*suits)[4];
     uint32_t *count;
     size_t *place;
@@ -97,6 +99,7 @@ static void take_room(void) {
     room.place = fenced(sizeof(size_t));
     room.moves = fenced(2 * FCANON_MOST_CHILDREN), room.children = fenced(72 * FCANON_MOST_CHILDREN);
     room.runs = fenced(3 * FCANON_MOST_RUN_MOVES);
+    room.sums = fenced(sizeof(fcanon_class_sums)), room.hashes = fenced(18 * FCANON_MOST_CHILDREN);
 }
 
 /* The key, the hash and the symmetries of a board, which is none where canon answered so. */
@@ -183,6 +186,27 @@ static void try_image(uint32_t game, const fcanon_board *board, const fcanon_boa
     must(!fcanon_image(game, room.passage, board, room.key) && fcanon_equal(room.key, board), "there and back", turn);
 }
 
+/* The moves of a board with their hashes, into room by chance directly before the forbidden pages: the class hash of the board
+ * after each. */
+static void try_child_hashes(uint32_t game, const fcanon_board *board, uint32_t answer, long turn) {
+    size_t many = chance(2) ? FCANON_MOST_CHILDREN : chance(40);
+    fcanon_child_hash *hashes = room.hashes + FCANON_MOST_CHILDREN - many;
+    fcanon_board after;
+    memset(room.sums, 7, sizeof *room.sums), memset(hashes, 7, 18 * many), *room.place = 777;
+    must(fcanon_sums(game, board, room.sums) == answer, "sums disagree", turn);
+    uint32_t got = counted(answer || chance(2) ? fcanon_child_hashes(game, board, room.sums, hashes, many, room.place)
+                                               : fcanon_known_child_hashes(game, board, room.sums, hashes, many, room.place));
+    size_t count = got ? 0 : *room.place;
+    must(answer ? got == answer : got == 0 || (got == FCANON_NO_ROOM && many < FCANON_MOST_CHILDREN), "child hashes disagree", turn);
+    must((!got || *room.place == 777) && count <= many, "the number of child hashes", turn);
+    for (size_t i = 0; i < count; i++) {
+        after = *board;
+        must(!fcanon_play(game, &after, &hashes[i].move) && !fcanon_sums(game, &after, room.sums), "a hash by no move", turn);
+        must(!fcanon_class_hash(game, room.sums, room.hash) && !memcmp(room.hash, hashes[i].hash, 16), "another child hash", turn);
+    }
+    for (size_t i = count; i < many; i++) must(hashes[i].hash[15] == 7, "child_hashes wrote past its hashes", turn);
+}
+
 /* All children of a board, into room by chance directly before the forbidden pages. */
 static void try_children(uint32_t game, const fcanon_board *board, uint32_t answer, long turn) {
     size_t many = chance(2) ? FCANON_MOST_CHILDREN : chance(40), keys_many = chance(2) ? FCANON_MOST_CHILDREN : chance(40);
@@ -227,6 +251,7 @@ int main(int argc, char **argv) {
         try_moves(game, board, answer, turn);
     try_closed(game, board, canonical, answer, turn);
         try_children(game, board, answer, turn);
+        try_child_hashes(game, board, answer, turn);
         if (answer) {
             must(canonical->cards[51] == 7 && !memcmp(passage, &was, sizeof was), "canon wrote at a refusal", turn);
             memset(text, 7, 256);

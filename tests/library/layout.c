@@ -14,6 +14,7 @@ ASSERT(move_size, sizeof(fcanon_move) == 2);
 ASSERT(run_size, sizeof(fcanon_run_move) == 3);
 ASSERT(run_count, offsetof(fcanon_run_move, count) == 2);
 ASSERT(class_sums_size, sizeof(fcanon_class_sums) == 384);
+ASSERT(child_hash_size, sizeof(fcanon_child_hash) == 18 && offsetof(fcanon_child_hash, hash) == 2);
 ASSERT(further_answers, FCANON_NO_COLUMN == 8 && FCANON_NO_ROOM == 9 && FCANON_WRONG_COUNT == 40 && FCANON_REPEATED_LINE == 64);
 ASSERT(closed_answers, FCANON_NOT_CANONICAL == 16 && FCANON_OPEN == 19 && FCANON_NOT_AMONG == 21);
 ASSERT(answers, FCANON_NO_DEAL == 7 && FCANON_NOT_NEXT == 37 && FCANON_REPEATED_CARD == 69);

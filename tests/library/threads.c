@@ -14,10 +14,11 @@ typedef struct given {
     fcanon_class_sums sums;
     fcanon_move moves[FCANON_MOST_CHILDREN];
     fcanon_board keys[FCANON_MOST_CHILDREN];
+    fcanon_child_hash hashes[FCANON_MOST_CHILDREN];
     uint8_t hash[16], class_hash[16];
     char text[256];
     size_t count;
-    uint32_t answers[10];
+    uint32_t answers[11];
 } given;
 
 static fcanon_board boards[GAMES][DEALS][STEPS];
@@ -32,6 +33,7 @@ static void call_all(uint32_t game, const fcanon_board *board, given *it) {
     *answer++ = fcanon_hash(game, board, it->hash);
     *answer++ = fcanon_sums(game, board, &it->sums);
     *answer++ = fcanon_class_hash(game, &it->sums, it->class_hash);
+    *answer++ = fcanon_child_hashes(game, board, &it->sums, it->hashes, FCANON_MOST_CHILDREN, &it->count);
     *answer++ = fcanon_write(game, board, it->text);
     *answer++ = fcanon_children(game, board, it->moves, FCANON_MOST_CHILDREN, it->keys, FCANON_MOST_CHILDREN, &it->count);
     *answer++ = it->count ? fcanon_child(game, board, it->moves, &it->child, &it->onward) : FCANON_DONE;

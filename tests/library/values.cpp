@@ -40,6 +40,17 @@ template <class Call> static std::uint32_t answer_of(Call call) {
 
 static bool has(const Board &board, const fcanon_board &bytes) { return fcanon_equal(&board.bytes(), &bytes); }
 
+static void try_child_hashes(const Board &board) {
+    std::vector<fcanon_child_hash> hashes = board.child_hashes(board.class_sums());
+    std::vector<Move> moves = board.moves();
+    MUST(hashes.size() == moves.size());
+    for (std::size_t at = 0; at < moves.size(); at++) {
+        std::array<std::uint8_t, 16> hash = board.after(moves[at]).class_sums().hash();
+        MUST(moves[at] == hashes[at].move && !std::memcmp(hashes[at].hash, hash.data(), 16));
+    }
+    MUST(ANSWER(board.child_hashes(Board::deal(board.game() == 0, 1).class_sums())) == FCANON_NO_BOARD);
+}
+
 static void try_moves(const Board &board) {
     std::vector<Move> moves = board.moves();
     Children children = board.children();
@@ -80,6 +91,7 @@ static void try_board(const Board &board) {
     MUST(ANSWER(sums.move(53, 0, 0)) == FCANON_NO_MOVE);
     MUST(std::hash<Board>()(there.board) == std::hash<Board>()(board.key()));
     MUST(!(board < board) && (board == there.board || (board < there.board) != (there.board < board)));
+    try_child_hashes(board);
     try_moves(board);
 }
 

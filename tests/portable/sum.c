@@ -83,9 +83,16 @@ static void try_closed(uint32_t game, const fcanon_board *board) {
 }
 
 static void try_sums(uint32_t game, const fcanon_board *board) {
+    static fcanon_child_hash hashes[FCANON_MOST_CHILDREN];
     fcanon_class_sums sums = {{{0}}};
+    size_t count = 7;
     uint8_t hash[16] = {0}, card = (uint8_t)chance(55), from = (uint8_t)chance(56), onto = (uint8_t)chance(57);
     did(fcanon_sums(game, board, &sums), &sums, sizeof sums);
+    size_t room = chance(4) ? FCANON_MOST_CHILDREN : chance(30);
+    did(fcanon_child_hashes(game, board, &sums, hashes, room, &count), hashes, sizeof hashes);
+    add_number(count);
+    if (!fcanon_sums(game, board, &sums))
+        did(fcanon_known_child_hashes(game, board, &sums, hashes, room, &count), hashes, sizeof hashes);
     did(fcanon_move_sums(game, card, from, onto, &sums), &sums, sizeof sums);
     did(fcanon_class_hash(game, &sums, hash), hash, sizeof hash);
 }

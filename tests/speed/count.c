@@ -30,6 +30,7 @@ static void call_each(uint32_t deal, const fcanon_board *board, const fcanon_mov
     fcanon_passage passage, back, back_again;
     fcanon_move image = *move, moves[FCANON_MOST_CHILDREN];
     static fcanon_board keys[FCANON_MOST_CHILDREN];
+    static fcanon_child_hash hashes[FCANON_MOST_CHILDREN];
     static fcanon_run_move runs[FCANON_MOST_RUN_MOVES];
     fcanon_run_move run = {move->from, move->to, 0}, carried = run;
     char text[256];
@@ -53,6 +54,8 @@ static void call_each(uint32_t deal, const fcanon_board *board, const fcanon_mov
     fcanon_keys(GAME, &other, 1, &place);
     fcanon_hash(GAME, board, hash);
     fcanon_sums(GAME, board, &sums);
+    fcanon_child_hashes(GAME, board, &sums, hashes, FCANON_MOST_CHILDREN, &place);
+    fcanon_known_child_hashes(GAME, board, &sums, hashes, FCANON_MOST_CHILDREN, &place);
     fcanon_move_sums(GAME, 7, 30, FCANON_ON_CELL, &sums);
     fcanon_class_hash(GAME, &sums, hash);
     fcanon_child(GAME, board, move, &other, &back);

@@ -1,8 +1,8 @@
 -- Moves that a board allows, found one by one, and the canonical boards after them.
-use Rattle.std.proofs.Common.{◌++◌, ◌+◌, ◌<◌, ◌∙◌, ◌∷◌, ◌≡◌, ◌≤◌, [], ap, arith, Bool, cond, drop}
+use Rattle.std.proofs.Common.{◌++◌, ◌+◌, ◌<◌, ◌∙◌, ◌∷◌, ◌≡◌, ◌≤◌, [], ap, ap₂, arith, Bool, cond, drop}
 use Rattle.std.proofs.Common.{false, get_or, inl, inr, length, List, map, None, Option, refl, set}
 use Rattle.std.proofs.{Common.{Some, subst, suc, sym, take, true, zero, ℕ}, lemmas.Bool.{cases_lt}}
-use Rattle.std.proofs.lemmas.Grind.{flat_map-append}
+use Rattle.std.proofs.{lemmas.Grind.{flat_map-append, take-set_at}, Math.Seq.{take-suc}}
 use Rattle.std.proofs.lemmas.List.{append-nil, append_assoc, drop-drop, drop-set-lt, map-append}
 use Rattle.std.proofs.lemmas.List.{Elements.{filter-append}, FromFn.{map-range_with_len_more}}
 use Rattle.std.proofs.lemmas.List.{get_or-set_other, get_or-set_same, get_or-take, length-set}
@@ -86,6 +86,16 @@ keys_more game renamings board moves old now at key (long, left, keys) inside ro
             (subst (IsKeyAfter game renamings board (get_or moves at move)) (sym (get_or-set_same now at key default (omega (arith, long, inside, room)))) (has move)))
       ],
     )
+
+-- one item more is written
+pub written_more : {X Y : Type 0} (f : X → Y) (all : List X) (now : List Y) (at : ℕ) (default : X) (item : Y) →
+    take at now ≡ map f (take at all) → at < length all → at < length now → item ≡ f (get_or all at default) →
+    take (at + 1) (set now at item) ≡ map f (take (at + 1) all)
+written_more {Y = Y} f all now at default item written inside room is =
+    let next : suc at ≡ at + 1 = omega arith in
+    take-set_at now at (at + 1) item refl room ∙ ap₂ (λ (front : List Y) (last : Y). front ++ last ∷ []) written is
+    ∙ sym (map-append f (take at all) (get_or all at default ∷ []))
+    ∙ ap (map f) (sym (take-suc all at default inside) ∙ ap (λ n. take n all) next)
 
 -- a pile without a card allows no move
 pub none_pass : {X : Type 0} (p : X → Bool) (f : ℕ → X) → ((k : ℕ) → p (f k) ≡ false) → (list : List ℕ) → filter p (map f list) ≡ []

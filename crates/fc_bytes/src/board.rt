@@ -74,6 +74,19 @@ impl BoardBytes {
         };
         Some(board)
     }
+
+    /// The board of `R` that the bytes are known to hold, without a test.
+    pub fn known_board<R: Rule>(&self) -> Board<R>
+        requires { (board : Layout) × HoldsBoard R.game self.now board }
+        ensures { HoldsBoard R.game self.now result }
+    {
+        let Some(heights) = heights_of(&self.heights) else {
+            unreachable!();
+        };
+        let cells = cells_of(&self.cells);
+        let cards = cards_of(&self.cards);
+        Board::of_laid(heights, cells, cards, ends_of(&self.lengths))
+    }
 }
 
 fn height_bytes<R: Rule>(board: &Board<R>) -> [u8; 4]

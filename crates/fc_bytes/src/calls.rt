@@ -4,6 +4,7 @@
 //! writes is as it was, except for a place that it names.
 pub mod answers;
 pub mod canonical;
+pub mod child_hashes;
 pub mod children;
 pub mod keys;
 pub mod moves;

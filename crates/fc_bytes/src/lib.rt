@@ -5,6 +5,7 @@
 mod board;
 pub mod calls;
 mod carried;
+mod child_hash;
 mod class_hash;
 mod hash;
 mod laid;
@@ -13,6 +14,7 @@ mod passage;
 mod runs;
 
 pub use board::BoardBytes;
+pub use child_hash::ChildHash;
 pub use class_hash::ClassSums;
 pub use moves::MoveBytes;
 pub use passage::{PassageBytes, suit_bytes};

@@ -1,12 +1,13 @@
 //! All moves from a board.
 ghost use Rattle.std.specs.Prelude.{◌<◌, ◌≡◌, ◌≤◌, ◌⊎◌, length};
-ghost use Rattle.fc_bytes.specs.{AreMoves, AreRuns, HasChildren, HoldsBoard, HoldsNone};
-ghost use Rattle.fc_bytes.specs.{OfLegalMoves, OfLegalRuns};
-ghost use Rattle.fcanon_c.specs.{game_at, renamings_at};
+ghost use Rattle.{fc_board.specs.Boards.{Board}, fcanon_c.specs.{game_at, renamings_at}};
+ghost use Rattle.fc_bytes.specs.{AreMoves, AreRuns, class_hash.{HasChildHashes}};
+ghost use Rattle.fc_bytes.specs.{HasChildren, HoldsBoard, HoldsNone, OfLegalMoves, OfLegalRuns};
 
+use fc_bytes::calls::child_hashes::{child_hashes_of, known_child_hashes_of};
 use fc_bytes::calls::children::{children_of, moves_of};
 use fc_bytes::calls::run_moves::run_moves_of;
-use fc_bytes::{BoardBytes, MoveBytes, RunBytes};
+use fc_bytes::{BoardBytes, ChildHash, ClassSums, MoveBytes, RunBytes};
 
 /// The moves of one card that the game allows.
 #[unsafe(no_mangle)]
@@ -68,4 +69,47 @@ pub extern "C" fn fcanon_children(
         × (count.new ≡ count.old) }
 {
     in_game!(game, children_of(board, moves, keys, count))
+}
+
+/// The moves of one card that the game allows, each with the hash of the class of the board after
+/// it, which is made of the board's sums.
+#[unsafe(no_mangle)]
+pub extern "C" fn fcanon_child_hashes(
+    game: u32,
+    board: &BoardBytes,
+    sums: &ClassSums,
+    children: &mut [ChildHash],
+    count: &mut usize,
+) -> u32
+    ensures done { result ≡ 0 → HasChildHashes (game_at game) (renamings_at game) board.now
+        sums.now children.old children.new count.new }
+    ensures no_room { result ≡ 9 → OfLegalMoves (game_at game) board.now
+        (λ legal. length children.old < length legal) }
+    ensures no_game { 3 ≤ game → result ≡ 1 }
+    ensures no_board { result ≡ 4 → HoldsNone (HoldsBoard (game_at game)) board.now }
+    ensures no_other_answer { game < 3 → 0 < result → (result ≡ 4) ⊎ (result ≡ 9) }
+    ensures kept { 0 < result → (children.new ≡ children.old) × (count.new ≡ count.old) }
+{
+    in_game!(game, child_hashes_of(board, sums, children, count))
+}
+
+/// The same of a board that is known to be one of the game, and so is not tested.
+#[unsafe(no_mangle)]
+pub extern "C" fn fcanon_known_child_hashes(
+    game: u32,
+    board: &BoardBytes,
+    sums: &ClassSums,
+    children: &mut [ChildHash],
+    count: &mut usize,
+) -> u32
+    requires known { game < 3 → (held : Board) × HoldsBoard (game_at game) board.now held }
+    ensures done { result ≡ 0 → HasChildHashes (game_at game) (renamings_at game) board.now
+        sums.now children.old children.new count.new }
+    ensures no_room { result ≡ 9 → OfLegalMoves (game_at game) board.now
+        (λ legal. length children.old < length legal) }
+    ensures no_game { 3 ≤ game → result ≡ 1 }
+    ensures no_other_answer { game < 3 → 0 < result → result ≡ 9 }
+    ensures kept { 0 < result → (children.new ≡ children.old) × (count.new ≡ count.old) }
+{
+    in_game!(game, known_child_hashes_of(board, sums, children, count))
 }

@@ -59,6 +59,16 @@ pub struct fcanon_class_sums {
     pub sums: [[u64; 2]; 24],
 }
 
+/// A move of one card, and the hash of the class of the board after it.
+#[repr(C)]
+#[derive(Clone, Copy, PartialEq, Eq, PartialOrd, Ord, Hash, Debug)]
+pub struct fcanon_child_hash {
+    /// The move.
+    pub mv: fcanon_move,
+    /// The hash.
+    pub hash: [u8; 16],
+}
+
 /// Gives a type the bytes that C has it in.
 macro_rules! as_bytes {
     ($name:ident, $size:literal) => {
@@ -215,6 +225,22 @@ extern "C" {
         moves_room: usize,
         keys: *mut fcanon_board,
         keys_room: usize,
+        count: *mut usize,
+    ) -> u32;
+    pub fn fcanon_child_hashes(
+        game: u32,
+        board: *const fcanon_board,
+        sums: *const fcanon_class_sums,
+        children: *mut fcanon_child_hash,
+        room: usize,
+        count: *mut usize,
+    ) -> u32;
+    pub fn fcanon_known_child_hashes(
+        game: u32,
+        board: *const fcanon_board,
+        sums: *const fcanon_class_sums,
+        children: *mut fcanon_child_hash,
+        room: usize,
         count: *mut usize,
     ) -> u32;
     pub fn fcanon_deal(game: u32, number: u32, board: *mut fcanon_board) -> u32;

@@ -5,11 +5,11 @@ use crate::passage::Passage;
 use core::{fmt, str::FromStr};
 use fcanon_sys::{
     fcanon_board, fcanon_board as BoardBytes, fcanon_canon, fcanon_capacity, fcanon_child,
-    fcanon_children, fcanon_closed, fcanon_deal, fcanon_expand, fcanon_hash, fcanon_key,
-    fcanon_keys, fcanon_move, fcanon_moves, fcanon_play, fcanon_play_run, fcanon_read,
-    fcanon_run_move, fcanon_run_moves, fcanon_same, fcanon_sums, fcanon_symmetries,
-    fcanon_unsolvable, fcanon_write, FCANON_MOST_CHILDREN,
-    FCANON_MOST_MOVES, FCANON_MOST_RUN_MOVES,
+    fcanon_child_hash, fcanon_children, fcanon_closed, fcanon_deal, fcanon_expand, fcanon_hash,
+    fcanon_key, fcanon_keys, fcanon_known_child_hashes, fcanon_move, fcanon_moves, fcanon_play,
+    fcanon_play_run, fcanon_read, fcanon_run_move, fcanon_run_moves, fcanon_same, fcanon_sums,
+    fcanon_symmetries, fcanon_unsolvable, fcanon_write, FCANON_MOST_CHILDREN, FCANON_MOST_MOVES,
+    FCANON_MOST_RUN_MOVES,
 };
 
 // tools/tables wrote this from fcanon.h, to the next empty line.
@@ -202,6 +202,30 @@ impl Board {
         });
         let (moves, keys, count) = always(found);
         (0..count).map(move |at| (moves[at], Board { game, bytes: keys[at] }))
+    }
+
+    /// The moves of one card that the game allows, and for each the class hash of the board after
+    /// it, which is made of the sums of this board.
+    ///
+    /// # Errors
+    ///
+    /// [`Reason::NoBoard`], where the sums are those of a board of another game.
+    pub fn child_hashes(
+        &self,
+        sums: &ClassSums,
+    ) -> Result<impl Iterator<Item = (Move, [u8; 16])>, Error> {
+        const ROOM: usize = FCANON_MOST_CHILDREN;
+        if sums.game != self.game {
+            return Err(Reason::NoBoard.into());
+        }
+        let nothing = fcanon_child_hash { mv: fcanon_move { from: 0, to: 0 }, hash: [0; 16] };
+        let (children, count) = made(([nothing; ROOM], 0), |(children, count)| {
+            let (board, children) = (&self.bytes, children.as_mut_ptr());
+            let (game, sums) = (self.game as u32, &sums.sums);
+            // SAFETY: there is room for so many, and the board is one of the game; all is apart.
+            unsafe { fcanon_known_child_hashes(game, board, sums, children, ROOM, count) }
+        })?;
+        Ok(IntoIterator::into_iter(children).take(count).map(|it| (Move(it.mv), it.hash)))
     }
 
     /// The renamings that with some orders lead from the board to itself, 1 to 24: what clubs,

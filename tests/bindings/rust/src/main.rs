@@ -47,6 +47,12 @@ fn tell_children(board: &Board) {
         format!(" {mv}")
     });
     println!("children{}", moves.collect::<String>());
+    let hashes = board.moves().map(|mv| {
+        let mut after = *board;
+        after.play(mv).unwrap();
+        (mv, after.class_sums().class_hash())
+    });
+    assert!(board.child_hashes(&board.class_sums()).unwrap().eq(hashes));
     tell_closed(board);
 }
 
