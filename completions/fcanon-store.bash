@@ -14,7 +14,7 @@ _fcanon_store() {
         word=
     fi
     if [ "$COMP_CWORD" -eq 1 ]; then
-        words="$commands -h --help"
+        words="$commands -h --help --version"
     else
         case $command.$before.$word in
         *.--variant.*|*.--game.*) words='freecell bakers_game eight_off' ;;

@@ -10,6 +10,7 @@ complete -c fcanon-store -n __fish_use_subcommand -a query -d 'Print a line for 
 complete -c fcanon-store -n __fish_use_subcommand -a stats -d 'Print for each game how many positions, records and solutions there are'
 complete -c fcanon-store -n __fish_use_subcommand -a check -d 'Look for damage, play each solution once more, and find each record\'s canonical board anew'
 complete -c fcanon-store -s h -l help -d 'show this help message and exit'
+complete -c fcanon-store -n __fish_use_subcommand -l version -d 'print the release'
 complete -c fcanon-store -n '__fish_seen_subcommand_from add look' -x -l variant -a 'freecell bakers_game eight_off' -d 'the game of a first record without a header'
 complete -c fcanon-store -n '__fish_seen_subcommand_from add look solve close forget export query stats check' -x -l wait -d 'how long to wait for another run that writes'
 complete -c fcanon-store -n '__fish_seen_subcommand_from solve' -x -l solver -d 'the solver\'s words'

@@ -1,6 +1,6 @@
 # Completion of fcanon for bash, which tools/completions wrote.
 _fcanon() {
-    local commands='show canon check group share expand unique table same symmetries count import deal help'
+    local commands='show canon check group share expand unique table same symmetries count closed import deal help'
     local word=${COMP_WORDS[COMP_CWORD]} before=${COMP_WORDS[COMP_CWORD-1]} command=${COMP_WORDS[1]} words=
     # after < or > comes a file: bash completes its name where nothing is offered here
     case $before in *[\<\>]*)
@@ -23,9 +23,9 @@ _fcanon() {
         *.--from-record.*|*.--from-byte.*) ;;
         table.*) words='--variant --any-size --from-record --from-byte --json --header -h --help' ;;
         same.*) words='--variant --any-size -h --help' ;;
-        count.*) words='--variant --any-size --json -h --help' ;;
         import.*) words='--variant --columns --rows --explain --strict -h --help' ;;
         deal.*) words='--variant -h --help' ;;
+        count.*|closed.*) words='--variant --any-size --json -h --help' ;;
         *) words='--variant --any-size --from-record --from-byte -h --help' ;;
         esac
     fi

@@ -39,9 +39,11 @@ extern "C" {
 #define FCANON_TASK_SAME 8
 #define FCANON_TASK_SYMMETRIES 9
 #define FCANON_TASK_COUNT 10
-#define FCANON_TASKS 11
+#define FCANON_TASK_CLOSED 11
+#define FCANON_TASKS 12
 
-/* How a table, or the figures of FCANON_TASK_COUNT, are written; other tasks have one format. */
+/* How a table, or the line of FCANON_TASK_COUNT or FCANON_TASK_CLOSED, is written; other tasks have
+ * one format. */
 #define FCANON_FORMAT_LINES 0
 #define FCANON_FORMAT_HEADER 1
 #define FCANON_FORMAT_JSON 2
@@ -58,7 +60,8 @@ typedef struct {
 typedef struct {
     size_t length;  /* of the whole output, in bytes */
     size_t records; /* how many the input has; for an import, boards and refused pieces */
-    size_t refused; /* how many of them are refused; the program's status is 1 where there are some */
+    size_t refused; /* how many of them are refused, and one more where FCANON_TASK_CLOSED finds a
+                       flaw; the program's status is 1 where this is not 0 */
 } fcanon_written;
 
 /* Does over the input what the request says, and puts what the program prints to the front of the

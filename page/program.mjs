@@ -58,7 +58,7 @@ export const savePrinted = () => onceAtATime('save-printed', async () => {
   const asked = printed;
   await asked.ready;
   if (printed !== asked) return;
-  const isTable = /^(check|table|same|symmetries|count)/.test(asked.command);
+  const isTable = /^(check|table|same|symmetries|count|closed)/.test(asked.command);
   download([asked.text], `${asked.command.replace(' --', '-')}.${isTable ? 'txt' : 'collection'}`);
   write('copied', 'Saved.');
 });

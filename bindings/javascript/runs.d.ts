@@ -6,7 +6,7 @@ import type { Game } from 'fcanon';
 export default function init(source?: URL | string | BufferSource | WebAssembly.Module): Promise<void>;
 
 export type Command = 'show' | 'canon' | 'check' | 'group' | 'share' | 'expand' | 'unique' | 'table' | 'same' | 'symmetries'
-  | 'count';
+  | 'count' | 'closed';
 export const COMMANDS: readonly Command[];
 
 export interface Printed {
@@ -16,9 +16,9 @@ export interface Printed {
   said: Uint8Array;
   /** How many records were read; of an import, how many boards and refused pieces. */
   records: number;
-  /** How many of them are refused. */
+  /** How many of them are refused, and one more where `closed` finds a flaw. */
   refused: number;
-  /** The status that the program ends with: 1 where a record is refused, else 0. */
+  /** The status that the program ends with: 1 where a record is refused or `closed` finds a flaw, else 0. */
   status: 0 | 1;
 }
 

@@ -5,7 +5,7 @@ import { GAMES } from './calls.js';
 
 // tools/tables wrote this from fcanon_runs.h, to the next empty line.
 export const COMMANDS = ['show', 'canon', 'check', 'group', 'share', 'expand', 'unique', 'table', 'same', 'symmetries',
-  'count'];
+  'count', 'closed'];
 const FORMATS = ['lines', 'header', 'json'];
 const LINES = ['unsaid', 'columns', 'rows'];
 const FAULTS = { 1: 'no such game', 10: 'no such task', 11: 'no such format', 12: 'out of memory', 13: 'input too large' };

@@ -194,6 +194,23 @@ def count_faults(count, checked, table):
         yield f"count prints other figures than {figures}"
 
 
+def closed_faults(closed, counted, shown):
+    """What is not as it must be of what closed prints, without refusals, by the figures of count: it names a record that is
+    accepted, or has the counts."""
+    figures = [int(word) for word in counted.split()[1::2]]
+    records, refused, groups = figures[:3]
+    finding = closed.split()
+    found = {line.split()[2] for line in shown.splitlines() if line.startswith(b"@")}
+    if finding[:1] in ([b"open"], [b"won"]):
+        is_well = finding[1] in found or finding[1].isdigit()
+    elif refused:
+        is_well = closed == b"refused %d records\n" % refused
+    else:
+        is_well = closed == b"closed %d records %d classes\n" % (records, groups)
+    if not is_well:
+        yield f"closed prints {closed!r}"
+
+
 def import_faults(runs, text, pieces, words):
     """What is not as it must be of what import makes of an input."""
     ended = runs.run_whole(["import", *words], text)
@@ -214,7 +231,7 @@ def faults(runs, text, pieces, words=()):
     - unique prints records of show, one of each group; table says of each what canon, check and group say;
     - each line that table and count print in JSON is an object with the members of the line without;
     - each passage that same prints leads from the first board to the record's own; symmetries lead to the board itself;
-    - count has the figures of check and table;
+    - count has the figures of check and table, and closed those of count, or it names a record;
     - import does alike on both, and show prints its output again.
     """
     out = {}
@@ -247,6 +264,7 @@ def faults(runs, text, pieces, words=()):
     yield from same_faults(without_refusals(out["same"]), shown, without_refusals(out["table"]))
     yield from symmetries_faults(without_refusals(out["symmetries"]), shown)
     yield from count_faults(without_refusals(out["count"]), out["check"], out["table"])
+    yield from closed_faults(without_refusals(out["closed"]), without_refusals(out["count"]), shown)
     yield from import_faults(runs, text, pieces, words)
     verdicts = runs.run_whole(["check", *words], shared)[1].splitlines()
     if any(b" wins " not in line and not line.endswith(b" no list") for line in verdicts):

@@ -14,7 +14,7 @@ class Command(NamedTuple):
 
 
 # Those that take more than two requests, and those that print a collection.
-REQUESTS = {"expand": 3, "group": 5, "share": 11}
+REQUESTS = {"closed": 5, "expand": 3, "group": 5, "share": 11}
 AGAIN = {"show": ("show",), "canon": ("check", "canon"), "expand": ("expand",), "group": ("group",), "share": ("share",),
          "unique": ("unique", "group")}
 COMMANDS = {name: Command(REQUESTS.get(name, 2), AGAIN.get(name, ())) for name in TASKS}

@@ -17,7 +17,7 @@ PURPOSES = [
     (r"fc_laws/.*(_again|_stay|_stay_in_what_is_printed|said_again)$", "reading again"),
     (r"fc_import/", "import"),
     (r"fcanon_runs/", "runs over memory"),
-    (r"fc_bytes/(class_hash(/.*)?|calls/sums|hash|calls/keys)$|fcanon_c/(sums|keys)$|fc_laws/(class_hashes|collections/hashes)(/|$)", "hashes"),
+    (r"fc_bytes/(class_hash(/.*)?|child_hash(/.*)?|calls/(child_hashes(/.*)?|keys|sums)|hash)$|fcanon_c/(sums|keys)$|fc_laws/(class_hashes|collections/hashes)(/|$)", "hashes"),
     (r"fc_bytes/|fcanon_c/|fc_laws/bytes(/|$)", "library"),
     (r"fc_record/printing/(table|object|symmetries)$|fc_collect/commands/(count|same|unique)$", "further commands"),
     (r"fc_laws/collections/(figures|same|symmetries|table|unique)(/|$)", "further commands"),

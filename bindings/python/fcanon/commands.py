@@ -20,11 +20,11 @@ class Printed(NamedTuple):
     records: int
     """How many records were read; of an import, how many boards and refused pieces."""
     refused: int
-    """How many of them are refused."""
+    """How many of them are refused, and one more where "closed" finds a flaw."""
 
     @property
     def status(self) -> int:
-        """The status that the program ends with: 1 where a record is refused, else 0."""
+        """The status that the program ends with: 0 where `refused` is 0, else 1."""
         return int(self.refused > 0)
 
     def __str__(self) -> str:
@@ -41,7 +41,7 @@ def run(
 ) -> Printed:
     """What `fcanon COMMAND` prints of a collection, a str or bytes.
 
-    `game` is that of records without a header, `format` is for "table" and "count" alone. At most
+    `game` is that of records without a header, `format` is for "table", "count" and "closed" alone. At most
     65,536 records and 16 MiB are taken, unless `any_size` is set; more is an Error. Other threads run
     meanwhile.
     """

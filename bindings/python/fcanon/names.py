@@ -7,9 +7,9 @@ from typing import Literal, Tuple
 Game = Literal["freecell", "bakers_game", "eight_off"]
 GAMES: Tuple[Game, ...] = ("freecell", "bakers_game", "eight_off")
 Command = Literal["show", "canon", "check", "group", "share", "expand", "unique", "table", "same",
-    "symmetries", "count"]
+    "symmetries", "count", "closed"]
 COMMANDS: Tuple[Command, ...] = ("show", "canon", "check", "group", "share", "expand", "unique",
-    "table", "same", "symmetries", "count")
+    "table", "same", "symmetries", "count", "closed")
 Format = Literal["lines", "header", "json"]
 FORMATS: Tuple[Format, ...] = ("lines", "header", "json")
 Lines = Literal["unsaid", "columns", "rows"]

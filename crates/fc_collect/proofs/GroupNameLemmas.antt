@@ -18,8 +18,9 @@ use Rattle.fc_collect.proofs.GroupLemmas.{Apart, has_one, keys-has_one, keys-mor
 use Rattle.fc_collect.proofs.GroupLemmas.{leaders-cover, together}
 use Rattle.fc_collect.proofs.KeyedLemmas.{boards-more, leaders-All, one_text, one_variant}
 use Rattle.fc_collect.specs.Groups.{belong_together, canonical_text, group_lines, leaders_after}
-use Rattle.fc_collect.specs.{Groups.{Member, name_of_member, unique_lines}, inside.{AreNames}}
-use Rattle.fc_collect.specs.inside.{group_key, HasBoard, KeepsNames, member_of, name_word, same_key}
+use Rattle.fc_collect.specs.{Groups.{Member, name_of_member, unique_lines}, inside.{AreKeys}}
+use Rattle.fc_collect.specs.inside.{AreNames, group_key, HasBoard, KeepsNames, member_of, name_word}
+use Rattle.fc_collect.specs.inside.{same_key}
 use Rattle.fc_collect.specs.declared.commands.names.GroupNames.{GroupNames}
 use Rattle.fc_collect.specs.declared.groups.GroupKey.{GroupKey}
 
@@ -135,12 +136,8 @@ one_leader members member there =
 
 -- ---- which records `unique` prints, and what is read of them again
 
--- the keys are those of the groups of these members, which have boards
-abbrev pub AreKeys : List GroupKey → List Member → Type 0
-AreKeys keys members = (keys ≡ map group_key (leaders_after [] members)) × All HasBoard members
-
 -- they find a member that belongs to an earlier one
-found-before : (keys : List GroupKey) (key : GroupKey) (members : List Member) (member : Member) → HasBoard member → AreKeys keys members → key ≡ group_key member
+pub found-before : (keys : List GroupKey) (key : GroupKey) (members : List Member) (member : Member) → HasBoard member → AreKeys keys members → key ≡ group_key member
     → list_any (same_key key) keys ≡ has_one member members
 found-before keys key members member has kept own =
     ap₂ (λ key keys. list_any (same_key key) keys) own kept.0 ∙ keys-has_one member (leaders_after [] members) has (leaders-All HasBoard [] members kept.1) ∙ sym (leaders-cover member [] members)

@@ -6,8 +6,8 @@ use Rattle.std.specs.List.{flat_map}
 use Rattle.fc_record.specs.RecordTexts.{RecordText}
 use Rattle.fc_collect.proofs.{PrintingLemmas.{outputs_alone}, RunLemmas.{limits_none}}
 use Rattle.fc_collect.specs.{inside.{output_counts}, Limits.{AreCountable}, Promises.{Begins}}
-use Rattle.fc_collect.specs.Promises.{Printing, ReadsAsCounted, ResultFits, Transfer}
-use Rattle.fc_collect.specs.Promises.{Transfers, whole_of, WritesAsCounted, WritesText}
+use Rattle.fc_collect.specs.Promises.{Printing, ReadsAsCounted, ResultFits, Transfer, Transfers}
+use Rattle.fc_collect.specs.Promises.{whole_of, WritesAsCounted, WritesText}
 use Rattle.fc_collect.specs.{Records.{outputs_after, records_from}, Runs.{RunsWithin}}
 use Rattle.fc_collect.specs.Streams.{bytes_of, GrowsBy, inner_of, Stream, StreamBytes}
 use Rattle.fc_collect.specs.declared.streams.{counted.Counted.{Counted}, faults.RunFault.{RunFault}}
@@ -111,15 +111,15 @@ module _ (limits : Limits) (header : List ℕ) (printing : Printing) where
 
 -- ---- where what is printed for a record goes by none before it
 
-pub Runs-alone : {R W : Type 0} (limits : Limits) (output_of : RecordText → List ℕ) (ending : List RecordText → List ℕ) (refuses : RecordText → Bool)
+pub Runs-alone : {R W : Type 0} (limits : Limits) (output_of : RecordText → List ℕ) (ending : List RecordText → List ℕ) (refused : List RecordText → ℕ)
     (input : Stream R) (output : Stream W) (result : Result Summary RunFault)
     → ReadsAsCounted limits input.old input.new result → WritesAsCounted output.old output.new result
-    → Transfers (ResultFits limits (record { output = outputs_after (λ seen. output_of) []; ending = ending; refuses = refuses })) (bytes_of input output) result
-    → RunsWithin limits (ResultFits limits (record { output = flat_map output_of; ending = ending; refuses = refuses })) input output result
-Runs-alone limits output_of ending refuses input output result read write wrote =
+    → Transfers (ResultFits limits (record { output = outputs_after (λ seen. output_of) []; ending = ending; refused = refused })) (bytes_of input output) result
+    → RunsWithin limits (ResultFits limits (record { output = flat_map output_of; ending = ending; refused = refused })) input output result
+Runs-alone limits output_of ending refused input output result read write wrote =
     let same : outputs_after (λ seen. output_of) [] ≡ flat_map output_of = λ i texts. outputs_alone output_of [] texts i in
     record {
       read_counted = read;
       write_counted = write;
-      wrote = subst (λ printed. Transfers (ResultFits limits (record { output = printed; ending = ending; refuses = refuses })) (bytes_of input output) result) same wrote;
+      wrote = subst (λ printed. Transfers (ResultFits limits (record { output = printed; ending = ending; refused = refused })) (bytes_of input output) result) same wrote;
     }

@@ -1,3 +1,4 @@
+pub mod ClosedLemmas
 pub mod GroupLemmas
 pub mod GroupNameLemmas
 pub mod HeadedLemmas

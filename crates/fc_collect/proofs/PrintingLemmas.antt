@@ -2,29 +2,26 @@
 use Rattle.std.proofs.Common.{◌++◌, ◌+◌, ◌-◌, ◌∙◌, ◌∷◌, ◌≡◌, [], ap, append-nil, append_assoc}
 use Rattle.std.proofs.Common.{arith, Bool, cond, Err, false, length, length-append, List, Ok}
 use Rattle.std.proofs.Common.{Option, refl, Result, subst, sym, true, true≢false, ℕ}
-use Rattle.std.proofs.KnownBytes.{Appends-trans}
-use Rattle.std.proofs.lemmas.Grind.{flat_map-append}
-use Rattle.std.proofs.lemmas.List.Sums.{sum_by-append}
-use Rattle.std.specs.Io.KnownBytes.{Appends}
+use Rattle.std.proofs.{KnownBytes.{Appends-trans}, lemmas.Grind.{flat_map-append}}
+use Rattle.std.{proofs.lemmas.List.Sums.{sum_by-append}, specs.Io.KnownBytes.{Appends}}
 use Rattle.std.specs.List.{count_by, flat_map}
-use Rattle.fc_board.specs.Games.{Game, game_of}
+use Rattle.fc_board.specs.{declared.rule.Variant.{Variant}, Games.{Game, game_of}}
 use Rattle.fc_record.specs.Grammar.{Accepted, after_header, Contents, contents_of, Heading, Reading}
 use Rattle.fc_record.specs.Grammar.{reading_after, reading_with, Refused}
 use Rattle.fc_record.specs.{Printing.{is_refused, refuses}, RecordTexts.{RecordText}}
-use Rattle.fc_collect.specs.{Groups.{if_accepted, Member, summary_of}, Promises.{WritesText}}
+use Rattle.fc_record.specs.declared.record.RecordFault.{RecordFault}
+use Rattle.fc_collect.proofs.WritingLemmas.{SendingFits-failed, Sends-then, SendsSome-after}
+use Rattle.fc_collect.proofs.WritingLemmas.{SendsSome-more, SendsSome-then}
+use Rattle.fc_collect.specs.{Groups.{if_accepted, Member, summary_of}, inside.{Finishes, IsAllowed}}
+use Rattle.fc_collect.specs.inside.{IsPrintFault, last_output, records_in, Sends, SendsSome}
+use Rattle.fc_collect.specs.{inside.{TakeUpFault, Treats}, Promises.{WritesText}}
 use Rattle.fc_collect.specs.Records.{has_content, if_record, next_number, outputs_after}
 use Rattle.fc_collect.specs.Records.{records_among}
-use Rattle.fc_board.specs.declared.rule.Variant.{Variant}
-use Rattle.fc_record.specs.declared.record.RecordFault.{RecordFault}
+use Rattle.fc_collect.specs.declared.engine.progress.Progress.{Progress}
 use Rattle.fc_collect.specs.declared.streams.faults.RunFault.{RunFault, TheVariants.{Memory, Read}}
 use Rattle.fc_collect.specs.declared.streams.faults.RunFault.TheVariants.{ReaderNeverEnds, TooLarge}
 use Rattle.fc_collect.specs.declared.streams.faults.RunFault.TheVariants.{Write}
 use Rattle.fc_collect.specs.declared.streams.{faults.Summary.{Summary}, limits.Limits.{Limits}}
-use Rattle.fc_collect.proofs.WritingLemmas.{SendingFits-failed, Sends-then, SendsSome-after}
-use Rattle.fc_collect.proofs.WritingLemmas.{SendsSome-more, SendsSome-then}
-use Rattle.fc_collect.specs.inside.{Finishes, IsAllowed, IsPrintFault, last_output, records_in}
-use Rattle.fc_collect.specs.inside.{Sends, SendsSome, TakeUpFault, Treats}
-use Rattle.fc_collect.specs.declared.engine.progress.Progress.{Progress}
 
 -- a record is read as its body is, after its heading
 pub read-as : (game : Game) (heading : Heading) (bytes body : List ℕ) (place : ℕ) (said : Result Contents RecordFault) → game ≡ game_of heading.variant → body ≡ after_header bytes
@@ -121,26 +118,26 @@ TakeUpFault-failed limits output old shown held searched pending middle a b c fa
     subst (λ l. TakeUpFault limits output old l searched a c fault) same (TakeUpFault-sent limits output old shown searched a c fault is_one allowed (SendsSome-after none sent some))
 
 -- the last text could not be printed whole
-pub Finishes-begun : (number : ℕ) (output : List RecordText → List ℕ) (refuses : RecordText → Bool) (ending : List RecordText → List ℕ) (seen : List RecordText) (at : Progress) (text : RecordText)
+pub Finishes-begun : (number : ℕ) (output : List RecordText → List ℕ) (count : ℕ) (ending : List RecordText → List ℕ) (seen : List RecordText) (at : Progress) (text : RecordText)
     (old : List ℕ) (a b : Option (List ℕ)) (fault : RunFault) → old ≡ [] → IsPrintFault fault → SendsSome (output (if_record text)) old a b
-    → Finishes number (last_output output ending seen text) refuses at text a b (Err fault)
-Finishes-begun number output refuses ending seen at text old a b fault none is_one some =
+    → Finishes number (last_output output ending seen text) count at text a b (Err fault)
+Finishes-begun number output count ending seen at text old a b fault none is_one some =
     (is_one, subst (λ l. SendsSome (last_output output ending seen text) l a b) none (SendsSome-more (ending (seen ++ if_record text)) some))
 
 -- the end could not be printed whole
-pub Finishes-ended : (number : ℕ) (output : List RecordText → List ℕ) (refuses : RecordText → Bool) (ending : List RecordText → List ℕ) (seen : List RecordText) (at : Progress) (text : RecordText)
+pub Finishes-ended : (number : ℕ) (output : List RecordText → List ℕ) (count : ℕ) (ending : List RecordText → List ℕ) (seen : List RecordText) (at : Progress) (text : RecordText)
     (old middle : List ℕ) (a b c : Option (List ℕ)) (fault : RunFault)
     → old ≡ [] → Sends (output (if_record text)) old middle a b → IsPrintFault fault → SendsSome (ending (seen ++ if_record text)) middle b c
-    → Finishes number (last_output output ending seen text) refuses at text a c (Err fault)
-Finishes-ended number output refuses ending seen at text old middle a b c fault none sent is_one some =
+    → Finishes number (last_output output ending seen text) count at text a c (Err fault)
+Finishes-ended number output count ending seen at text old middle a b c fault none sent is_one some =
     (is_one, subst (λ l. SendsSome (last_output output ending seen text) l a c) none (SendsSome-then sent some))
 
 -- what was left of it could not be written whole
-pub Finishes-failed : (number : ℕ) (output : List RecordText → List ℕ) (refuses : RecordText → Bool) (ending : List RecordText → List ℕ) (seen : List RecordText) (at : Progress) (text : RecordText)
+pub Finishes-failed : (number : ℕ) (output : List RecordText → List ℕ) (count : ℕ) (ending : List RecordText → List ℕ) (seen : List RecordText) (at : Progress) (text : RecordText)
     (old middle new pending : List ℕ) (a b c d : Option (List ℕ)) (fault : RunFault)
     → old ≡ [] → Sends (output (if_record text)) old middle a b → Sends (ending (seen ++ if_record text)) middle new b c → pending ≡ new
-    → WritesText {A = Unit {0}} pending c d (Err fault) → Finishes number (last_output output ending seen text) refuses at text a d (Err fault)
-Finishes-failed number output refuses ending seen at text old middle new pending a b c d fault none sent ended same writes =
+    → WritesText {A = Unit {0}} pending c d (Err fault) → Finishes number (last_output output ending seen text) count at text a d (Err fault)
+Finishes-failed number output count ending seen at text old middle new pending a b c d fault none sent ended same writes =
     let (is_one, some) = SendingFits-failed pending [] c d fault writes in
     (is_one, SendsSome-after none (Sends-then sent ended) (subst (λ l. SendsSome [] l c d) same some))
 
@@ -152,18 +149,18 @@ pub SendsSome-same : {text same old : List ℕ} {a b : Option (List ℕ)} → te
 SendsSome-same {text} {same} {old} {a} {b} e some = subst (λ t. SendsSome t old a b) e some
 
 -- it was all written
-pub Finishes-whole : (number : ℕ) (output : List RecordText → List ℕ) (refuses : RecordText → Bool) (ending : List RecordText → List ℕ) (seen : List RecordText) (at : Progress) (text : RecordText)
+pub Finishes-whole : (number : ℕ) (output : List RecordText → List ℕ) (count : ℕ) (ending : List RecordText → List ℕ) (seen : List RecordText) (at : Progress) (text : RecordText)
     (old middle new pending : List ℕ) (a b c d : Option (List ℕ)) (summary : Summary)
     → old ≡ [] → Sends (output (if_record text)) old middle a b → Sends (ending (seen ++ if_record text)) middle new b c → pending ≡ new → WritesText {A = Unit {0}} pending c d (Ok tt)
-    → summary.records + number ≡ at.number + length (if_record text) → summary.refused ≡ at.refused + count_by refuses (if_record text)
-    → Finishes number (last_output output ending seen text) refuses at text a d (Ok summary)
-Finishes-whole number output refuses ending seen at text old middle new pending a b c d summary none sent ended same writes records refused =
+    → summary.records + number ≡ at.number + length (if_record text) → summary.refused ≡ count
+    → Finishes number (last_output output ending seen text) count at text a d (Ok summary)
+Finishes-whole number output count ending seen at text old middle new pending a b c d summary none sent ended same writes records refused =
     let both = Sends-then sent ended in
     let all = ap (λ l. both.written ++ l) (writes.fits ∙ same) ∙ both.all ∙ ap (λ l. l ++ last_output output ending seen text) none in
     record {
       written = subst (Appends a d) all (Appends-trans a c d both.written writes.written both.appended writes.appended);
       records = records;
-      refused = refused;
+      refused_so = refused;
     }
 
 -- ---- counts

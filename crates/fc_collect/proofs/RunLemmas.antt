@@ -12,7 +12,17 @@ use Rattle.fc_board.specs.declared.rule.Variant.{Variant}
 use Rattle.fc_record.specs.{Grammar.{Contents, Heading}, Printing.{is_refused}}
 use Rattle.fc_record.specs.RecordTexts.{RecordText}
 use Rattle.fc_record.specs.declared.record.RecordFault.{RecordFault}
-use Rattle.fc_collect.{proofs.{PrintingLemmas.{outputs_after-append}, RecordLemmas.{begun-append, begun-number}}, proofs.RecordLemmas.{begun-place, cut-append, finished_among-append, records_among-last}, specs.{Groups.{Member}, inside.{begun_in, ConsumedRead, cut_in, FillsWindow, Finished}}, specs.inside.{finished_in, Finishes, IsAllowed, last_output, printed_after, records_in}, specs.{inside.{SendsSome, TakeUpFault, text_at}, Limits.{AreCountable}, Promises.{Begins}}, specs.Promises.{IsSmall, IsWithinLimits, OutputOf, Printing, ReadsAsCounted, ResultCounts}, specs.{Promises.{ResultFits, Transfers, whole_of}, Records.{begun, cut, finished, finished_from}}, specs.Records.{first_of, if_record, outputs_after, records_among}, specs.Streams.{counts_of, GrowsBy, HasRoom, inner_of, one_more_if, StreamBytes}}
+use Rattle.fc_collect.{
+  proofs.{PrintingLemmas.{outputs_after-append}, RecordLemmas.{begun-append, begun-number}},
+  proofs.RecordLemmas.{begun-place, cut-append, finished_among-append, records_among-last},
+  specs.{Closed.{refused_with}, Groups.{Member}, inside.{begun_in, ConsumedRead, cut_in}},
+  specs.inside.{FillsWindow, Finished, finished_in, Finishes, IsAllowed, last_output},
+  specs.inside.{printed_after, records_in, SendsSome, TakeUpFault, text_at},
+  specs.{Limits.{AreCountable}, Promises.{Begins, IsSmall, IsWithinLimits, OutputOf, Printing}},
+  specs.{Promises.{ReadsAsCounted, ResultCounts, ResultFits, Transfers, whole_of}, Records.{begun}},
+  specs.Records.{cut, finished, finished_from, first_of, if_record, outputs_after, records_among},
+  specs.Streams.{counts_of, GrowsBy, HasRoom, inner_of, one_more_if, StreamBytes},
+}
 use Rattle.fc_collect.specs.declared.engine.progress.Progress.{Progress}
 use Rattle.fc_collect.specs.declared.streams.{counted.Counted.{Counted}, faults.RunFault.{RunFault}}
 use Rattle.fc_collect.specs.declared.streams.faults.RunFault.TheVariants.{Memory, Read}
@@ -22,15 +32,21 @@ use Rattle.fc_collect.specs.declared.streams.{faults.Summary.{Summary}, limits.L
 
 -- ---- a run, and what it has between two turns
 
--- a run by its limits, what is printed for a record after those before it, and which records are refused
+-- a run by its limits, what is printed for a record after those before it, which records are refused, and how many count as refused
 pub record Run : Type 0 where
   pub limits : Limits
   pub output_of : List RecordText → RecordText → List ℕ
   pub refuses : RecordText → Bool
+  pub refused : List RecordText → ℕ
 
 -- the run of a command with these lines, where records without a header have this variant
-abbrev pub run_of : (refusal : RecordText → Option (List ℕ) → RecordFault → List ℕ) → (lines : List Member → ℕ → Heading → Contents → List ℕ) → Variant → Limits → Run
-run_of refusal lines variant limits = record { limits = limits; output_of = printed_after refusal lines variant; refuses = is_refused variant }
+abbrev pub run_of : (refusal : RecordText → Option (List ℕ) → RecordFault → List ℕ) → (lines : List Member → ℕ → Heading → Contents → List ℕ) → (fails : List Member → Bool) → Variant → Limits → Run
+run_of refusal lines fails variant limits = record {
+  limits = limits;
+  output_of = printed_after refusal lines variant;
+  refuses = is_refused variant;
+  refused = refused_with fails variant;
+}
 
 -- what is printed for the records that a header ends
 abbrev pub output_to : Run → (read : List ℕ) → List ℕ
@@ -38,7 +54,7 @@ output_to run read = outputs_after run.output_of [] (finished_from run.limits re
 
 -- what is printed, where this is at the end
 abbrev pub printing_by : Run → (ending : List RecordText → List ℕ) → Printing
-printing_by run ending = record { output = outputs_after run.output_of []; ending = ending; refuses = run.refuses }
+printing_by run ending = record { output = outputs_after run.output_of []; ending = ending; refused = run.refused }
 
 -- what is printed for all records, as they come and at the end
 abbrev pub all_output : Run → (ending : List RecordText → List ℕ) → (read : List ℕ) → List ℕ
@@ -108,17 +124,17 @@ counts_failed limits first old new turns low few so_far failures fills ends flus
 }
 
 -- the input has ended
-pub finish_counts : (limits : Limits) {R : Type 0} (first new : Counted R) (turns : ℕ) (output : List ℕ) (refuses : RecordText → Bool) (progress : Progress) (text : RecordText) (before after : Option (List ℕ)) (result : Result Summary RunFault)
-    → turns < limits.reads → GrowsBy first new (record { failures = 0; fills = turns; ends = 1; flushes = 0 }) → Finishes limits.number output refuses progress text before after result
+pub finish_counts : (limits : Limits) {R : Type 0} (first new : Counted R) (turns : ℕ) (output : List ℕ) (refused : ℕ) (progress : Progress) (text : RecordText) (before after : Option (List ℕ)) (result : Result Summary RunFault)
+    → turns < limits.reads → GrowsBy first new (record { failures = 0; fills = turns; ends = 1; flushes = 0 }) → Finishes limits.number output refused progress text before after result
     → ReadsAsCounted limits first new result
-finish_counts limits first new turns output refuses progress text before after result few grows fits = record {
+finish_counts limits first new turns output refused progress text before after result few grows fits = record {
   counts = record { failures = 0; fills = turns; ends = 1; flushes = 0 };
   grows = grows;
   few = omega arith;
   fits = by_result result fits;
 }
   where
-    by_result : (result : Result Summary RunFault) → Finishes limits.number output refuses progress text before after result → ResultCounts limits result (record { failures = 0; fills = turns; ends = 1; flushes = 0 })
+    by_result : (result : Result Summary RunFault) → Finishes limits.number output refused progress text before after result → ResultCounts limits result (record { failures = 0; fills = turns; ends = 1; flushes = 0 })
     by_result (Ok summary) fits = (refl, refl)
     by_result (Err Read) fits = absurd fits.0
     by_result (Err Write) fits = refl
@@ -363,10 +379,10 @@ pub finish_bytes : {R W : Type 0} (run : Run) (ending : List RecordText → List
     → Running run keeps start old
     → given ≡ 0 → FillsWindow old.held joined old.ends.left left given → shown ≡ joined
     → ((seen : List RecordText) → keeps seen → old.progress.number ≡ run.limits.number + length seen → old.progress.refused ≡ count_by run.refuses seen
-    → Finishes run.limits.number (last_output (outputs_after run.output_of seen) ending seen (text_at old.progress shown)) run.refuses old.progress (text_at old.progress shown) old.ends.written after result)
+    → Finishes run.limits.number (last_output (outputs_after run.output_of seen) ending seen (text_at old.progress shown)) (run.refused (seen ++ if_record (text_at old.progress shown))) old.progress (text_at old.progress shown) old.ends.written after result)
     → Transfers (ResultFits run.limits (printing_by run ending)) (bytes_from start left after) result
 finish_bytes run ending keeps start old left after joined shown given result so_far none filled is_shown fits =
-    by_result result (subst (λ text. Finishes run.limits.number (last_output (outputs_after run.output_of seen) ending seen text) run.refuses old.progress text old.ends.written after result)
+    by_result result (subst (λ text. Finishes run.limits.number (last_output (outputs_after run.output_of seen) ending seen text) (run.refused (seen ++ if_record text)) old.progress text old.ends.written after result)
     is_last (fits seen so_far.holds (begun_number run.limits so_far.read old.held old.progress so_far.begins) so_far.refused))
   where
     read : List ℕ
@@ -393,7 +409,7 @@ finish_bytes run ending keeps start old left after joined shown given result so_
     begins : (front : List ℕ) → Begins front output → Begins (output_to run read ++ front) (all_output run ending read)
     begins front (rest, e) = (rest, append_assoc (output_to run read) front rest ∙ ap (λ l. output_to run read ++ l) e ∙ sym (whole_last run ending read))
 
-    whole : (summary : Summary) → Finished run.limits.number output run.refuses old.progress last old.ends.written after summary
+    whole : (summary : Summary) → Finished run.limits.number output (run.refused (seen ++ if_record last)) old.progress last old.ends.written after summary
         → OutputOf run.limits (printing_by run ending) read (output_to run read ++ output) summary
     whole summary f = record {
       within = so_far.within;
@@ -403,10 +419,7 @@ finish_bytes run ending keeps start old left after joined shown given result so_
           let more : length (seen ++ if_record last) ≡ length seen + length (if_record last) = length-append seen (if_record last) in
           let same : summary.records ≡ length (seen ++ if_record last) = omega (arith, f.records, number, more) in
           same ∙ ap length (sym (records_among-last (first_of run.limits) read));
-      refused =
-          f.refused ∙ ap (λ n. n + count_by run.refuses (if_record last)) so_far.refused
-          ∙ sym (sum_by-append (λ text. cond (run.refuses text) 1 0) seen (if_record last))
-          ∙ ap (count_by run.refuses) (sym (records_among-last (first_of run.limits) read));
+      refused = f.refused_so ∙ ap run.refused (sym (records_among-last (first_of run.limits) read));
     }
 
     Begun : List ℕ → Type 0
@@ -422,7 +435,7 @@ finish_bytes run ending keeps start old left after joined shown given result so_
       fits = fits (output_to run read ++ f.written) (so_far.within, begins f.written f.begins);
     }
 
-    by_result : (result : Result Summary RunFault) → Finishes run.limits.number output run.refuses old.progress last old.ends.written after result → Transfers (ResultFits run.limits (printing_by run ending)) (bytes_from start left after) result
+    by_result : (result : Result Summary RunFault) → Finishes run.limits.number output (run.refused (seen ++ if_record last)) old.progress last old.ends.written after result → Transfers (ResultFits run.limits (printing_by run ending)) (bytes_from start left after) result
     by_result (Ok summary) f = record {
       read = read;
       written = output_to run read ++ output;

@@ -1,29 +1,23 @@
 -- What one more member makes of what `count` keeps, and what the figures are of records.
-use Rattle.indexmap.specs.IndexSet.{insert_key}
+use Rattle.{fc_board.specs.declared.rule.Variant.{Variant}, indexmap.specs.IndexSet.{insert_key}}
 use Rattle.std.proofs.Common.{◌++◌, ◌+◌, ◌-◌, ◌||◌, ◌∙◌, ◌∷◌, ◌≡◌, ◌≤◌, [], ap, append-nil}
 use Rattle.std.proofs.Common.{append_assoc, ap₂, arith, Bool, codes, cond, eqb, false, filter}
 use Rattle.std.proofs.Common.{get_or, is_some, length, length-append, List, None, not, Option, refl}
-use Rattle.std.proofs.Common.{set, Some, sym, true, ℕ}
-use Rattle.std.proofs.lemmas.Bool.{ne_eqb}
-use Rattle.std.proofs.lemmas.Grind.{flat_map-append}
-use Rattle.std.proofs.lemmas.List.{length-map}
-use Rattle.std.proofs.lemmas.List.Sums.{sum_by-cons}
+use Rattle.std.proofs.{Common.{set, Some, sym, true, ℕ}, lemmas.Bool.{ne_eqb}}
+use Rattle.std.proofs.lemmas.{Grind.{flat_map-append}, List.{length-map, Sums.{sum_by-cons}}}
 use Rattle.std.specs.List.{AllZip, count_by, find, flat_map, position_or_len}
+use Rattle.fc_record.specs.Grammar.{Accepted, Reading, reading_of, Refused}
+use Rattle.fc_record.specs.{Printing.{is_refused, refuses}, RecordTexts.{RecordText}}
 use Rattle.fc_collect.proofs.GroupLemmas.{Gains, Gathers-begun, Gathers-joined, Gathers-length}
 use Rattle.fc_collect.proofs.GroupLemmas.{has_one, leaders-more}
 use Rattle.fc_collect.proofs.ShareLemmas.{owner_among-more, owner_with}
-use Rattle.fc_board.specs.declared.rule.Variant.{Variant}
-use Rattle.fc_record.specs.Grammar.{Accepted, Reading, reading_of, Refused}
-use Rattle.fc_record.specs.{Printing.{is_refused, refuses}, RecordTexts.{RecordText}}
 use Rattle.fc_collect.specs.Groups.{belong_together, figures, groups_of, if_accepted, leaders_after}
 use Rattle.fc_collect.specs.Groups.{Member, members_among, owner_among, solution_of, wins_of}
+use Rattle.fc_collect.specs.inside.{figures_seen, Gathers, group_key, HasBoard, IsPlaceAmong}
+use Rattle.fc_collect.specs.inside.{KeepsSolved, KeepsTally, same_key}
+use Rattle.fc_collect.specs.declared.commands.count.{Figures.{Figures}, Tally.{Tally}}
+use Rattle.fc_collect.specs.declared.groups.{Gathered.{Gathered}, GroupKey.{GroupKey}}
 use Rattle.fc_collect.specs.declared.streams.faults.Summary.{Summary}
-use Rattle.fc_collect.specs.inside.{Gathers, group_key, HasBoard, IsPlaceAmong, same_key}
-use Rattle.fc_collect.specs.declared.groups.Gathered.{Gathered}
-use Rattle.fc_collect.specs.declared.groups.GroupKey.{GroupKey}
-use Rattle.fc_collect.specs.inside.{figures_seen, KeepsSolved, KeepsTally}
-use Rattle.fc_collect.specs.declared.commands.count.Figures.{Figures}
-use Rattle.fc_collect.specs.declared.commands.count.Tally.{Tally}
 
 -- ---- what is kept
 
@@ -132,7 +126,7 @@ leaders-few earlier (member ∷ members) = by (has_one member earlier) (leaders-
     by true on = omega (arith, on)
     by false on = omega (arith, on)
 
-groups-long : (members : List Member) → length (groups_of members) ≡ length (leaders_after [] members)
+pub groups-long : (members : List Member) → length (groups_of members) ≡ length (leaders_after [] members)
 groups-long members = length-map (leaders_after [] members) (λ leader. filter (belong_together leader) members)
 
 pub records-counted : (variant : Variant) (records : List RecordText)

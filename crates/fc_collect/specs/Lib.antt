@@ -1,4 +1,5 @@
 -- Collections: what a run reads and writes at most, their records and groups, and what a run of each kind promises, in the order in which they are read.
+pub mod Closed
 pub mod GroupKeys
 pub mod Groups
 pub mod Limits

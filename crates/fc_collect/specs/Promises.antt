@@ -1,7 +1,6 @@
 -- What a run promises of its counts and of its bytes.
-use Rattle.std.specs.{Io.KnownBytes.{Appends, Consumes, IsAtEnd}, List.{count_by}, Prelude.{◌++◌}}
-use Rattle.std.specs.Prelude.{◌+◌, ◌≡◌, ◌≤◌, All, Bool, Err, length, List, Ok, OnOk, Option, Result}
-use Rattle.std.specs.Prelude.{true, ℕ}
+use Rattle.std.specs.{Io.KnownBytes.{Appends, Consumes, IsAtEnd}, Prelude.{◌++◌, ◌+◌, ◌≡◌, ◌≤◌}}
+use Rattle.std.specs.Prelude.{All, Bool, Err, length, List, Ok, OnOk, Option, Result, true, ℕ}
 use Rattle.fc_record.specs.RecordTexts.{RecordText}
 use Rattle.fc_collect.specs.Limits.{most_record_bytes}
 use Rattle.fc_collect.specs.Records.{cut, finished_from, first_of, records_from}
@@ -84,11 +83,11 @@ pub record Transfer : Type 0 where
   pub left : Option (List ℕ)
   pub written : List ℕ
 
--- what is printed for records as they come, and at the end for all of them; and which are refused
+-- what is printed for records as they come, and at the end for all of them; and how many count as refused
 pub record Printing : Type 0 where
   pub output : List RecordText → List ℕ
   pub ending : List RecordText → List ℕ
-  pub refuses : RecordText → Bool
+  pub refused : List RecordText → ℕ
 
 -- all that is printed for the records of these bytes
 abbrev pub whole_of : Limits → Printing → (read : List ℕ) → List ℕ
@@ -99,7 +98,7 @@ pub record OutputOf (limits : Limits) (printing : Printing) (read written : List
   pub within : IsWithinLimits limits read
   pub whole : written ≡ whole_of limits printing read
   pub records : summary.records ≡ length (records_from limits read)
-  pub refused : summary.refused ≡ count_by printing.refuses (records_from limits read)
+  pub refused : summary.refused ≡ printing.refused (records_from limits read)
 
 -- how each result goes with what was transferred. A run that stops in reading has written what is printed for the records that a header ends; at another fault the output may end anywhere
 abbrev pub ResultFits : Limits → Printing → Transfer → Result Summary RunFault → Type 0

@@ -1,6 +1,6 @@
 -- What a run of each kind promises.
-use Rattle.std.specs.{List.{flat_map}, Prelude.{◌++◌, ◌∷◌, [], codes, if◌then◌else◌, List, None}}
-use Rattle.std.specs.Prelude.{Option, Result, Some, ℕ}
+use Rattle.std.specs.{List.{count_by, flat_map}, Prelude.{◌++◌, ◌∷◌, [], codes, if◌then◌else◌}}
+use Rattle.std.specs.Prelude.{List, None, Option, Result, Some, ℕ}
 use Rattle.fc_board.specs.{declared.rule.Variant.{Variant}, Passages.{Passage}}
 use Rattle.fc_text.specs.Bytes.{line_feed}
 use Rattle.fc_record.specs.{Grammar.{Contents, Heading}, Printing.{canon_lines, check_lines}}
@@ -8,19 +8,20 @@ use Rattle.fc_record.specs.Printing.{expand_lines, is_refused, name_of, passage_
 use Rattle.fc_record.specs.Printing.{printed_with, show_lines, symmetry_lines}
 use Rattle.fc_record.specs.RecordTexts.{RecordText}
 use Rattle.fc_record.specs.Tables.{refusal_object, table_header, table_line, table_object}
-use Rattle.fc_collect.specs.Groups.{belong_together, figures, figures_line, figures_object}
-use Rattle.fc_collect.specs.Groups.{group_lines, grouped, Member, members_among, passage_between}
-use Rattle.fc_collect.specs.{Groups.{share_lines, summary_of, unique_output}, Promises.{Printing}}
-use Rattle.fc_collect.specs.Promises.{ReadsAsCounted, ResultFits, Transfer, Transfers}
+use Rattle.fc_collect.specs.Closed.{finding_line, finding_object, finding_of, has_flaw}
+use Rattle.fc_collect.specs.{Closed.{refused_with}, Groups.{belong_together, figures, figures_line}}
+use Rattle.fc_collect.specs.Groups.{figures_object, group_lines, grouped, Member, members_among}
+use Rattle.fc_collect.specs.Groups.{passage_between, share_lines, summary_of, unique_output}
+use Rattle.fc_collect.specs.Promises.{Printing, ReadsAsCounted, ResultFits, Transfer, Transfers}
 use Rattle.fc_collect.specs.{Promises.{WritesAsCounted}, Records.{outputs_after}}
 use Rattle.fc_collect.specs.Streams.{bytes_of, Stream, StreamBytes}
-use Rattle.fc_collect.specs.declared.commands.CountFormat.{CountFormat, TheVariants.{Words}}
-use Rattle.fc_collect.specs.declared.commands.Format.{Format, TheVariants.{Header, Json, Lines}}
-use Rattle.fc_collect.specs.declared.commands.RunKind.{RunKind, TheVariants.{Canon, Check, Count}}
-use Rattle.fc_collect.specs.declared.commands.RunKind.TheVariants.{Expand, Group, Same, Share, Show}
-use Rattle.fc_collect.specs.declared.commands.RunKind.TheVariants.{Symmetries, Table, Unique}
-use Rattle.fc_collect.specs.declared.streams.faults.{RunFault.{RunFault}, Summary.{Summary}}
-use Rattle.fc_collect.specs.declared.streams.limits.Limits.{Limits}
+use Rattle.fc_collect.specs.declared.{
+  commands.{CountFormat.{CountFormat, TheVariants.{Words}}, Format.{Format}},
+  commands.{Format.TheVariants.{Header, Json, Lines}, RunKind.{RunKind, TheVariants.{Canon}}},
+  commands.RunKind.TheVariants.{Check, Closed, Count, Expand, Group, Same, Share, Show, Symmetries},
+  commands.RunKind.TheVariants.{Table, Unique},
+  streams.{faults.{RunFault.{RunFault}, Summary.{Summary}}, limits.Limits.{Limits}},
+}
 use Rattle.fc_collect.specs.declared.commands.CountFormat.TheVariants as count
 
 -- -------- What `same` prints for each accepted record after the first: the passage from the first one's board, or that there is none. From: this project's profile.
@@ -67,6 +68,7 @@ output_of_kind (Table Lines) variant = flat_map (printed table_line variant)
 output_of_kind (Table Header) variant = λ records. table_header ++ flat_map (printed table_line variant) records
 output_of_kind (Table Json) variant = flat_map (printed_with refusal_object table_object variant)
 output_of_kind (Count count.Json) variant = refusal_objects variant
+output_of_kind (Closed count.Json) variant = refusal_objects variant
 output_of_kind kind variant = refusals variant
 
 -- the format of figures where a table has this one
@@ -81,13 +83,20 @@ ending_of_kind Group variant = grouped group_lines variant
 ending_of_kind Share variant = grouped share_lines variant
 ending_of_kind (Count Words) variant = λ records. figures_line (figures (summary_of variant records) (members_among variant records))
 ending_of_kind (Count count.Json) variant = λ records. figures_object (figures (summary_of variant records) (members_among variant records))
+ending_of_kind (Closed Words) variant = λ records. finding_line (finding_of (summary_of variant records) (members_among variant records))
+ending_of_kind (Closed count.Json) variant = λ records. finding_object (finding_of (summary_of variant records) (members_among variant records))
 ending_of_kind kind variant = λ records. []
+
+-- how many records count as refused: where `closed` finds a flaw, one more than are refused
+abbrev pub refused_of_kind : RunKind → Variant → List RecordText → ℕ
+refused_of_kind (Closed format) variant = refused_with has_flaw variant
+refused_of_kind kind variant = count_by (is_refused variant)
 
 -- -------- What a run promises. From: this project's profile.
 
--- what a run of this kind prints, and which records it refuses
+-- what a run of this kind prints, and how many records count as refused
 abbrev pub printing_of : RunKind → Variant → Printing
-printing_of kind variant = record { output = output_of_kind kind variant; ending = ending_of_kind kind variant; refuses = is_refused variant }
+printing_of kind variant = record { output = output_of_kind kind variant; ending = ending_of_kind kind variant; refused = refused_of_kind kind variant }
 
 -- what it transfers within these limits
 abbrev pub TransfersWithin : Limits → RunKind → Variant → StreamBytes → Result Summary RunFault → Type 0

@@ -20,7 +20,8 @@ use Rattle.fc_collect.specs.{Promises.{Begins, fault_failures, IsSmall}, Records
 use Rattle.fc_collect.specs.Records.{finished, if_record, next_number, next_text, records_among}
 use Rattle.fc_collect.specs.Streams.{CallCounts}
 use Rattle.fc_collect.specs.declared.{
-  commands.{count.{Figures.{Figures}, Tally.{Tally}}, names.GroupNames.{GroupNames}},
+  commands.{closed.{KeptBoard.{KeptBoard}, KeptBoards.{KeptBoards}}, count.Figures.{Figures}},
+  commands.{count.Tally.{Tally}, names.GroupNames.{GroupNames}},
   engine.progress.Progress.{Progress},
   groups.any_board.AnyBoard.{AnyBoard, TheVariants.{BakersGame, EightOff, FreeCell}},
   groups.{any_board.AnyCanon.{AnyCanon}, Gathered.{Gathered}, GroupKey.{GroupKey}},
@@ -193,15 +194,15 @@ ConsumesRead limits output refuses held_old held_new old new held searched left 
 abbrev pub last_output : (List RecordText → List ℕ) → (List RecordText → List ℕ) → List RecordText → RecordText → List ℕ
 last_output output ending seen text = output (if_record text) ++ ending (seen ++ if_record text)
 
--- the last text and the end were printed and written
-pub record Finished (first : ℕ) (output : List ℕ) (refuses : RecordText → Bool) (progress : Progress) (text : RecordText) (before after : Option (List ℕ)) (summary : Summary) : Type 0 where
+-- the last text and the end were printed and written, and so many records count as refused
+pub record Finished (first : ℕ) (output : List ℕ) (refused : ℕ) (progress : Progress) (text : RecordText) (before after : Option (List ℕ)) (summary : Summary) : Type 0 where
   pub written : Appends before after output
   pub records : summary.records + first ≡ progress.number + length (if_record text)
-  pub refused : summary.refused ≡ progress.refused + count_by refuses (if_record text)
+  pub refused_so : summary.refused ≡ refused
 
-abbrev pub Finishes : ℕ → List ℕ → (RecordText → Bool) → Progress → RecordText → Option (List ℕ) → Option (List ℕ) → Result Summary RunFault → Type 0
-Finishes first output refuses progress text before after (Ok summary) = Finished first output refuses progress text before after summary
-Finishes first output refuses progress text before after (Err fault) = IsPrintFault fault × SendsSome output [] before after
+abbrev pub Finishes : ℕ → List ℕ → ℕ → Progress → RecordText → Option (List ℕ) → Option (List ℕ) → Result Summary RunFault → Type 0
+Finishes first output refused progress text before after (Ok summary) = Finished first output refused progress text before after summary
+Finishes first output refused progress text before after (Err fault) = IsPrintFault fault × SendsSome output [] before after
 
 -- -------- What a command prints for texts and keeps of them, which goes by the members among them, where records without a header have this variant.
 
@@ -239,6 +240,10 @@ group_key member =
 -- they are of one group
 abbrev pub same_key : GroupKey → GroupKey → Bool
 same_key key other = bytes_eq (variant_word key.variant) (variant_word other.variant) && bytes_eq key.board.codes.items other.board.codes.items
+
+-- the keys are those of the groups of these members, which have boards
+abbrev pub AreKeys : List GroupKey → List Member → Type 0
+AreKeys keys members = (keys ≡ map group_key (leaders_after [] members)) × All HasBoard members
 
 -- the place is this one, if it is one of so many
 abbrev pub IsPlaceAmong : ℕ → ℕ → Option ℕ → Type 0
@@ -314,6 +319,23 @@ pub record AreNames (kept : GroupNames) (first : Member) (others : List Member) 
 abbrev pub KeepsNames : GroupNames → List Member → Type 0
 KeepsNames kept [] = ⊥
 KeepsNames kept (first ∷ others) = AreNames kept first others
+
+-- -------- What `closed` keeps of a member, and of all. From: this project.
+
+-- the member's name and board
+pub record KeepsBoard (kept : KeptBoard) (member : Member) : Type 0 where
+  pub name : kept.name.items ≡ name_of_member member
+  pub variant : variant_held kept.board ≡ member.heading.variant
+  pub board : board_held kept.board ≡ member.contents.board
+
+-- the keys are those of the members' groups, and each board is kept
+pub record KeepsBoards (kept : KeptBoards) (members : List Member) : Type 0 where
+  pub keys : AreKeys kept.keys.keys members
+  pub each : AllZip KeepsBoard kept.boards.items members
+
+-- the member is of this variant, and this is its board
+abbrev pub IsOn : Variant → Board → Member → Type 0
+IsOn variant board member = (member.heading.variant ≡ variant) × (member.contents.board ≡ board)
 
 -- -------- What `count` keeps, against the members so far, and the figures that it finds.
 

@@ -19,6 +19,7 @@ use fc_record::{
 use std::alloc::Global;
 use std::io::{Read, Write};
 
+mod closed;
 mod count;
 mod each_record;
 mod group;
@@ -26,6 +27,7 @@ mod names;
 mod same;
 mod unique;
 
+use closed::{Closed, FindingLine, FindingObject};
 use count::{Count, FiguresLine, FiguresObject};
 use each_record::EachRecord;
 use group::GroupLines;
@@ -57,6 +59,9 @@ pub enum RunKind {
     Symmetries,
     /// Figures of the whole collection, in one line of this format.
     Count(CountFormat),
+    /// Whether the boards of the collection are closed: none is won, and each move leads from one
+    /// of them to a board that is equivalent to one of them. In one line of this format.
+    Closed(CountFormat),
 }
 
 /// How a table is written.
@@ -70,7 +75,7 @@ pub enum Format {
     Json,
 }
 
-/// How the figures of a collection are written.
+/// How one line on a whole collection is written.
 #[derive(Clone, Copy, Debug, PartialEq, Eq, Hash)]
 pub enum CountFormat {
     /// Words and numbers.
@@ -285,6 +290,12 @@ pub fn run_within<Rd: Read, Wr: Write>(
             alloc, config, input, output,
         ),
         RunKind::Symmetries => run_records::<EachRecord<SymmetryLines>, _, _>(
+            alloc, config, input, output,
+        ),
+        RunKind::Closed(CountFormat::Words) => run_records::<Closed<FindingLine>, _, _>(
+            alloc, config, input, output,
+        ),
+        RunKind::Closed(CountFormat::Json) => run_records::<Closed<FindingObject>, _, _>(
             alloc, config, input, output,
         ),
     }

@@ -1,12 +1,12 @@
 //! The engine: it reads a collection record by record, within limits and without a second try.
-ghost use Rattle.std.specs.List.{count_by};
-ghost use Rattle.std.specs.Prelude.{◌+◌, ◌<◌, ◌^◌, ◌↔◌, ◌≡◌, ◌≤◌, [], IsTrue, length, List};
+ghost use Rattle.std.specs.{List.{count_by}, Prelude.{◌++◌, ◌+◌, ◌<◌, ◌^◌, ◌↔◌, ◌≡◌, ◌≤◌, []}};
+ghost use Rattle.std.specs.Prelude.{if◌then◌else◌, IsTrue, length, List};
 ghost use Rattle.fc_record.specs.{Printing.{is_refused}, RecordTexts.{RecordText}};
-ghost use Rattle.fc_collect.specs.inside.{ConsumesRead, ended, Finishes, IsAllowed, last_output};
-ghost use Rattle.fc_collect.specs.inside.{output_counts, printed_after, Remembers, text_at};
-ghost use Rattle.fc_collect.specs.Limits.{AreCountable};
+ghost use Rattle.fc_collect.specs.{Closed.{refused_with}, inside.{ConsumesRead, ended, Finishes}};
+ghost use Rattle.fc_collect.specs.inside.{IsAllowed, last_output, output_counts, printed_after};
+ghost use Rattle.fc_collect.specs.{inside.{Remembers, text_at}, Limits.{AreCountable}};
 ghost use Rattle.fc_collect.specs.Promises.{ReadsAsCounted, ResultFits, Transfers, WritesAsCounted};
-ghost use Rattle.fc_collect.specs.Records.{outputs_after};
+ghost use Rattle.fc_collect.specs.Records.{if_record, outputs_after};
 ghost use Rattle.fc_collect.specs.Streams.{bytes_of, GrowsBy, HasRoom, inner_of};
 
 use crate::{Counted, Limits, MOST_RECORD_BYTES, RunConfig, RunFault, Summary};
@@ -49,7 +49,7 @@ pub fn run_records<C: Command, Rd: Read, Wr: Write>(
         (ResultFits config.limits (record {
           output = outputs_after (printed_after C.Refusal.text C.lines config.variant) [];
           ending = ended C.ending config.variant;
-          refuses = is_refused config.variant;
+          refused = refused_with C.fails config.variant;
         }))
         (bytes_of
         (record { bytes = Rd.remaining; old = input.old; new = input.new })
@@ -149,13 +149,27 @@ fn finish<C: Command, Wr: Write>(
         → Finishes config.limits.number
         (last_output (outputs_after (printed_after C.Refusal.text C.lines config.variant) seen)
         (ended C.ending config.variant) seen (text_at printed.old.progress held.now))
-        (is_refused config.variant) printed.old.progress
-        (text_at printed.old.progress held.now)
+        (refused_with C.fails config.variant
+        (seen ++ if_record (text_at printed.old.progress held.now)))
+        printed.old.progress (text_at printed.old.progress held.now)
         (Wr.contents (inner_of output.old)) (Wr.contents (inner_of output.new)) result }
 {
     take_text::<C, Wr>(alloc, config.variant, printed, held, output)?;
     let summary = printed.progress.summary(config.limits.number);
-    C::end(alloc, &printed.kept, summary, &mut printed.pending, output)?;
+    let failed = C::end(alloc, &printed.kept, summary, &mut printed.pending, output)?;
     write_text(output, printed.pending.as_slice())?;
-    Ok(summary)
+    Ok(with_failed(summary, failed))
+}
+
+// The counts, with one more that is refused where all records failed together.
+fn with_failed(summary: Summary, failed: bool) -> Summary
+    requires few { summary.refused ≤ 2 ^ 61 }
+    ensures records { result.records ≡ summary.records }
+    ensures refused { result.refused
+        ≡ (if failed then summary.refused + 1 else summary.refused) }
+{
+    Summary {
+        records: summary.records,
+        refused: summary.refused + usize::from(failed),
+    }
 }

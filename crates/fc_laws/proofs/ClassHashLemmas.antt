@@ -43,9 +43,10 @@ use Rattle.fc_board.specs.declared.moves.Source.TheVariants.{Cell as FromCell, C
 use Rattle.fc_text.proofs.BoardViewLemmas.{number-renamed}
 use Rattle.fc_canon.specs.{Equivalent}
 use Rattle.fc_bytes.specs.{cell_byte}
-use Rattle.fc_bytes.specs.class_hash.{board_total, card_weight, cell_total, class_hash, class_sum}
-use Rattle.fc_bytes.specs.class_hash.{class_sums, column_total, least_sum, lies_on}
-use Rattle.fc_bytes.specs.class_hash.{moved_sum, place_weight, put_onto, renamed_place, term}
+use Rattle.fc_bytes.specs.class_hash.{board_total, card_weight, cell_total, child_hash, class_hash}
+use Rattle.fc_bytes.specs.class_hash.{class_sum, class_sums, column_total, hash_of_sums, least_sum}
+use Rattle.fc_bytes.specs.class_hash.{lies_on, moved_sum, moved_sums, place_weight, put_onto}
+use Rattle.fc_bytes.specs.class_hash.{renamed_place, term}
 
 -- ---- one renaming after the other
 place_of_card : (renaming : List ℕ) (byte : ℕ) → byte ≤ 52 → renamed_place renaming byte ≡ renamed_code renaming byte
@@ -396,6 +397,29 @@ sums_kept game renamings board after move step old new well few are (long, left,
           ∙ sym (padded_past all' (omega (arith, n', few)) place (omega (arith, past, n')) within))
           ∙ sym there
     ])
+
+-- ---- sums that are moved, none of which is kept
+-- each is the sum of the board after the move
+moved_each : (game : Game) (board after : Board) (move : Move) (step : Step game board move after)
+    → IsWellFormed game board → (renamings : List (List ℕ)) →
+    moved_sums renamings (step.card + 1) (lies_on board move.from) (put_onto board move.to) (class_sums renamings board)
+    ≡ class_sums renamings after
+moved_each game board after move step well [] = refl
+moved_each game board after move step well (renaming ∷ renamings) =
+    ap₂ (λ (sum : ℕ) (sums : List ℕ). sum ∷ sums) (sym (sum_after game board well after move step renaming))
+    (moved_each game board after move step well renamings)
+
+-- their hash is that of the board after the move
+pub hash_of_child : (game : Game) (renamings : List (List ℕ)) (board after : Board) (move : Move)
+    (step : Step game board move after) (sums : ClassSums) →
+    IsWellFormed game board → AreSums (class_sums renamings board) sums →
+    (child_hash renamings board sums move).hash ≡ class_hash renamings after
+hash_of_child game renamings board after move step sums well are =
+    let moved = λ (card : ℕ) (all : List ℕ).
+    hash_of_sums (moved_sums renamings card (lies_on board move.from) (put_onto board move.to) all) in
+    ap₂ moved (ap cell_byte step.offered.1)
+    (sums_read renamings (class_sums renamings board) sums (length-map renamings (class_sum board)) are)
+    ∙ ap hash_of_sums (moved_each game board after move step well renamings)
 
 -- ---- what a legal move's card lies on
 card_below : (column : List ℕ) (last : Option ℕ) → All IsCard column → last_card column ≡ last → cell_byte last ≤ 52

@@ -3,6 +3,7 @@ pub mod AloneLemmas
 pub mod CanonicalAgainLemmas
 pub mod CaseLemmas
 pub mod ClassHashLemmas
+pub mod ClosedFindingLemmas
 pub mod ClosedRowLemmas
 pub mod CommentLemmas
 pub mod ExampleLemmas

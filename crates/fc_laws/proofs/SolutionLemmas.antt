@@ -35,7 +35,7 @@ at-Contains [] place item at = absurd (cc)
 at-Contains (first ∷ rest) zero item at = (0, omega arith, same_Some first item at)
 at-Contains (first ∷ rest) (suc place) item at = let (later, inside, there) = at-Contains rest place item at in (suc later, omega arith, there)
 
-any_where : {X : Type 0} (test : X → Bool) (items : List X) → list_any test items ≡ true → (item : X) × Contains items item × (test item ≡ true)
+pub any_where : {X : Type 0} (test : X → Bool) (items : List X) → list_any test items ≡ true → (item : X) × Contains items item × (test item ≡ true)
 any_where test [] e = absurd (true≢false (sym e))
 any_where {X} test (first ∷ rest) e = by (test first) refl e (any_where test rest)
   where

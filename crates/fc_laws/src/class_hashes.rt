@@ -3,9 +3,9 @@ ghost use Rattle.std.specs.Prelude.{◌+◌, ◌∷◌, ◌≡◌, [], List, Som
 ghost use Rattle.fc_board.specs.Boards.{Board, IsWellFormed};
 ghost use Rattle.fc_board.specs.{Games.{all_renamings, colour_renamings}, Steps.{card_at, Step}};
 ghost use Rattle.{fc_board.specs.declared.moves.Move.{Move}, fc_canon.specs.{Equivalent}};
-ghost use Rattle.fc_bytes.specs.class_hash.{AreMoved, AreSums, CanMove, class_hash, class_sum};
-ghost use Rattle.fc_bytes.specs.class_hash.{class_sums, hash_of_sums, lies_on, moved_sum, put_onto};
-ghost use Rattle.fc_bytes.specs.class_hash.{sums_in};
+ghost use Rattle.fc_bytes.specs.class_hash.{AreMoved, AreSums, CanMove, child_hash, class_hash};
+ghost use Rattle.fc_bytes.specs.class_hash.{class_sum, class_sums, hash_of_sums, lies_on};
+ghost use Rattle.fc_bytes.specs.class_hash.{moved_sum, put_onto, sums_in};
 ghost use Rattle.fc_bytes.specs.declared.class_hash.ClassSums.{ClassSums};
 ghost use Rattle.fc_laws.specs.BoardExamples.{two_spades_left};
 ghost use Rattle.fc_laws.specs.CanonicalExamples.{clubs_king_left, four_in_a_column};
@@ -42,6 +42,15 @@ pub fn sums_stay_those_of_the_board<R: Rule>()
         → AreSums (class_sums R.renamings after) new }
     ensures hash { (board : Board) (sums : ClassSums) → AreSums (class_sums R.renamings board) sums
         → hash_of_sums (sums_in R.renamings sums) ≡ class_hash R.renamings board }
+{}
+
+/// The hash that comes with a move, made of the sums of the board, is the class hash of the board
+/// after it.
+pub fn child_hashes_are_class_hashes<R: Rule>()
+    ensures { (board after : Board) (move : Move) (sums : ClassSums)
+        → IsWellFormed R.game board → Step R.game board move after
+        → AreSums (class_sums R.renamings board) sums
+        → (child_hash R.renamings board sums move).hash ≡ class_hash R.renamings after }
 {}
 
 /// The class hashes of three boards, as another program computes them: with KC on the foot of a

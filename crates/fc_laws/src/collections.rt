@@ -1,5 +1,6 @@
 //! Laws of collections, and of what is printed for them.
 
+pub mod closed;
 pub mod figures;
 pub mod groups;
 pub mod hashes;

@@ -7,7 +7,7 @@ mod record;
 pub use printing::{
     CanonLines, CheckLines, ExpandLines, PrintsRecord, PrintsRefusal, RefusalLine, RefusalObject,
     ShowLines, SymmetryLines, TABLE_HEADER, TableLines, TableObjects, push_header, push_image,
-    push_list, push_name, push_number, push_passage_words,
+    push_json_string, push_list, push_name, push_number, push_passage_words,
 };
 pub use record::{
     Contents, Heading, MoveList, RecordFault, RecordFaultKind, RecordText, Unread, begins_line,

@@ -28,6 +28,7 @@ pub(crate) use heading::{BAKERS_GAME_FRONT, EIGHT_OFF_FRONT, FREECELL_FRONT};
 pub use heading::{push_header, push_name, push_number};
 pub use lists::push_list;
 use lists::{push_expanded_lines, push_lists};
+pub use object::push_json_string;
 use object::{push_board_members, push_list_members, push_passage_members};
 use passage::push_passage;
 pub use passage::push_passage_words;

@@ -21,9 +21,9 @@ use Rattle.fc_tool.specs.{command_of, deal_request, dealt_names, limits_from, pl
 use Rattle.fc_tool.specs.{plain_request, program, reading_request, request_of, TakesAlone}
 use Rattle.fc_tool.specs.{variant_names}
 use Rattle.fc_tool.specs.declared.request.{Request.{Request}, Task.{Task, TheVariants.{Canon}}}
-use Rattle.fc_tool.specs.declared.request.Task.TheVariants.{Check, Count, Deal, Expand, Group}
-use Rattle.fc_tool.specs.declared.request.Task.TheVariants.{Import, Same, Share, Show, Symmetries}
-use Rattle.fc_tool.specs.declared.request.Task.TheVariants.{Table, Unique}
+use Rattle.fc_tool.specs.declared.request.Task.TheVariants.{Check, Closed, Count, Deal, Expand}
+use Rattle.fc_tool.specs.declared.request.Task.TheVariants.{Group, Import, Same, Share, Show}
+use Rattle.fc_tool.specs.declared.request.Task.TheVariants.{Symmetries, Table, Unique}
 
 -- the request of the command that the words name
 abbrev pub asked_by : ValueParser → ValueParser → List Text → Option Request
@@ -52,6 +52,7 @@ by_default Expand reads choices dealt called = refl
 by_default Unique reads choices dealt called = refl
 by_default Table reads choices dealt called = refl
 by_default Count reads choices dealt called = refl
+by_default Closed reads choices dealt called = refl
 by_default Symmetries reads choices dealt called = refl
 by_default Same reads choices dealt called = refl
 by_default Import reads choices dealt called = refl
@@ -83,14 +84,17 @@ by_variant Unique reads BakersGame choices dealt called = refl
 by_variant Unique reads EightOff choices dealt called = refl
 by_variant Table reads FreeCell choices dealt called = refl
 by_variant Count reads FreeCell choices dealt called = refl
+by_variant Closed reads FreeCell choices dealt called = refl
 by_variant Symmetries reads FreeCell choices dealt called = refl
 by_variant Same reads FreeCell choices dealt called = refl
 by_variant Table reads BakersGame choices dealt called = refl
 by_variant Count reads BakersGame choices dealt called = refl
+by_variant Closed reads BakersGame choices dealt called = refl
 by_variant Symmetries reads BakersGame choices dealt called = refl
 by_variant Same reads BakersGame choices dealt called = refl
 by_variant Table reads EightOff choices dealt called = refl
 by_variant Count reads EightOff choices dealt called = refl
+by_variant Closed reads EightOff choices dealt called = refl
 by_variant Symmetries reads EightOff choices dealt called = refl
 by_variant Same reads EightOff choices dealt called = refl
 by_variant Import reads FreeCell choices dealt called = refl
@@ -110,6 +114,7 @@ by_any_size Expand reads collects choices dealt called = refl
 by_any_size Unique reads collects choices dealt called = refl
 by_any_size Table reads collects choices dealt called = refl
 by_any_size Count reads collects choices dealt called = refl
+by_any_size Closed reads collects choices dealt called = refl
 by_any_size Symmetries reads collects choices dealt called = refl
 by_any_size Same reads collects choices dealt called = refl
 by_any_size Import reads collects choices dealt called = absurd (collects refl)
@@ -127,44 +132,47 @@ by_any_size_for Expand reads collects choices dealt called = refl
 by_any_size_for Unique reads collects choices dealt called = refl
 by_any_size_for Table reads collects choices dealt called = refl
 by_any_size_for Count reads collects choices dealt called = refl
+by_any_size_for Closed reads collects choices dealt called = refl
 by_any_size_for Symmetries reads collects choices dealt called = refl
 by_any_size_for Same reads collects choices dealt called = refl
 by_any_size_for Import reads collects choices dealt called = absurd (collects refl)
 by_any_size_for Deal reads collects choices dealt called = absurd (reads refl)
 
-pub by_start : (task : Task) → task ≢ Deal → task ≢ Import → task ≢ Same → task ≢ Count → (choices dealt : ValueParser) (called : Text)
+pub by_start : (task : Task) → task ≢ Deal → task ≢ Import → task ≢ Same → task ≢ Count → task ≢ Closed → (choices dealt : ValueParser) (called : Text)
     → asked_by choices dealt (called ∷ command_of task ∷ codes "--from-record=3" ∷ codes "--from-byte=100" ∷ []) ≡ Some (reading_request task FreeCell (limits_from 3 100))
 unfolding clap_on_literals
-by_start Show reads collects whole all choices dealt called = refl
-by_start Canon reads collects whole all choices dealt called = refl
-by_start Check reads collects whole all choices dealt called = refl
-by_start Group reads collects whole all choices dealt called = refl
-by_start Share reads collects whole all choices dealt called = refl
-by_start Expand reads collects whole all choices dealt called = refl
-by_start Unique reads collects whole all choices dealt called = refl
-by_start Table reads collects whole all choices dealt called = refl
-by_start Count reads collects whole all choices dealt called = absurd (all refl)
-by_start Symmetries reads collects whole all choices dealt called = refl
-by_start Same reads collects whole all choices dealt called = absurd (whole refl)
-by_start Import reads collects whole all choices dealt called = absurd (collects refl)
-by_start Deal reads collects whole all choices dealt called = absurd (reads refl)
+by_start Show reads collects whole all shut choices dealt called = refl
+by_start Canon reads collects whole all shut choices dealt called = refl
+by_start Check reads collects whole all shut choices dealt called = refl
+by_start Group reads collects whole all shut choices dealt called = refl
+by_start Share reads collects whole all shut choices dealt called = refl
+by_start Expand reads collects whole all shut choices dealt called = refl
+by_start Unique reads collects whole all shut choices dealt called = refl
+by_start Table reads collects whole all shut choices dealt called = refl
+by_start Count reads collects whole all shut choices dealt called = absurd (all refl)
+by_start Closed reads collects whole all shut choices dealt called = absurd (shut refl)
+by_start Symmetries reads collects whole all shut choices dealt called = refl
+by_start Same reads collects whole all shut choices dealt called = absurd (whole refl)
+by_start Import reads collects whole all shut choices dealt called = absurd (collects refl)
+by_start Deal reads collects whole all shut choices dealt called = absurd (reads refl)
 
-pub by_first_record : (task : Task) → task ≢ Deal → task ≢ Import → task ≢ Same → task ≢ Count → (choices dealt : ValueParser) (called : Text)
+pub by_first_record : (task : Task) → task ≢ Deal → task ≢ Import → task ≢ Same → task ≢ Count → task ≢ Closed → (choices dealt : ValueParser) (called : Text)
     → asked_by choices dealt (called ∷ command_of task ∷ codes "--from-record" ∷ codes "65537" ∷ []) ≡ Some (reading_request task FreeCell (limits_from 65537 0))
 unfolding clap_on_literals
-by_first_record Show reads collects whole all choices dealt called = refl
-by_first_record Canon reads collects whole all choices dealt called = refl
-by_first_record Check reads collects whole all choices dealt called = refl
-by_first_record Group reads collects whole all choices dealt called = refl
-by_first_record Share reads collects whole all choices dealt called = refl
-by_first_record Expand reads collects whole all choices dealt called = refl
-by_first_record Unique reads collects whole all choices dealt called = refl
-by_first_record Table reads collects whole all choices dealt called = refl
-by_first_record Count reads collects whole all choices dealt called = absurd (all refl)
-by_first_record Symmetries reads collects whole all choices dealt called = refl
-by_first_record Same reads collects whole all choices dealt called = absurd (whole refl)
-by_first_record Import reads collects whole all choices dealt called = absurd (collects refl)
-by_first_record Deal reads collects whole all choices dealt called = absurd (reads refl)
+by_first_record Show reads collects whole all shut choices dealt called = refl
+by_first_record Canon reads collects whole all shut choices dealt called = refl
+by_first_record Check reads collects whole all shut choices dealt called = refl
+by_first_record Group reads collects whole all shut choices dealt called = refl
+by_first_record Share reads collects whole all shut choices dealt called = refl
+by_first_record Expand reads collects whole all shut choices dealt called = refl
+by_first_record Unique reads collects whole all shut choices dealt called = refl
+by_first_record Table reads collects whole all shut choices dealt called = refl
+by_first_record Count reads collects whole all shut choices dealt called = absurd (all refl)
+by_first_record Closed reads collects whole all shut choices dealt called = absurd (shut refl)
+by_first_record Symmetries reads collects whole all shut choices dealt called = refl
+by_first_record Same reads collects whole all shut choices dealt called = absurd (whole refl)
+by_first_record Import reads collects whole all shut choices dealt called = absurd (collects refl)
+by_first_record Deal reads collects whole all shut choices dealt called = absurd (reads refl)
 
 pub by_two_words : (task : Task) → task ≢ Deal → (choices dealt : ValueParser) (called : Text)
     → asked_by choices dealt (called ∷ command_of task ∷ codes "--variant" ∷ codes "eight_off" ∷ []) ≡ Some (plain_request task EightOff)
@@ -178,6 +186,7 @@ by_two_words Expand reads choices dealt called = refl
 by_two_words Unique reads choices dealt called = refl
 by_two_words Table reads choices dealt called = refl
 by_two_words Count reads choices dealt called = refl
+by_two_words Closed reads choices dealt called = refl
 by_two_words Symmetries reads choices dealt called = refl
 by_two_words Same reads choices dealt called = refl
 by_two_words Import reads choices dealt called = refl
@@ -203,10 +212,19 @@ pub fault_of_counted_piece : (choices dealt : ValueParser) (called : Text) → f
 unfolding clap_on_literals
 fault_of_counted_piece choices dealt called = refl
 
+pub fault_of_closed_piece : (choices dealt : ValueParser) (called : Text) → fault_of (program choices dealt) (called ∷ codes "closed" ∷ codes "--from-record=3" ∷ []) ≡ UnknownArgument ∷ []
+unfolding clap_on_literals
+fault_of_closed_piece choices dealt called = refl
+
 pub by_json : (choices dealt : ValueParser) (called : Text)
     → asked_by choices dealt (called ∷ codes "count" ∷ codes "--json" ∷ []) ≡ Some (record (plain_request Count FreeCell) { options = record plain_options { format = Json } })
 unfolding clap_on_literals
 by_json choices dealt called = refl
+
+pub by_closed_json : (choices dealt : ValueParser) (called : Text)
+    → asked_by choices dealt (called ∷ codes "closed" ∷ codes "--json" ∷ []) ≡ Some (record (plain_request Closed FreeCell) { options = record plain_options { format = Json } })
+unfolding clap_on_literals
+by_closed_json choices dealt called = refl
 
 pub by_table_json : (choices dealt : ValueParser) (called : Text)
     → asked_by choices dealt (called ∷ codes "table" ∷ codes "--json" ∷ []) ≡ Some (record (plain_request Table FreeCell) { options = record plain_options { format = Json } })
@@ -351,6 +369,7 @@ fault_of_task Expand reads given dealt called = refl
 fault_of_task Unique reads given dealt called = refl
 fault_of_task Table reads given dealt called = refl
 fault_of_task Count reads given dealt called = refl
+fault_of_task Closed reads given dealt called = refl
 fault_of_task Symmetries reads given dealt called = refl
 fault_of_task Same reads given dealt called = refl
 fault_of_task Import reads given dealt called = refl
@@ -388,14 +407,17 @@ fault_of_task_for Unique reads BakersGame given dealt called = refl
 fault_of_task_for Unique reads EightOff given dealt called = refl
 fault_of_task_for Table reads FreeCell given dealt called = refl
 fault_of_task_for Count reads FreeCell given dealt called = refl
+fault_of_task_for Closed reads FreeCell given dealt called = refl
 fault_of_task_for Symmetries reads FreeCell given dealt called = refl
 fault_of_task_for Same reads FreeCell given dealt called = refl
 fault_of_task_for Table reads BakersGame given dealt called = refl
 fault_of_task_for Count reads BakersGame given dealt called = refl
+fault_of_task_for Closed reads BakersGame given dealt called = refl
 fault_of_task_for Symmetries reads BakersGame given dealt called = refl
 fault_of_task_for Same reads BakersGame given dealt called = refl
 fault_of_task_for Table reads EightOff given dealt called = refl
 fault_of_task_for Count reads EightOff given dealt called = refl
+fault_of_task_for Closed reads EightOff given dealt called = refl
 fault_of_task_for Symmetries reads EightOff given dealt called = refl
 fault_of_task_for Same reads EightOff given dealt called = refl
 fault_of_task_for Import reads FreeCell given dealt called = refl
@@ -416,6 +438,7 @@ fault_of_any_size Expand reads collects given dealt called = refl
 fault_of_any_size Unique reads collects given dealt called = refl
 fault_of_any_size Table reads collects given dealt called = refl
 fault_of_any_size Count reads collects given dealt called = refl
+fault_of_any_size Closed reads collects given dealt called = refl
 fault_of_any_size Symmetries reads collects given dealt called = refl
 fault_of_any_size Same reads collects given dealt called = refl
 fault_of_any_size Import reads collects given dealt called = absurd (collects refl)
@@ -431,64 +454,67 @@ any_size_accepted task reads collects choices dealt called takes =
 abbrev with_start : Bool → Kinds
 with_start taken = or_else (or_else (or_else (or_else (or_else (or_else [] []) (name_fault taken)) []) []) []) []
 
-fault_of_start : (task : Task) → task ≢ Deal → task ≢ Import → task ≢ Same → task ≢ Count → (given : Bor (List (Bor Text))) (dealt : ValueParser) (called : Text)
+fault_of_start : (task : Task) → task ≢ Deal → task ≢ Import → task ≢ Same → task ≢ Count → task ≢ Closed → (given : Bor (List (Bor Text))) (dealt : ValueParser) (called : Text)
     → fault_of (program (parser.Names given) dealt) (called ∷ command_of task ∷ codes "--from-record=3" ∷ codes "--from-byte=100" ∷ [])
     ≡ with_start (list_any (λ other. bytes_eq other.now (codes "freecell")) given.now)
 unfolding clap_on_literals
-fault_of_start Show reads collects whole all given dealt called = refl
-fault_of_start Canon reads collects whole all given dealt called = refl
-fault_of_start Check reads collects whole all given dealt called = refl
-fault_of_start Group reads collects whole all given dealt called = refl
-fault_of_start Share reads collects whole all given dealt called = refl
-fault_of_start Expand reads collects whole all given dealt called = refl
-fault_of_start Unique reads collects whole all given dealt called = refl
-fault_of_start Table reads collects whole all given dealt called = refl
-fault_of_start Count reads collects whole all given dealt called = absurd (all refl)
-fault_of_start Symmetries reads collects whole all given dealt called = refl
-fault_of_start Same reads collects whole all given dealt called = absurd (whole refl)
-fault_of_start Import reads collects whole all given dealt called = absurd (collects refl)
-fault_of_start Deal reads collects whole all given dealt called = absurd (reads refl)
+fault_of_start Show reads collects whole all shut given dealt called = refl
+fault_of_start Canon reads collects whole all shut given dealt called = refl
+fault_of_start Check reads collects whole all shut given dealt called = refl
+fault_of_start Group reads collects whole all shut given dealt called = refl
+fault_of_start Share reads collects whole all shut given dealt called = refl
+fault_of_start Expand reads collects whole all shut given dealt called = refl
+fault_of_start Unique reads collects whole all shut given dealt called = refl
+fault_of_start Table reads collects whole all shut given dealt called = refl
+fault_of_start Count reads collects whole all shut given dealt called = absurd (all refl)
+fault_of_start Closed reads collects whole all shut given dealt called = absurd (shut refl)
+fault_of_start Symmetries reads collects whole all shut given dealt called = refl
+fault_of_start Same reads collects whole all shut given dealt called = absurd (whole refl)
+fault_of_start Import reads collects whole all shut given dealt called = absurd (collects refl)
+fault_of_start Deal reads collects whole all shut given dealt called = absurd (reads refl)
 
-pub start_accepted : (task : Task) → task ≢ Deal → task ≢ Import → task ≢ Same → task ≢ Count → (choices dealt : ValueParser) (called : Text) → TakesAlone variant_names choices
+pub start_accepted : (task : Task) → task ≢ Deal → task ≢ Import → task ≢ Same → task ≢ Count → task ≢ Closed → (choices dealt : ValueParser) (called : Text) → TakesAlone variant_names choices
     → fault_of (program choices dealt) (called ∷ command_of task ∷ codes "--from-record=3" ∷ codes "--from-byte=100" ∷ []) ≡ []
-start_accepted task reads collects whole all choices dealt called takes =
+start_accepted task reads collects whole all shut choices dealt called takes =
     let names = given_names variant_names choices takes in
     ap (λ of. fault_of (program of dealt) (called ∷ command_of task ∷ codes "--from-record=3" ∷ codes "--from-byte=100" ∷ [])) names.1
-    ∙ fault_of_start task reads collects whole all names.0 dealt called ∙ ap with_start (takes_name (codes "freecell") variant_names names.0 names.2)
+    ∙ fault_of_start task reads collects whole all shut names.0 dealt called ∙ ap with_start (takes_name (codes "freecell") variant_names names.0 names.2)
 
-pub fault_of_record_0 : (task : Task) → task ≢ Deal → task ≢ Import → task ≢ Same → task ≢ Count → (choices dealt : ValueParser) (called : Text)
+pub fault_of_record_0 : (task : Task) → task ≢ Deal → task ≢ Import → task ≢ Same → task ≢ Count → task ≢ Closed → (choices dealt : ValueParser) (called : Text)
     → fault_of (program choices dealt) (called ∷ command_of task ∷ codes "--from-record=0" ∷ []) ≡ ValueValidation ∷ []
 unfolding clap_on_literals
-fault_of_record_0 Show reads collects whole all choices dealt called = refl
-fault_of_record_0 Canon reads collects whole all choices dealt called = refl
-fault_of_record_0 Check reads collects whole all choices dealt called = refl
-fault_of_record_0 Group reads collects whole all choices dealt called = refl
-fault_of_record_0 Share reads collects whole all choices dealt called = refl
-fault_of_record_0 Expand reads collects whole all choices dealt called = refl
-fault_of_record_0 Unique reads collects whole all choices dealt called = refl
-fault_of_record_0 Table reads collects whole all choices dealt called = refl
-fault_of_record_0 Count reads collects whole all choices dealt called = absurd (all refl)
-fault_of_record_0 Symmetries reads collects whole all choices dealt called = refl
-fault_of_record_0 Same reads collects whole all choices dealt called = absurd (whole refl)
-fault_of_record_0 Import reads collects whole all choices dealt called = absurd (collects refl)
-fault_of_record_0 Deal reads collects whole all choices dealt called = absurd (reads refl)
+fault_of_record_0 Show reads collects whole all shut choices dealt called = refl
+fault_of_record_0 Canon reads collects whole all shut choices dealt called = refl
+fault_of_record_0 Check reads collects whole all shut choices dealt called = refl
+fault_of_record_0 Group reads collects whole all shut choices dealt called = refl
+fault_of_record_0 Share reads collects whole all shut choices dealt called = refl
+fault_of_record_0 Expand reads collects whole all shut choices dealt called = refl
+fault_of_record_0 Unique reads collects whole all shut choices dealt called = refl
+fault_of_record_0 Table reads collects whole all shut choices dealt called = refl
+fault_of_record_0 Count reads collects whole all shut choices dealt called = absurd (all refl)
+fault_of_record_0 Closed reads collects whole all shut choices dealt called = absurd (shut refl)
+fault_of_record_0 Symmetries reads collects whole all shut choices dealt called = refl
+fault_of_record_0 Same reads collects whole all shut choices dealt called = absurd (whole refl)
+fault_of_record_0 Import reads collects whole all shut choices dealt called = absurd (collects refl)
+fault_of_record_0 Deal reads collects whole all shut choices dealt called = absurd (reads refl)
 
-pub fault_of_largest_byte : (task : Task) → task ≢ Deal → task ≢ Import → task ≢ Same → task ≢ Count → (choices dealt : ValueParser) (called : Text)
+pub fault_of_largest_byte : (task : Task) → task ≢ Deal → task ≢ Import → task ≢ Same → task ≢ Count → task ≢ Closed → (choices dealt : ValueParser) (called : Text)
     → fault_of (program choices dealt) (called ∷ command_of task ∷ codes "--from-byte=1152921504606846977" ∷ []) ≡ ValueValidation ∷ []
 unfolding clap_on_literals
-fault_of_largest_byte Show reads collects whole all choices dealt called = refl
-fault_of_largest_byte Canon reads collects whole all choices dealt called = refl
-fault_of_largest_byte Check reads collects whole all choices dealt called = refl
-fault_of_largest_byte Group reads collects whole all choices dealt called = refl
-fault_of_largest_byte Share reads collects whole all choices dealt called = refl
-fault_of_largest_byte Expand reads collects whole all choices dealt called = refl
-fault_of_largest_byte Unique reads collects whole all choices dealt called = refl
-fault_of_largest_byte Table reads collects whole all choices dealt called = refl
-fault_of_largest_byte Count reads collects whole all choices dealt called = absurd (all refl)
-fault_of_largest_byte Symmetries reads collects whole all choices dealt called = refl
-fault_of_largest_byte Same reads collects whole all choices dealt called = absurd (whole refl)
-fault_of_largest_byte Import reads collects whole all choices dealt called = absurd (collects refl)
-fault_of_largest_byte Deal reads collects whole all choices dealt called = absurd (reads refl)
+fault_of_largest_byte Show reads collects whole all shut choices dealt called = refl
+fault_of_largest_byte Canon reads collects whole all shut choices dealt called = refl
+fault_of_largest_byte Check reads collects whole all shut choices dealt called = refl
+fault_of_largest_byte Group reads collects whole all shut choices dealt called = refl
+fault_of_largest_byte Share reads collects whole all shut choices dealt called = refl
+fault_of_largest_byte Expand reads collects whole all shut choices dealt called = refl
+fault_of_largest_byte Unique reads collects whole all shut choices dealt called = refl
+fault_of_largest_byte Table reads collects whole all shut choices dealt called = refl
+fault_of_largest_byte Count reads collects whole all shut choices dealt called = absurd (all refl)
+fault_of_largest_byte Closed reads collects whole all shut choices dealt called = absurd (shut refl)
+fault_of_largest_byte Symmetries reads collects whole all shut choices dealt called = refl
+fault_of_largest_byte Same reads collects whole all shut choices dealt called = absurd (whole refl)
+fault_of_largest_byte Import reads collects whole all shut choices dealt called = absurd (collects refl)
+fault_of_largest_byte Deal reads collects whole all shut choices dealt called = absurd (reads refl)
 
 variant_taken : (variant : Variant) → list_any (λ other. bytes_eq other (variant_name variant)) variant_names ≡ true
 variant_taken FreeCell = refl

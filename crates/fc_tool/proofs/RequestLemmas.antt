@@ -1,24 +1,23 @@
 -- What is so of each request that words make: it has a job, and a run can count up to its limits.
 use Rattle.clap.specs.Words.{first_of, Row, subcommand_of, Text}
-use Rattle.std.proofs.Common.{◌∙◌, ◌≡◌, ◌≤◌, ap, arith, Bool, codes, false, is_some, IsSome, List}
-use Rattle.std.proofs.Common.{Err, None, Ok, Option, option_and_then, option_map, refl, Result, Some, subst, sym}
-use Rattle.std.proofs.Common.{true, ℕ}
+use Rattle.std.proofs.Common.{◌∙◌, ◌≡◌, ◌≤◌, ap, arith, Bool, codes, Err, false, is_some, IsSome}
+use Rattle.std.proofs.Common.{List, None, Ok, Option, option_and_then, option_map, refl, Result}
+use Rattle.std.proofs.Common.{Some, subst, sym, true, ℕ}
 use Rattle.std.proofs.lemmas.Option.{option_and_then_some, same_Some}
-use Rattle.fc_board.specs.declared.rule.Variant.{Variant}
 use Rattle.fc_board.specs.declared.rule.Variant.TheVariants.{BakersGame, EightOff, FreeCell}
+use Rattle.fc_board.specs.declared.rule.Variant.{Variant}
 use Rattle.fc_collect.specs.Limits.{AreCountable, most_countable, standard}
 use Rattle.fc_collect.specs.declared.commands.{Format.{Format}, RunKind.{RunKind}}
 use Rattle.fc_collect.specs.declared.streams.limits.Limits.{Limits}
-use Rattle.fc_tool.proofs.WordLemmas.{bounded}
-use Rattle.fc_tool.specs.declared.request.WordsFault.{WordsFault}
-use Rattle.fc_tool.specs.{IsCountable}
-use Rattle.fc_tool.specs.{any_size_in, deal_request, format_in, job_of, job_of_task, limits_from, limits_in}
-use Rattle.fc_tool.specs.{limits_named, number_in, plain_options, plain_request, program, Reads, request_for}
+use Rattle.fc_tool.{proofs.WordLemmas.{bounded}, specs.{any_size_in, deal_request, format_in}}
+use Rattle.fc_tool.specs.{IsCountable, job_of, job_of_task, limits_from, limits_in, limits_named}
+use Rattle.fc_tool.specs.{number_in, plain_options, plain_request, program, Reads, request_for}
 use Rattle.fc_tool.specs.{request_of, run_of_task, start_named, task_named, variant_in}
 use Rattle.fc_tool.specs.declared.request.{Options.{Options}, Request.{Request}, Task.{Task}}
-use Rattle.fc_tool.specs.declared.request.Task.TheVariants.{Canon, Check, Count, Deal, Expand, Group}
-use Rattle.fc_tool.specs.declared.request.Task.TheVariants.{Import, Same, Share, Show, Symmetries}
-use Rattle.fc_tool.specs.declared.request.Task.TheVariants.{Table, Unique}
+use Rattle.fc_tool.specs.declared.request.Task.TheVariants.{Canon, Check, Closed, Count, Deal}
+use Rattle.fc_tool.specs.declared.request.Task.TheVariants.{Expand, Group, Import, Same, Share}
+use Rattle.fc_tool.specs.declared.request.Task.TheVariants.{Show, Symmetries, Table, Unique}
+use Rattle.fc_tool.specs.declared.request.WordsFault.{WordsFault}
 use Rattle.fc_tool.specs.declared.program.Job.TheVariants as job
 
 pub record IsSound (request : Request) : Type 0 where
@@ -80,6 +79,7 @@ run_is Table kind variant number options is = ap (option_map (λ kind. job.Run k
 run_is Same kind variant number options is = ap (option_map (λ kind. job.Run kind variant options.limits)) is
 run_is Symmetries kind variant number options is = ap (option_map (λ kind. job.Run kind variant options.limits)) is
 run_is Count kind variant number options is = ap (option_map (λ kind. job.Run kind variant options.limits)) is
+run_is Closed kind variant number options is = ap (option_map (λ kind. job.Run kind variant options.limits)) is
 
 -- a request for a run has a job
 has_run : (task : Task) (kind : RunKind) (variant : Variant) (options : Options) → run_of_task options.format task ≡ Some kind → IsSome (job_of_task task variant None options)
@@ -115,6 +115,7 @@ sound_for rows Table variant request is = sound_run (format_in rows) Table _ var
 sound_for rows Same variant request is = sound_run (format_in rows) Same _ variant (limits_in rows) request refl (countable_in rows) is
 sound_for rows Symmetries variant request is = sound_run (format_in rows) Symmetries _ variant (limits_in rows) request refl (countable_in rows) is
 sound_for rows Count variant request is = sound_run (format_in rows) Count _ variant (limits_in rows) request refl (countable_in rows) is
+sound_for rows Closed variant request is = sound_run (format_in rows) Closed _ variant (limits_in rows) request refl (countable_in rows) is
 
 sound_of : (name : Text) (rows : List Row) (request : Request) → request_of (name, rows) ≡ Some request → IsSound request
 sound_of name rows request is =

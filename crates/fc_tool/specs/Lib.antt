@@ -26,9 +26,9 @@ use Rattle.fc_import.specs.declared.changes.Noted.{Noted, TheVariants.{Changes, 
 use Rattle.fc_import.specs.declared.layout.LinesAre.{LinesAre, TheVariants.{Columns, Rows, Unsaid}}
 use Rattle.fc_tool.specs.declared.program.{DealtGame.{DealtGame}, Job.{Job}}
 use Rattle.fc_tool.specs.declared.request.{Options.{Options}, Request.{Request}, Task.{Task}}
-use Rattle.fc_tool.specs.declared.request.Task.TheVariants.{Canon, Check, Count, Deal, Expand}
-use Rattle.fc_tool.specs.declared.request.Task.TheVariants.{Group, Import, Same, Share, Show}
-use Rattle.fc_tool.specs.declared.request.Task.TheVariants.{Symmetries, Table, Unique}
+use Rattle.fc_tool.specs.declared.request.Task.TheVariants.{Canon, Check, Closed, Count, Deal}
+use Rattle.fc_tool.specs.declared.request.Task.TheVariants.{Expand, Group, Import, Same, Share}
+use Rattle.fc_tool.specs.declared.request.Task.TheVariants.{Show, Symmetries, Table, Unique}
 use Rattle.fc_tool.specs.declared.request.WordsFault.{TheVariants.{Memory, Parser}, WordsFault}
 use Rattle.clap.specs.declared.builder.value_parser.ValueParser.TheVariants as parser
 use Rattle.fc_collect.specs.declared.commands.RunKind.TheVariants as runs
@@ -108,6 +108,7 @@ rules_of choices dealt Import = import_options choices
 rules_of choices dealt Deal = variant_option dealt ∷ number_argument ∷ []
 rules_of choices dealt Same = whole_options choices
 rules_of choices dealt Count = whole_options choices ++ json_option ∷ []
+rules_of choices dealt Closed = whole_options choices ++ json_option ∷ []
 rules_of choices dealt Table = piece_options choices ++ json_option ∷ header_option ∷ []
 rules_of choices dealt task = piece_options choices
 
@@ -124,12 +125,13 @@ command_of Table = codes "table"
 command_of Same = codes "same"
 command_of Symmetries = codes "symmetries"
 command_of Count = codes "count"
+command_of Closed = codes "closed"
 command_of Import = codes "import"
 command_of Deal = codes "deal"
 
 -- all tasks, in the order of their commands in the help
 abbrev pub tasks : List Task
-tasks = Show ∷ Canon ∷ Check ∷ Group ∷ Share ∷ Expand ∷ Unique ∷ Table ∷ Same ∷ Symmetries ∷ Count ∷ Import ∷ Deal ∷ []
+tasks = Show ∷ Canon ∷ Check ∷ Group ∷ Share ∷ Expand ∷ Unique ∷ Table ∷ Same ∷ Symmetries ∷ Count ∷ Closed ∷ Import ∷ Deal ∷ []
 
 -- fcanon without its commands: it wants one, and where nothing is given it says how it is used
 abbrev pub bare_program : App
@@ -267,6 +269,7 @@ run_of_task format Table = Some (runs.Table format)
 run_of_task format Same = Some runs.Same
 run_of_task format Symmetries = Some runs.Symmetries
 run_of_task format Count = Some (runs.Count (count_format format))
+run_of_task format Closed = Some (runs.Closed (count_format format))
 run_of_task format Import = None
 run_of_task format Deal = None
 
@@ -287,7 +290,7 @@ job_of request = job_of_task request.task request.variant request.number request
 
 -- ---- how it ends
 
--- the exit status: 0 where all records were accepted, 1 where one was refused, 3 at a fault
+-- the exit status: 0 where nothing counts as refused, 1 where something does, 3 at a fault
 abbrev pub status_of : Result Summary RunFault → ℕ
 status_of (Ok summary) = if summary.refused == 0 then 0 else 1
 status_of (Err fault) = 3

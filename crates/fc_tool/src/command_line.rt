@@ -80,7 +80,7 @@ fn command<'a>(
         | Task::Symmetries => reading_command(alloc, choices, name, help),
         Task::Table => table_command(alloc, choices, name, help),
         Task::Same => whole_command(alloc, choices, name, help),
-        Task::Count => counting_command(alloc, choices, name, help),
+        Task::Count | Task::Closed => judging_command(alloc, choices, name, help),
         Task::Import => importing_command(alloc, choices, name, help),
         Task::Deal => numbered_command(alloc, dealt, name, help),
     }
@@ -213,7 +213,7 @@ fn whole_command<'a>(
 }
 
 // A command that reads a whole collection, and can print JSON.
-fn counting_command<'a>(
+fn judging_command<'a>(
     alloc: Global,
     choices: ValueParser<'a>,
     name: &'a str,

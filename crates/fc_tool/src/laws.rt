@@ -28,10 +28,10 @@ ghost use Rattle.fc_tool.specs.{Reads, run_of_task, status_of, TriesToWrite};
 ghost use Rattle.fc_tool.specs.declared.program.DealtGame.TheVariants as dealt;
 ghost use Rattle.fc_tool.specs.declared.program.Job.TheVariants as job;
 ghost use Rattle.fc_tool.specs.declared.request.{Request.{Request}, Task.{Task}};
-ghost use Rattle.fc_tool.specs.declared.request.Task.TheVariants.{Canon, Check, Count, Deal};
-ghost use Rattle.fc_tool.specs.declared.request.Task.TheVariants.{Expand, Group, Import, Same};
-ghost use Rattle.fc_tool.specs.declared.request.Task.TheVariants.{Share, Show, Symmetries, Table};
-ghost use Rattle.fc_tool.specs.declared.request.Task.TheVariants.{Unique};
+ghost use Rattle.fc_tool.specs.declared.request.Task.TheVariants.{Canon, Check, Closed, Count};
+ghost use Rattle.fc_tool.specs.declared.request.Task.TheVariants.{Deal, Expand, Group, Import};
+ghost use Rattle.fc_tool.specs.declared.request.Task.TheVariants.{Same, Share, Show, Symmetries};
+ghost use Rattle.fc_tool.specs.declared.request.Task.TheVariants.{Table, Unique};
 ghost use Rattle.fc_tool.specs.declared.request.WordsFault.TheVariants.{Parser};
 
 use fc_collect::Counted;
@@ -50,6 +50,7 @@ pub fn commands_have_their_words()
     ensures same { command_of Same ≡ codes "same" }
     ensures symmetries { command_of Symmetries ≡ codes "symmetries" }
     ensures count { command_of Count ≡ codes "count" }
+    ensures closed { command_of Closed ≡ codes "closed" }
     ensures import { command_of Import ≡ codes "import" }
     ensures deal { command_of Deal ≡ codes "deal" }
 {}
@@ -94,33 +95,33 @@ pub fn any_size_is_asked_for()
 /// are numbered from 1, and no number is past what a run can count to.
 pub fn pieces_begin_where_they_say()
     ensures both { (task : Task) (called : Text) (answer : Option Request)
-        → task ≢ Deal → task ≢ Import → task ≢ Same → task ≢ Count
+        → task ≢ Deal → task ≢ Import → task ≢ Same → task ≢ Count → task ≢ Closed
         → Reads (called ∷ command_of task ∷ codes "--from-record=3" ∷ codes "--from-byte=100" ∷ [])
         (Ok answer)
         → answer ≡ Some (reading_request task FreeCell (limits_from 3 100)) }
     ensures record { (task : Task) (called : Text) (answer : Option Request)
-        → task ≢ Deal → task ≢ Import → task ≢ Same → task ≢ Count
+        → task ≢ Deal → task ≢ Import → task ≢ Same → task ≢ Count → task ≢ Closed
         → Reads (called ∷ command_of task ∷ codes "--from-record" ∷ codes "65537" ∷ [])
         (Ok answer)
         → answer ≡ Some (reading_request task FreeCell (limits_from 65537 0)) }
     ensures accepted { (task : Task) (called : Text) (error : Error)
-        → task ≢ Deal → task ≢ Import → task ≢ Same → task ≢ Count
+        → task ≢ Deal → task ≢ Import → task ≢ Same → task ≢ Count → task ≢ Closed
         → ¬ Reads
         (called ∷ command_of task ∷ codes "--from-record=3" ∷ codes "--from-byte=100" ∷ [])
         (Err (Parser error)) }
     ensures no_record_0 { (task : Task) (called : Text) (error : Error)
-        → task ≢ Deal → task ≢ Import → task ≢ Same → task ≢ Count
+        → task ≢ Deal → task ≢ Import → task ≢ Same → task ≢ Count → task ≢ Closed
         → Reads (called ∷ command_of task ∷ codes "--from-record=0" ∷ []) (Err (Parser error))
         → kind_of error ≡ ValueValidation }
     ensures no_byte_past_all { (task : Task) (called : Text) (error : Error)
-        → task ≢ Deal → task ≢ Import → task ≢ Same → task ≢ Count
+        → task ≢ Deal → task ≢ Import → task ≢ Same → task ≢ Count → task ≢ Closed
         → Reads (called ∷ command_of task ∷ codes "--from-byte=1152921504606846977" ∷ [])
         (Err (Parser error))
         → kind_of error ≡ ValueValidation }
 {}
 
-/// `same` and `count` take no piece: which record is the first of all, and what is in a group with
-/// an earlier record, only the whole can say.
+/// `same`, `count` and `closed` take no piece: which record is the first of all, and which boards
+/// are equivalent to one of it, only the whole can say.
 pub fn some_commands_take_no_piece()
     ensures no_record { (called : Text) (answer : Option Request)
         → ¬ Reads (called ∷ codes "same" ∷ codes "--from-record=3" ∷ []) (Ok answer) }
@@ -131,14 +132,20 @@ pub fn some_commands_take_no_piece()
         → kind_of error ≡ UnknownArgument }
     ensures count { (called : Text) (answer : Option Request)
         → ¬ Reads (called ∷ codes "count" ∷ codes "--from-record=3" ∷ []) (Ok answer) }
+    ensures closed { (called : Text) (answer : Option Request)
+        → ¬ Reads (called ∷ codes "closed" ∷ codes "--from-record=3" ∷ []) (Ok answer) }
 {}
 
-/// `--json` asks `count` and `table` for JSON, also where `--header` is there, which alone asks
+/// `--json` asks `count`, `closed` and `table` for JSON, also where `--header` is there, which alone asks
 /// `table` for a header. No other command takes them.
 pub fn formats_are_asked_for()
     ensures count { (called : Text) (answer : Option Request)
         → Reads (called ∷ codes "count" ∷ codes "--json" ∷ []) (Ok answer)
         → answer ≡ Some (record (plain_request Count FreeCell)
+        { options = record plain_options { format = Json } }) }
+    ensures closed { (called : Text) (answer : Option Request)
+        → Reads (called ∷ codes "closed" ∷ codes "--json" ∷ []) (Ok answer)
+        → answer ≡ Some (record (plain_request Closed FreeCell)
         { options = record plain_options { format = Json } }) }
     ensures table { (called : Text) (answer : Option Request)
         → Reads (called ∷ codes "table" ∷ codes "--json" ∷ []) (Ok answer)
@@ -277,7 +284,7 @@ pub fn each_request_has_a_job()
 {}
 
 /// The run of a command over records prints what its name says; `table` and `count` print it in the
-/// format that was asked for, of which `count` has no header.
+/// format that was asked for, of which `count` and `closed` have no header.
 pub fn commands_have_their_runs()
     ensures show { (format : Format) → run_of_task format Show ≡ Some runs.Show }
     ensures canon { (format : Format) → run_of_task format Canon ≡ Some runs.Canon }
@@ -293,6 +300,9 @@ pub fn commands_have_their_runs()
     ensures count { run_of_task Lines Count ≡ Some (runs.Count Words) }
     ensures count_with_header { run_of_task Header Count ≡ Some (runs.Count Words) }
     ensures count_in_json { run_of_task Json Count ≡ Some (runs.Count figures.Json) }
+    ensures closed { run_of_task Lines Closed ≡ Some (runs.Closed Words) }
+    ensures closed_with_header { run_of_task Header Closed ≡ Some (runs.Closed Words) }
+    ensures closed_in_json { run_of_task Json Closed ≡ Some (runs.Closed figures.Json) }
     ensures import { (format : Format) → run_of_task format Import ≡ None }
     ensures deal { (format : Format) → run_of_task format Deal ≡ None }
 {}

@@ -17,6 +17,7 @@ pub enum Task {
     Same,
     Symmetries,
     Count,
+    Closed,
     /// Makes a collection of what other programs print.
     Import,
     /// Prints the board of a deal of Microsoft's, by its number. It reads nothing.
@@ -24,7 +25,7 @@ pub enum Task {
 }
 
 /// All tasks, in the order of their commands in the help.
-pub(crate) static TASKS: [Task; 13] = [
+pub(crate) static TASKS: [Task; 14] = [
     Task::Show,
     Task::Canon,
     Task::Check,
@@ -36,6 +37,7 @@ pub(crate) static TASKS: [Task; 13] = [
     Task::Same,
     Task::Symmetries,
     Task::Count,
+    Task::Closed,
     Task::Import,
     Task::Deal,
 ];
@@ -72,6 +74,7 @@ impl Task {
             Task::Same => "same",
             Task::Symmetries => "symmetries",
             Task::Count => "count",
+            Task::Closed => "closed",
             Task::Import => "import",
             Task::Deal => "deal",
         }
@@ -94,6 +97,7 @@ impl Task {
             Task::Same => Some(RunKind::Same),
             Task::Symmetries => Some(RunKind::Symmetries),
             Task::Count => Some(RunKind::Count(CountFormat::of(format))),
+            Task::Closed => Some(RunKind::Closed(CountFormat::of(format))),
             Task::Import | Task::Deal => None,
         }
     }

@@ -6,8 +6,8 @@ use Rattle.fc_collect.specs.Limits.{largest, most_bytes, standard}
 use Rattle.fc_collect.specs.{Promises.{Begins, IsWithinLimits}, Runs.{count_format}}
 use Rattle.fc_collect.specs.declared.{
   commands.{Format.{Format, TheVariants.{Header, Json, Lines}}, RunKind.{RunKind}},
-  commands.RunKind.TheVariants.{Canon, Check, Count, Expand, Group, Same, Share, Show, Symmetries},
-  commands.RunKind.TheVariants.{Table, Unique},
+  commands.RunKind.TheVariants.{Canon, Check, Closed, Count, Expand, Group, Same, Share, Show},
+  commands.RunKind.TheVariants.{Symmetries, Table, Unique},
   streams.faults.RunFault.{RunFault, TheVariants.{Memory, Read, ReaderNeverEnds, TooLarge, Write}},
   streams.{faults.Summary.{Summary}, limits.Limits.{Limits}},
 }
@@ -21,10 +21,10 @@ use Rattle.fcanon_runs.specs.declared.output.Written.{Written}
 abbrev pub format_at : ℕ → Format
 format_at number = slice_index_or (Lines ∷ Header ∷ Json ∷ []) number Lines
 
--- 0 is `show`, 1 `canon`, and so on in this order; of these `table` and `count` have a format
+-- 0 is `show`, 1 `canon`, and so on in this order; of these `table`, `count` and `closed` have a format
 abbrev pub kind_at : (task format : ℕ) → RunKind
 kind_at task format =
-    slice_index_or (Show ∷ Canon ∷ Check ∷ Group ∷ Share ∷ Expand ∷ Unique ∷ Table (format_at format) ∷ Same ∷ Symmetries ∷ Count (count_format (format_at format)) ∷ []) task Show
+    slice_index_or (Show ∷ Canon ∷ Check ∷ Group ∷ Share ∷ Expand ∷ Unique ∷ Table (format_at format) ∷ Same ∷ Symmetries ∷ Count (count_format (format_at format)) ∷ Closed (count_format (format_at format)) ∷ []) task Show
 
 -- 1 is columns, 2 rows, and with any other number it is not said
 abbrev pub lines_at : ℕ → LinesAre

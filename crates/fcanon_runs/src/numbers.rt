@@ -26,7 +26,7 @@ const NOT_READ: u32 = 14;
 /// it has one alone.
 pub(crate) fn kind_of(task: u32, format: u32) -> Option<RunKind>
     ensures some { IfSome result (λ kind. (format < 3) × (kind ≡ kind_at task format)) }
-    ensures none { result ≡ None → task < 11 → 3 ≤ format }
+    ensures none { result ≡ None → task < 12 → 3 ≤ format }
 {
     let format = format_of(format)?;
     match task {
@@ -41,6 +41,7 @@ pub(crate) fn kind_of(task: u32, format: u32) -> Option<RunKind>
         8 => Some(RunKind::Same),
         9 => Some(RunKind::Symmetries),
         10 => Some(RunKind::Count(CountFormat::of(format))),
+        11 => Some(RunKind::Closed(CountFormat::of(format))),
         _ => None,
     }
 }

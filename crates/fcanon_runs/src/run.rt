@@ -15,7 +15,7 @@ use std::alloc::Global;
 #[derive(Clone, Copy, PartialEq, Eq)]
 pub struct Request {
     /// The command: 0 show, 1 canon, 2 check, 3 group, 4 share, 5 expand, 6 unique, 7 table,
-    /// 8 same, 9 symmetries, 10 count.
+    /// 8 same, 9 symmetries, 10 count, 11 closed.
     pub task: u32,
     /// 0 for lines, 1 for a table with a header, 2 for JSON.
     pub format: u32,
@@ -49,10 +49,10 @@ pub extern "C" fn fcanon_run(
         output.old written.new }
     ensures fault { 11 < result → FaultOf (limits_at request.now.any_size) input.now result }
     ensures no_game { 3 ≤ request.now.game → result ≡ 1 }
-    ensures no_task { request.now.game < 3 → 11 ≤ request.now.task → result ≡ 10 }
-    ensures no_format { request.now.game < 3 → request.now.task < 11
+    ensures no_task { request.now.game < 3 → 12 ≤ request.now.task → result ≡ 10 }
+    ensures no_format { request.now.game < 3 → request.now.task < 12
         → 3 ≤ request.now.format → result ≡ 11 }
-    ensures no_other_answer { request.now.game < 3 → request.now.task < 11
+    ensures no_other_answer { request.now.game < 3 → request.now.task < 12
         → request.now.format < 3 → (result ≡ 0) ⊎ (result ≡ 9) ⊎ (11 < result) }
     ensures kept { 0 < result → output.new ≡ output.old }
     ensures no_counts { 0 < result → result ≢ 9 → written.new ≡ written.old }
@@ -60,7 +60,7 @@ pub extern "C" fn fcanon_run(
     let Some(variant) = Variant::numbered(request.game) else {
         return NO_GAME;
     };
-    if request.task > 10 {
+    if request.task > 11 {
         return NO_TASK;
     }
     let Some(kind) = kind_of(request.task, request.format) else {

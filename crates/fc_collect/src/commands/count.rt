@@ -1,6 +1,7 @@
 //! The line of `count`: figures of a whole collection.
 ghost use Rattle.std.specs.{Fmt.{decimal}, List.{count_by, filter}, Option.{is_some}};
-ghost use Rattle.std.specs.Prelude.{◌++◌, ◌+◌, ◌||◌, ◌∷◌, ◌≡◌, [], IfOk, length, List, OnOk, ℕ};
+ghost use Rattle.std.specs.Prelude.{◌++◌, ◌+◌, ◌||◌, ◌∷◌, ◌≡◌, [], false, IfOk, length, List, OnOk};
+ghost use Rattle.std.specs.Prelude.{ℕ};
 ghost use Rattle.fc_board.specs.Play.{list_verdict};
 ghost use Rattle.fc_record.specs.{inside.Fitting.{AllFit}, Tables.{is_win}};
 ghost use Rattle.fc_collect.specs.Groups.{figures, figures_line, figures_object, Member};
@@ -56,6 +57,8 @@ impl<P: PrintsFigures> Command for Count<P> {
 
     ghost ending = { λ summary members. P.text (figures summary members) };
 
+    ghost fails = { λ _. false };
+
     ghost keeps = { KeepsTally };
 
     fn start(alloc: Global, seed: Seed) -> Tally {
@@ -91,9 +94,10 @@ impl<P: PrintsFigures> Command for Count<P> {
         summary: Summary,
         pending: &mut Vec<u8>,
         output: &mut Counted<Wr>,
-    ) -> Result<(), RunFault> {
+    ) -> Result<bool, RunFault> {
         P::print(&tally.figures(summary), pending)?;
-        write_full(pending, output)
+        write_full(pending, output)?;
+        Ok(false)
     }
 }
 
@@ -234,8 +238,8 @@ impl PrintsFigures for FiguresObject {
     }
 }
 
-// Prints a number after what comes before it.
-fn push_figure(front: &[u8], number: usize, out: &mut Vec<u8>) -> Result<(), AllocError>
+/// Prints a number after what comes before it.
+pub(crate) fn push_figure(front: &[u8], number: usize, out: &mut Vec<u8>) -> Result<(), AllocError>
     ensures printed { OnOk result (out.new.items
         ≡ out.old.items ++ (front.now ++ decimal number)) }
 {

@@ -1,6 +1,6 @@
 //! The commands that print lines for each record alone.
 
-ghost use Rattle.std.specs.Prelude.{[]};
+ghost use Rattle.std.specs.Prelude.{[], false};
 
 use crate::{AnyGame, Command, Counted, RunFault, Seed, Summary};
 use fc_record::{Contents, Heading, PrintsRecord};
@@ -23,6 +23,8 @@ impl<P: PrintsRecord> Command for EachRecord<P> {
 
     ghost ending = { λ _ _. [] };
 
+    ghost fails = { λ _. false };
+
     ghost keeps = { λ _ _. Unit {0} };
 
     fn start(_alloc: Global, _seed: Seed) {}
@@ -44,7 +46,7 @@ impl<P: PrintsRecord> Command for EachRecord<P> {
         _summary: Summary,
         _pending: &mut Vec<u8>,
         _output: &mut Counted<Wr>,
-    ) -> Result<(), RunFault> {
-        Ok(())
+    ) -> Result<bool, RunFault> {
+        Ok(false)
     }
 }

@@ -1,5 +1,5 @@
 //! The lines of `same`: the passage from the first board to that of each later record.
-ghost use Rattle.std.specs.Prelude.{◌++◌, ◌≡◌, [], OnOk};
+ghost use Rattle.std.specs.Prelude.{◌++◌, ◌≡◌, [], false, OnOk};
 ghost use Rattle.fc_collect.specs.{Groups.{Member}, inside.{IsCanonOf, KeepsFirst}};
 ghost use Rattle.fc_collect.specs.Runs.{passage_found, passage_to, same_lines};
 
@@ -23,6 +23,8 @@ impl Command for SameLines {
     ghost lines = { same_lines };
 
     ghost ending = { λ _ _. [] };
+
+    ghost fails = { λ _. false };
 
     ghost keeps = { KeepsFirst };
 
@@ -56,8 +58,8 @@ impl Command for SameLines {
         _summary: Summary,
         _pending: &mut Vec<u8>,
         _output: &mut Counted<Wr>,
-    ) -> Result<(), RunFault> {
-        Ok(())
+    ) -> Result<bool, RunFault> {
+        Ok(false)
     }
 }
 

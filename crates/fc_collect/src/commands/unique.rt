@@ -1,8 +1,7 @@
 //! The records of `unique`: of each group the first member, as it comes.
 ghost use Rattle.indexmap.specs.IndexSet.{insert_key};
-ghost use Rattle.std.specs.{List.{list_any}, Prelude.{◌≡◌, [], All, IfOk, map, not, OnOk}};
-ghost use Rattle.fc_collect.specs.Groups.{leaders_after, unique_lines};
-ghost use Rattle.fc_collect.specs.inside.{group_key, HasBoard, same_key};
+ghost use Rattle.std.specs.{List.{list_any}, Prelude.{◌≡◌, [], false, IfOk, not, OnOk}};
+ghost use Rattle.fc_collect.specs.{Groups.{unique_lines}, inside.{AreKeys, same_key}};
 
 use crate::{
     AnyGame, Command, Counted, GroupKey, KeyHasher, RunFault, Seed, Summary, key_and_passage,
@@ -25,8 +24,9 @@ impl Command for UniqueLines {
 
     ghost ending = { λ _ _. [] };
 
-    ghost keeps = { λ keys members.
-        (keys.keys ≡ map group_key (leaders_after [] members)) × All HasBoard members };
+    ghost fails = { λ _. false };
+
+    ghost keeps = { λ keys members. AreKeys keys.keys members };
 
     fn start(alloc: Global, seed: Seed) -> IndexSet<GroupKey, KeyHasher> {
         IndexSet::with_hasher(alloc, KeyHasher::new(seed))
@@ -54,13 +54,16 @@ impl Command for UniqueLines {
         _summary: Summary,
         _pending: &mut Vec<u8>,
         _output: &mut Counted<Wr>,
-    ) -> Result<(), RunFault> {
-        Ok(())
+    ) -> Result<bool, RunFault> {
+        Ok(false)
     }
 }
 
-// Keeps the key, and returns whether it was new.
-fn keep_key(keys: &mut IndexSet<GroupKey, KeyHasher>, key: GroupKey) -> Result<bool, AllocError>
+/// Keeps the key, and returns whether it was new.
+pub(crate) fn keep_key(
+    keys: &mut IndexSet<GroupKey, KeyHasher>,
+    key: GroupKey,
+) -> Result<bool, AllocError>
     ensures added { IfOk result (λ is_new. is_new
         ≡ not (list_any (same_key key) keys.old.keys)) }
     ensures keys { OnOk result (keys.new.keys ≡ insert_key same_key keys.old.keys key) }

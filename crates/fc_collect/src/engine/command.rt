@@ -1,6 +1,6 @@
 //! What a command prints for the records of a collection.
-ghost use Rattle.std.specs.{Option.{option_map}, Prelude.{◌++◌, ◌+◌, ◌^◌, ◌∷◌, ◌≡◌, ◌≤◌, [], IfOk}};
-ghost use Rattle.std.specs.Prelude.{length, List, OnOk, true, ℕ};
+ghost use Rattle.std.specs.{Option.{option_map}, Prelude.{◌++◌, ◌+◌, ◌^◌, ◌∷◌, ◌≡◌, ◌≤◌, [], Bool}};
+ghost use Rattle.std.specs.Prelude.{IfOk, length, List, OnOk, true, ℕ};
 ghost use Rattle.fc_record.specs.Grammar.{after_header, Contents as SaidContents, contents_seen};
 ghost use Rattle.fc_record.specs.Grammar.{Heading as SaidHeading, heading_seen, reading_after};
 ghost use Rattle.fc_record.specs.Grammar.{reading_of};
@@ -32,6 +32,9 @@ pub trait Command {
     /// The lines at the end, by how many records there are and for those that are accepted.
     ghost ending: { Counts → List Member → List ℕ };
 
+    /// Whether these records fail together, which counts as one more that is refused.
+    ghost fails: { List Member → Bool };
+
     /// It is kept of these records.
     ghost keeps: { Self.Kept → List Member → Type 0 };
 
@@ -58,16 +61,18 @@ pub trait Command {
             → keeps kept.new (members ++ member_of number
             (heading_seen R.VARIANT heading.entry) (contents_seen contents.entry) ∷ [])) };
 
-    /// Prints the lines at the end, after what is pending. What is printed is written once enough
-    /// of it is pending.
+    /// Prints the lines at the end, after what is pending, and returns whether all records fail
+    /// together. What is printed is written once enough of it is pending.
     fn end<Wr: Write>(
         alloc: Global,
         kept: &Self::Kept,
         summary: Summary,
         pending: &mut Vec<u8>,
         output: &mut Counted<Wr>,
-    ) -> Result<(), RunFault>
+    ) -> Result<bool, RunFault>
         requires low { HasRoom output.old }
+        ensures fails { IfOk result (λ failed. (members : List Member) → keeps kept.now members
+            → failed ≡ fails members) }
         ensures counted { GrowsBy output.old output.new (output_counts result) }
         ensures sent { (members : List Member) → keeps kept.now members
             → SendingFits (ending summary members) pending.old.items pending.new.items

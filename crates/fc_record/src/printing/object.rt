@@ -109,8 +109,8 @@ fn push_win_or_null<R: Rule>(
     }
 }
 
-// Prints a text of printing bytes as a string.
-fn push_json_string(text: &[u8], out: &mut Vec<u8>) -> Result<(), AllocError>
+/// Prints a text of printing bytes as a string of JSON.
+pub fn push_json_string(text: &[u8], out: &mut Vec<u8>) -> Result<(), AllocError>
     ensures printed { OnOk result (out.new.items ≡ out.old.items ++ json_string text.now) }
 {
     out.push(b'"')?;

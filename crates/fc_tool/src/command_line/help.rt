@@ -17,8 +17,9 @@ write standard output.
 Examples: fcanon show < my.board
           fcanon deal 1 | fcanon canon
 
-Status: 0 if all was accepted, 1 if a record was refused, 2 if the command line
-was refused or the deal number is out of range, 3 if the run gave up.";
+Status: 0 if all was accepted, 1 if a record was refused or closed finds that a
+collection is not, 2 if the command line was refused or the deal number is out
+of range, 3 if the run gave up.";
 
 /// What the help of a command says: how it is used, unless the parser says that by its arguments,
 /// what it does, and notes.
@@ -44,6 +45,7 @@ impl Help {
             Task::Same => SAME,
             Task::Symmetries => SYMMETRIES,
             Task::Count => COUNT,
+            Task::Closed => CLOSED,
             Task::Import => IMPORT,
             Task::Deal => DEAL,
         }
@@ -270,6 +272,28 @@ For a record that is refused one line is printed, as by canon, or with --json an
 object, as by table. All these lines come before the figures.
 
 Example: fcanon count < my.collection",
+};
+
+const CLOSED: Help = Help {
+    usage: Some("fcanon closed [OPTIONS] < FILE"),
+    about: "Say whether play never leaves a collection, nor wins",
+    notes: "Records are read as by canon, and grouped as by group; their lists of moves are
+not looked at. A collection is closed if none of its boards is won and each move
+of one card leads from one of them to a board that is equivalent to one of them.
+Then no list of moves, of one card or of several, wins from any of them. At the
+end one line is printed:
+closed 3 records 3 classes   it is closed, and the status is 0
+open seven 1h                the first record that has a move which leads out,
+                             and its first such move, in the order of piles
+won seven                    the first record whose board is won
+refused 1 records            neither, but not all records were accepted
+Records of several games are judged each in its own. With --json the line is an
+object of JSON, as {\"finding\":\"open\",\"name\":\"seven\",\"move\":\"1h\"}.
+
+For a record that is refused one line is printed, as by canon, or with --json an
+object, as by table. All these lines come before that one.
+
+Example: fcanon closed < my.collection",
 };
 
 const IMPORT: Help = Help {

@@ -64,7 +64,7 @@ fn meets_read_fault(
     )
 }
 
-static WRITERS: [&str; 12] = [
+static WRITERS: [&str; 13] = [
     "fcanon --help",
     "fcanon deal 1",
     "fcanon show",
@@ -77,6 +77,7 @@ static WRITERS: [&str; 12] = [
     "fcanon same",
     "fcanon symmetries",
     "fcanon count",
+    "fcanon closed",
 ];
 
 #[test]
@@ -126,7 +127,7 @@ fn ends_after_a_record(alloc: Global, line: &str) -> Result<bool, AllocError> {
     meets_read_fault(alloc, line, reader, b"# refused 1 at 2: bad header\n")
 }
 
-static READERS: [&str; 11] = [
+static READERS: [&str; 12] = [
     "fcanon show",
     "fcanon canon",
     "fcanon check",
@@ -138,6 +139,7 @@ static READERS: [&str; 11] = [
     "fcanon same",
     "fcanon symmetries",
     "fcanon count",
+    "fcanon closed",
 ];
 
 #[test]

@@ -18,7 +18,7 @@ pub returns-in_err-window-clause-wrote : goal.returns-in_err-window-clause-wrote
 returns-in_err-window-clause-wrote g c =
     let p = err_from_is_err_and c.from_residual.result c.from_residual.ensures.1 in
     rw (p.1, p.2)
-    (bytes_none (run_of g.C.Refusal.PrintsRefusal.text g.C.Command.lines c.args.config.variant c.args.config.limits) c.requires.limits
+    (bytes_none (run_of g.C.Refusal.PrintsRefusal.text g.C.Command.lines g.C.Command.fails c.args.config.variant c.args.config.limits) c.requires.limits
     (ended g.C.Command.ending c.args.config.variant) _ _)
 
 pub returns-in_err-pending-clause-read_counted : goal.returns-in_err-pending-clause-read_counted
@@ -30,7 +30,7 @@ pub returns-in_err-pending-clause-wrote : goal.returns-in_err-pending-clause-wro
 returns-in_err-pending-clause-wrote g c =
     let p = err_from_is_err_and c.from_residual-in_err-pending.result c.from_residual-in_err-pending.ensures.1 in
     rw (p.1, p.2)
-    (bytes_none (run_of g.C.Refusal.PrintsRefusal.text g.C.Command.lines c.args.config.variant c.args.config.limits) c.requires.limits
+    (bytes_none (run_of g.C.Refusal.PrintsRefusal.text g.C.Command.lines g.C.Command.fails c.args.config.variant c.args.config.limits) c.requires.limits
     (ended g.C.Command.ending c.args.config.variant) _ _)
 
 pub fill-requires : goal.fill-requires

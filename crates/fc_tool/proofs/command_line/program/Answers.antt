@@ -8,7 +8,7 @@ use Rattle.fc_tool.specs.{bare_program, command_of, command_with, program_of, ru
 use Rattle.fc_tool.proofs.command_line.program.Goals as goal
 
 -- one task more has its command too
-one_more : (at : ℕ) (choices dealt : ValueParser) → at < 13 → program_of (take (at + 1) tasks) choices dealt
+one_more : (at : ℕ) (choices dealt : ValueParser) → at < 14 → program_of (take (at + 1) tasks) choices dealt
     ≡ with_subcommand (program_of (take at tasks) choices dealt) (command_with (rules_of choices dealt (get_or tasks at Show)) (command_of (get_or tasks at Show)))
 one_more at choices dealt inside =
     ap (λ tasks. program_of tasks choices dealt) (take_more tasks at Show inside)

@@ -1,5 +1,6 @@
-use Rattle.fc_tool.proofs.CommandLines.{fault_of_byte, fault_of_counted_piece, fault_of_piece}
-use Rattle.fc_tool.proofs.CommandLines.{only_kind, some_kind}
+use Rattle.fc_tool.proofs.CommandLines.{fault_of_byte, fault_of_closed_piece}
+use Rattle.fc_tool.proofs.CommandLines.{fault_of_counted_piece, fault_of_piece, only_kind}
+use Rattle.fc_tool.proofs.CommandLines.{some_kind}
 use Rattle.fc_tool.proofs.laws.some_commands_take_no_piece.Goals as goal
 
 pub returns-clause-no_record : goal.returns-clause-no_record
@@ -13,3 +14,6 @@ returns-clause-kind c = λ called error reads. only_kind _ _ _ (fault_of_piece r
 
 pub returns-clause-count : goal.returns-clause-count
 returns-clause-count c = λ called answer reads. some_kind _ _ (fault_of_counted_piece reads.choices reads.dealt called) reads.answer.0
+
+pub returns-clause-closed : goal.returns-clause-closed
+returns-clause-closed c = λ called answer reads. some_kind _ _ (fault_of_closed_piece reads.choices reads.dealt called) reads.answer.0

@@ -1,11 +1,11 @@
 use Rattle.std.proofs.Common.{◌++◌, ◌∙◌, ◌≡◌, ◌≤◌, [], All, append-nil, ap₂, arith, length, List}
 use Rattle.std.proofs.{Common.{Ok, Some, sym, ℕ}, lemmas.List.{append_cancel_left}}
-use Rattle.std.{proofs.lemmas.List.Elements.{All-weaker}, specs.List.{count_by}}
+use Rattle.std.proofs.lemmas.List.Elements.{All-weaker}
 use Rattle.fc_board.specs.declared.rule.Variant.{Variant}
-use Rattle.fc_record.specs.Printing.{is_refused, printed, show_lines}
+use Rattle.fc_record.specs.Printing.{printed, show_lines}
 use Rattle.fc_collect.specs.{Limits.{most_countable, standard}, Promises.{IsSmall, IsWithinLimits}}
 use Rattle.fc_collect.specs.Records.{cut, nothing, output_of_records, records_from, records_of}
-use Rattle.fc_collect.specs.Runs.{ending_of_kind, output_of_kind, TransfersWithin}
+use Rattle.fc_collect.specs.Runs.{ending_of_kind, output_of_kind, refused_of_kind, TransfersWithin}
 use Rattle.fc_collect.specs.declared.commands.RunKind.{RunKind, TheVariants.{Show}}
 use Rattle.fc_collect.specs.declared.streams.{faults.Summary.{Summary}, limits.Limits.{Limits}}
 use Rattle.fc_laws.proofs.{PrintedRecordLemmas.{shown-records}, ReadAgainLemmas.{among-All}}
@@ -21,7 +21,7 @@ module _ (limits : Limits) (kind : RunKind) (variant : Variant) where
     within : IsWithinLimits limits read
     written : after ≡ held ++ due read
     records : summary.records ≡ length (records_from limits read)
-    refused : summary.refused ≡ count_by (is_refused variant) (records_from limits read)
+    refused : summary.refused ≡ refused_of_kind kind variant (records_from limits read)
 
   wrote : (read held after : List ℕ) (summary : Summary)
       → TransfersWithin limits kind variant (record { input = Some read; left = Some []; before = Some held; after = Some after }) (Ok summary)
