@@ -1,10 +1,11 @@
--- What the scanner of a line promises of what it saw.
+-- What is promised of a line that was seen and heard.
 use Rattle.std.specs.{List.{flat_map, list_all}, Option.{option_to_list}}
 use Rattle.std.specs.Prelude.{◌-◌, ◌^◌, ◌≡◌, drop, length, List, map, min, ℕ}
 use Rattle.{fc_board.specs.Games.{Game}, fc_text.specs.Lines.{Piece, with_end, words_from}}
 use Rattle.fc_import.specs.Scan.{is_number, parts_words, Said, said_in, words_of}
-use Rattle.fc_import.specs.declared.{moves.Heard.{Heard}, scan.LineSeen.{LineSeen}}
-use Rattle.fc_import.specs.declared.{scan.Placed.{Placed}, words.{Word.{Word}, Words.{Words}}}
+use Rattle.fc_import.specs.declared.{hearing.LineHeard.{LineHeard}, moves.Heard.{Heard}}
+use Rattle.fc_import.specs.declared.{scan.{LineSeen.{LineSeen}, Placed.{Placed}}, words.Word.{Word}}
+use Rattle.fc_import.specs.declared.words.Words.{Words}
 
 -- the piece that a word is, and its end
 abbrev pub piece_of : Word → Piece × ℕ
@@ -22,8 +23,11 @@ said_of moves heard = record { moves = moves; from = heard.from; pointed = heard
 abbrev pub cards_of : List Placed → List ℕ
 cards_of placed = flat_map (λ one. option_to_list one.card) placed
 
--- the line was seen, and these are its moves
-pub record IsSeen (game : Game) (line moves : List ℕ) (seen : LineSeen) : Type 0 where
-  pub said : said_of moves seen.heard ≡ said_in game line
+-- the line was seen
+pub record IsSeen (line : List ℕ) (seen : LineSeen) : Type 0 where
   pub words : seen.words ≡ min (length (words_of line)) (2 ^ 64 - 1)
   pub numbers : seen.numbers ≡ list_all (λ word. is_number word.0.bytes) (words_of line)
+
+-- the line was heard, and these are its moves
+abbrev pub IsHeard : Game → (line moves : List ℕ) → LineHeard → Type 0
+IsHeard game line moves heard = said_of moves heard.heard ≡ said_in game line

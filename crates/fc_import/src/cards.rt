@@ -37,8 +37,9 @@ impl Named {
     {
         let mut cards = Vec::with_capacity(alloc, MOST)?;
         let mut lines = Vec::with_capacity(alloc, MOST)?;
+        let mut named = Vec::with_capacity(alloc, 8)?;
         for line in Lines::new(text) {
-            let named = named_cards(alloc, line.text)?;
+            name_cards(line.text, &mut named)?;
             push_numbers(&mut cards, named.as_slice())?;
             push_ended(&mut lines, named.as_slice())?;
         }
@@ -67,15 +68,16 @@ fn push_numbers(all: &mut Vec<u8>, cards: &[Card]) -> Result<(), AllocError>
     Ok(())
 }
 
-/// The cards that the words of a line name before a comment, in their order.
-fn named_cards(alloc: Global, line: &[u8]) -> Result<Vec<Card>, AllocError>
-    ensures { IfOk result (λ cards. cards.items ≡ named_cards line.now) }
+// Puts the cards that the words of a line name before a comment, in their order, in place of those
+// that are there.
+fn name_cards(line: &[u8], cards: &mut Vec<Card>) -> Result<(), AllocError>
+    ensures { OnOk result (cards.new.items ≡ named_cards line.now) }
 {
-    let mut cards = Vec::with_capacity(alloc, 8)?;
-    if line.first() != Some(&b'@') {
-        push_cards(&mut cards, uncommented(line))?;
+    cards.clear();
+    if line.first() == Some(&b'@') {
+        return Ok(());
     }
-    Ok(cards)
+    push_cards(cards, uncommented(line))
 }
 
 // Appends the cards that the words of a text name, in their order.

@@ -15,9 +15,10 @@ use crate::labels::LabelKind;
 use crate::layout::{Drafted, LinesAre, draft_of, layout_words};
 use crate::line::line_len;
 use crate::lists::{ListRead, moves_on};
-use crate::made::{Form, Made, is_same};
+use crate::made::{Form, Made};
 use crate::piece::{FIRST_RULE, LineKind, Piece, PieceKind, SOLVED};
 use crate::reasons::{board_reason, move_reason, word_reason};
+use crate::spelled::is_same;
 use crate::titles::{title_of, variant_titled};
 use fc_board::{Board, Rule};
 use fc_text::{BoardFault, BoardFaultKind, Lines, read_board, read_printed};
@@ -535,7 +536,7 @@ enum Misplaced {
 fn first_misplaced(piece: &Piece) -> Misplaced {
     let mut row: u8 = 0;
     for line in piece.lines.as_slice() {
-        let has_label = match line.label {
+        let has_label = match line.shape.label {
             LabelKind::Unknown | LabelKind::Columns => false,
             LabelKind::Column(number) => number == row.saturating_add(1),
             _ => true,
@@ -546,8 +547,8 @@ fn first_misplaced(piece: &Piece) -> Misplaced {
                 return Misplaced::Label(line.start);
             }
         }
-        if line.others > 0 && matches!(line.kind, LineKind::Cards | LineKind::Cells) {
-            return Misplaced::Word(line.start.saturating_add(line.other));
+        if line.shape.others > 0 && matches!(line.kind, LineKind::Cards | LineKind::Cells) {
+            return Misplaced::Word(line.start.saturating_add(line.shape.other));
         }
     }
     match piece.bad_height {

@@ -115,7 +115,7 @@ fn has_unplayable_row<R: Rule>(piece: &Piece) -> bool {
     let mut row: usize = 0;
     for line in piece.lines.as_slice() {
         if line.kind == LineKind::Cards {
-            let first = match piece.placed(*line) {
+            let first = match piece.placed(line) {
                 [first, ..] => first.card,
                 [] => None,
             };
@@ -134,7 +134,7 @@ fn has_unplayable_row<R: Rule>(piece: &Piece) -> bool {
 // The one or two layouts that the shape of the lines allows.
 fn layouts_of(text: &[u8], piece: &Piece, lines_are: LinesAre) -> (Layout, Option<Layout>) {
     if piece.rows == 1 && !begins_with_colon(text, first_row(piece)) {
-        return layout_of_line(piece.placed(first_row(piece)));
+        return layout_of_line(piece.placed(&first_row(piece)));
     }
     if !may_be_rows(text, piece) {
         (Layout::Columns, None)
@@ -173,7 +173,7 @@ fn may_be_rows(text: &[u8], piece: &Piece) -> bool {
     for line in piece.lines.as_slice() {
         if line.kind == LineKind::Cards
             && (line.end.saturating_sub(line.first) > 8
-                || line.label != LabelKind::Bare
+                || line.shape.label != LabelKind::Bare
                 || begins_with_colon(text, *line))
         {
             return false;
@@ -192,13 +192,13 @@ fn has_gaps(piece: &Piece) -> bool {
         if line.kind != LineKind::Cards {
             continue;
         }
-        let row = piece.placed(*line);
-        let has_marks = line.marks > lead && row.len() > 1;
+        let row = piece.placed(line);
+        let has_marks = line.shape.marks > lead && row.len() > 1;
         let goes_beyond = match (grid, row.last()) {
             (Some(_), Some(last)) => column_in(grid, *last, 0) >= row.len(),
             _ => false,
         };
-        if line.gaps > lead || line.tabs > tabs || has_marks || goes_beyond {
+        if line.shape.gaps > lead || line.shape.tabs > tabs || has_marks || goes_beyond {
             return true;
         }
     }
@@ -209,7 +209,7 @@ fn has_gaps(piece: &Piece) -> bool {
 fn has_empty_fields(piece: &Piece) -> bool {
     let lead = least_lead(piece);
     for line in piece.lines.as_slice() {
-        if line.kind == LineKind::Cards && line.gaps > lead {
+        if line.kind == LineKind::Cards && line.shape.gaps > lead {
             return true;
         }
     }
@@ -221,7 +221,7 @@ fn least_lead(piece: &Piece) -> usize {
     let mut least = usize::MAX;
     for line in piece.lines.as_slice() {
         if line.kind == LineKind::Cards {
-            least = least.min(line.lead);
+            least = least.min(line.shape.lead);
         }
     }
     least
@@ -232,7 +232,7 @@ fn least_tabs(piece: &Piece) -> usize {
     let mut least = usize::MAX;
     for line in piece.lines.as_slice() {
         if line.kind == LineKind::Cards {
-            least = least.min(line.tabs);
+            least = least.min(line.shape.tabs);
         }
     }
     least
@@ -296,15 +296,15 @@ fn cells_of<R: Rule>(piece: &Piece) -> Option<[Option<Card>; 8]> {
     let mut cells = [None; 8];
     for line in piece.lines.as_slice() {
         if line.kind == LineKind::Cells {
-            let placed = piece.placed(*line);
-            let first = line.tabs.saturating_sub(1);
+            let placed = piece.placed(line);
+            let first = line.shape.tabs.saturating_sub(1);
             let places = placed.len().saturating_add(first);
-            let narrow = line.lead.saturating_mul(2).saturating_add(1);
-            let is_wide = line.indent > narrow || line.most_run > 1;
-            if line.others > 0 || places > R::CELLS {
+            let narrow = line.shape.lead.saturating_mul(2).saturating_add(1);
+            let is_wide = line.shape.indent > narrow || line.shape.most_run > 1;
+            if line.shape.others > 0 || places > R::CELLS {
                 return None;
             }
-            if is_wide && places < R::CELLS && line.bits != 0 && line.tabs == 0 {
+            if is_wide && places < R::CELLS && line.shape.bits != 0 && line.shape.tabs == 0 {
                 return None;
             }
             for (place, cell) in placed.iter().enumerate() {
@@ -330,11 +330,11 @@ fn columns_of(piece: &Piece, layout: Layout) -> Option<[ArrayVec<Card, 52>; 8]> 
     let mut row: usize = 0;
     for line in piece.lines.as_slice() {
         if line.kind == LineKind::Cards {
-            if !has_label_of(*line, row) || line.others > 0 {
+            if !has_label_of(*line, row) || line.shape.others > 0 {
                 return None;
             }
-            let placed = piece.placed(*line);
-            let first = line.tabs.saturating_sub(tabs);
+            let placed = piece.placed(line);
+            let first = line.shape.tabs.saturating_sub(tabs);
             put_line(placed, layout, grid, row, first, &mut columns)?;
             let is_more = layout != Layout::Rows || placed.iter().any(|one| one.card.is_some());
             row = row.saturating_add(usize::from(is_more));
@@ -347,7 +347,7 @@ fn columns_of(piece: &Piece, layout: Layout) -> Option<[ArrayVec<Card, 52>; 8]> 
 
 // Whether the label of the line, if it has one, is the number of this column, counted from 0.
 fn has_label_of(line: PieceLine, column: usize) -> bool {
-    match line.label {
+    match line.shape.label {
         LabelKind::Bare => true,
         LabelKind::Column(number) => usize::from(number) == column.saturating_add(1),
         _ => false,
@@ -432,15 +432,15 @@ fn grid_of(piece: &Piece) -> Option<Grid> {
     let mut base = u16::MAX;
     for line in piece.lines.as_slice() {
         if line.kind == LineKind::Cards {
-            match (piece.placed(*line), line.gaps, line.marks) {
-                ([first, ..], 0, 0) if line.tabs == 0 && line.least_run > 0 => {
+            match (piece.placed(line), line.shape.gaps, line.shape.marks) {
+                ([first, ..], 0, 0) if line.shape.tabs == 0 && line.shape.least_run > 0 => {
                     base = base.min(first.at);
                 }
                 _ => return None,
             }
         }
     }
-    let unit = least_step(piece.placed(first_row(piece)));
+    let unit = least_step(piece.placed(&first_row(piece)));
     let grid = Grid { base, unit };
     if unit >= 2 && has_all(grid, piece) {
         Some(grid)
@@ -465,7 +465,7 @@ fn least_step(row: &[Placed]) -> u16 {
 fn has_all(grid: Grid, piece: &Piece) -> bool {
     for line in piece.lines.as_slice() {
         if line.kind == LineKind::Cards {
-            for placed in piece.placed(*line) {
+            for placed in piece.placed(line) {
                 if !grid.has(*placed) {
                     return false;
                 }
@@ -488,7 +488,7 @@ fn has_columns(piece: &Piece, grid: Option<Grid>) -> bool {
 // Whether marks part the cards of each line.
 fn is_parted(piece: &Piece) -> bool {
     for line in piece.lines.as_slice() {
-        if line.kind == LineKind::Cards && !line.is_parted {
+        if line.kind == LineKind::Cards && !line.shape.is_parted {
             return false;
         }
     }
@@ -497,9 +497,9 @@ fn is_parted(piece: &Piece) -> bool {
 
 // Whether a bar begins each line, or none.
 fn have_equal_bars(piece: &Piece) -> bool {
-    let has_bar = first_row(piece).has_bar;
+    let has_bar = first_row(piece).shape.has_bar;
     for line in piece.lines.as_slice() {
-        if line.kind == LineKind::Cards && line.has_bar != has_bar {
+        if line.kind == LineKind::Cards && line.shape.has_bar != has_bar {
             return false;
         }
     }
@@ -524,7 +524,7 @@ fn is_deal(piece: &Piece) -> bool {
         let places = places_of(*line);
         match line.kind {
             LineKind::Cards => cards = cards.saturating_add(places),
-            LineKind::Cells if line.bits != 0 => return false,
+            LineKind::Cells if line.shape.bits != 0 => return false,
             _ => {}
         }
     }
@@ -562,8 +562,14 @@ fn is_regular(piece: &Piece) -> bool {
     let mut runs = (usize::MAX, 0);
     for line in piece.lines.as_slice() {
         if line.kind == LineKind::Cards {
-            indents = (indents.0.min(line.indent), indents.1.max(line.indent));
-            runs = (runs.0.min(line.least_run), runs.1.max(line.most_run));
+            indents = (
+                indents.0.min(line.shape.indent),
+                indents.1.max(line.shape.indent),
+            );
+            runs = (
+                runs.0.min(line.shape.least_run),
+                runs.1.max(line.shape.most_run),
+            );
         }
     }
     indents.1 <= indents.0.saturating_add(1) && runs.1 <= runs.0.saturating_add(1)

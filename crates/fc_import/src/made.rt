@@ -1,36 +1,34 @@
 //! What is made of a text, piece by piece. Each method that takes a piece tests that the piece is
 //! what it is taken for.
-ghost use Rattle.std.specs.{List.{before_first, prefix_len}, Prelude.{◌&&◌, ◌++◌, ◌<◌, ◌==◌, ◌||◌}};
-ghost use Rattle.std.specs.Prelude.{◌↔◌, ◌≡◌, ◌≢◌, ◌≤◌, ◌⊎◌, [], All, codes, drop, false, IfErr};
-ghost use Rattle.std.specs.Prelude.{IfOk, IfSome, IsTrue, length, List, None, not, OnOk, Some};
-ghost use Rattle.std.specs.{Prelude.{take, true, ℕ}, Str.{bytes_eq, str_eq_ignore_ascii_case}};
-ghost use Rattle.fc_board.specs.Boards.{Board as Layout, IsWellFormed};
-ghost use Rattle.fc_board.specs.Games.{eight_off, variant_word};
+ghost use Rattle.std.specs.{List.{before_first}, Prelude.{◌&&◌, ◌++◌, ◌<◌, ◌==◌, ◌||◌, ◌↔◌, ◌≡◌}};
+ghost use Rattle.std.specs.Prelude.{◌≢◌, ◌≤◌, ◌⊎◌, [], codes, false, IfErr, IfOk, IfSome, IsTrue};
+ghost use Rattle.std.specs.{Prelude.{length, List, None, OnOk, Some, true, ℕ}, Str.{bytes_eq}};
+ghost use Rattle.fc_board.specs.{Boards.{Board as Layout, IsWellFormed}, Games.{eight_off}};
 ghost use Rattle.fc_board.specs.{Moves.{ListFits, move_count, MoveList as SaidList}, Play.{Legal}};
 ghost use Rattle.fc_text.specs.{Lines.{words}, Notation.{most_moves, separates_tokens}};
 ghost use Rattle.fc_text.specs.{Printed.{text_of}, Spelling.{Spells}};
 ghost use Rattle.fc_text.specs.declared.fault.MovesFault.TheVariants.{Memory};
-ghost use Rattle.fc_record.specs.Grammar.{begins_with, heading_of, is_line_feed, is_name};
-ghost use Rattle.fc_record.specs.{Grammar.{list_mark}, Printing.{header_text, list_line}};
-ghost use Rattle.fc_import.specs.Import.{agree, BoardNeedsNoNote, by_columns, HasCards, IsApart};
-ghost use Rattle.fc_import.specs.Import.{IsNamed, IsPacked, ListNeedsNoNote, moves_of, Names};
-ghost use Rattle.fc_import.specs.Import.{NamesList, numbered, refusals, SpellsOut};
+ghost use Rattle.fc_record.specs.Grammar.{begins_with, heading_of, is_line_feed, list_mark};
+ghost use Rattle.fc_record.specs.Printing.{header_text, list_line};
+ghost use Rattle.fc_import.specs.Import.{agree, BoardNeedsNoNote, HasCards, IsApart, IsNamed};
+ghost use Rattle.fc_import.specs.Import.{ListNeedsNoNote, moves_of, Names, refusals, SpellsOut};
 ghost use Rattle.fc_import.specs.inside.{form_of, IsMade, place_of, Says, state_of, Takes};
-ghost use Rattle.fc_import.specs.{inside.{TakesName}, Notes.{after, begun_after, first_word}};
-ghost use Rattle.fc_import.specs.Notes.{goes_on_after, is_unmarked, name_by, names_game};
-ghost use Rattle.fc_import.specs.{Notes.{SaysUnless}, Scan.{words_of}, Words.{named_lines}};
+ghost use Rattle.fc_import.specs.{inside.{TakesName}, Notes.{after, begun_after, goes_on_after}};
+ghost use Rattle.fc_import.specs.{Notes.{is_unmarked, name_by, SaysUnless}, Scan.{words_of}};
 ghost use Rattle.fc_import.specs.declared.tally.Fate.TheVariants.{ABoard};
 
-use crate::cards::{Named, by_columns, has_cards, is_packed};
+use crate::cards::{Named, has_cards};
 use crate::changes::{Noted, RESPELLED};
+use crate::naming::{copied, name_given, names_game, numbered, title_or_number};
 use crate::playable::can_be;
 use crate::quiet::{are_lists, are_no_board, are_prose, are_quiet, push_moves};
+use crate::spelled::{board_needs_no_note, is_equal, spelled_needs_no_note, spells_out};
 use crate::tally::{Fate, Tally, counted};
 use crate::walk::{Walk, line_after};
 use crate::words::{Words, before_mark, uncommented};
-use fc_board::{Board, Rule, Variant};
-use fc_record::{MoveList, is_name, push_header, push_list, push_number, read_heading};
-use fc_text::{BoardView, MovesFault, Tokens, read_board, read_moves, read_runs, write_board};
+use fc_board::{Board, Rule};
+use fc_record::{MoveList, push_header, push_list};
+use fc_text::{BoardView, MovesFault, Tokens, read_moves, read_runs};
 use std::alloc::{AllocError, Global};
 
 /// What was written and said so far, and the state that this left.
@@ -520,137 +518,6 @@ fn push_record<R: Rule>(
     written.extend_from_slice(view.text().as_slice())
 }
 
-/// The name that the header gives, or nothing.
-pub(crate) fn name_given(
-    alloc: Global,
-    variant: Variant,
-    line: &[u8],
-) -> Result<Vec<u8>, AllocError>
-    ensures { IfOk result (λ name. name.items ≡ name_by (heading_of variant line.now)) }
-{
-    match read_heading(variant, line) {
-        Ok((_, heading, _)) => copied(alloc, heading.name.unwrap_or(b"")),
-        Err(_) => Ok(Vec::new(alloc)),
-    }
-}
-
-fn copied(alloc: Global, bytes: &[u8]) -> Result<Vec<u8>, AllocError>
-    ensures { IfOk result (λ copy. copy.items ≡ bytes.now) }
-{
-    let mut copy = Vec::new(alloc);
-    copy.extend_from_slice(bytes)?;
-    Ok(copy)
-}
-
-// The title, or the number where there is none.
-fn title_or_number(alloc: Global, title: &[u8], number: usize) -> Result<Vec<u8>, AllocError>
-    ensures name { IfOk result (λ name. is_name name.items ≡ true) }
-    ensures some { IfOk result (λ name. name.items ≢ []) }
-{
-    if !title.is_empty() && is_name(title) {
-        return copied(alloc, title);
-    }
-    let mut name = Vec::new(alloc);
-    push_number(number, &mut name)?;
-    Ok(name)
-}
-
-// The name and the number, cut so that both have at most 64 bytes.
-fn numbered(alloc: Global, name: &[u8], number: usize) -> Result<Vec<u8>, AllocError>
-    ensures { IfOk result (λ made. made.items ≡ numbered name.now number) }
-{
-    let mut digits = Vec::new(alloc);
-    push_number(number, &mut digits)?;
-    let most = 63usize.saturating_sub(digits.len());
-    let mut made = copied(alloc, name)?;
-    made.truncate(most);
-    made.push(b'_')?;
-    made.extend_from_slice(digits.as_slice())?;
-    Ok(made)
-}
-
-// Whether each line that names cards names those of the cells or of the next column of the board,
-// and none of these is empty.
-fn has_columns<R: Rule>(alloc: Global, named: &Named, board: &Board<R>) -> Result<bool, AllocError>
-    ensures has { IfOk result (λ has. IsTrue has
-        ↔ ((named.now.lines.items ≡ by_columns board.now) × IsPacked board.now)) }
-    ensures well_formed { IsWellFormed R.game board.now }
-{
-    let columns = by_columns(alloc, board)?;
-    Ok(is_equal(named.lines.as_slice(), columns.as_slice()) && is_packed(board))
-}
-
-// Whether `show` reads the lines as the board, or they are its cells and columns.
-fn spells_out<R: Rule>(
-    alloc: Global,
-    lines: &[u8],
-    named: &Named,
-    board: &Board<R>,
-) -> Result<bool, AllocError>
-    requires { named.now.lines.items ≡ named_lines lines.now }
-    ensures spells { IfOk result (λ is. IsTrue is ↔ SpellsOut R.game lines.now board.now) }
-    ensures well_formed { IsWellFormed R.game board.now }
-{
-    if has_columns(alloc, named, board)? {
-        return Ok(true);
-    }
-    match read_board::<R>(lines) {
-        Ok(read) => Ok(is_same(&read, board)),
-        Err(_) => Ok(false),
-    }
-}
-
-// Whether nothing is to be noted of lines that spell out the board.
-fn spelled_needs_no_note<R: Rule>(noted: Noted, lines: &[u8], board: &Board<R>) -> bool
-    requires { SpellsOut R.game lines.now board.now }
-    ensures { IsTrue result ↔ BoardNeedsNoNote noted R.game lines.now board.now }
-{
-    match noted {
-        Noted::Doubts => true,
-        Noted::Changes | Noted::Strict => is_printed(lines, board),
-    }
-}
-
-// Whether nothing is to be noted of lines that are read as the board.
-fn board_needs_no_note<R: Rule>(
-    alloc: Global,
-    noted: Noted,
-    lines: &[u8],
-    board: &Board<R>,
-) -> Result<bool, AllocError>
-    ensures { IfOk result (λ silent. IsTrue silent
-        ↔ BoardNeedsNoNote noted R.game lines.now board.now) }
-{
-    match noted {
-        Noted::Doubts => {
-            let named = Named::by(alloc, lines)?;
-            spells_out(alloc, lines, &named, board)
-        }
-        Noted::Changes | Noted::Strict => Ok(is_printed(lines, board)),
-    }
-}
-
-// Whether the lines are the board as it is printed.
-fn is_printed<R: Rule>(lines: &[u8], board: &Board<R>) -> bool
-    ensures { IsTrue result ↔ (lines.now ≡ text_of board.now) }
-{
-    is_equal(lines, write_board(board).as_slice())
-}
-
-/// Whether both boards are one.
-pub(crate) fn is_same<R: Rule>(first: &Board<R>, second: &Board<R>) -> bool
-    ensures { IsTrue result ↔ (first.now ≡ second.now) }
-{
-    let (first, second) = (BoardView::of(first), BoardView::of(second));
-    is_equal(first.text().as_slice(), second.text().as_slice())
-}
-
-pub(crate) fn is_equal(first: &[u8], second: &[u8]) -> bool
-    ensures { IsTrue result ↔ (first.now ≡ second.now) }
-{
-    first == second
-}
-
 // The list in this form of the moves that the words are.
 fn read_list<R: Rule>(alloc: Global, form: Form, words: &[u8]) -> Result<MoveList, MovesFault>
     ensures fits { IfOk result (ListFits R.game) }
@@ -793,44 +660,4 @@ fn begins_apart(piece: &[u8]) -> bool
     Words::new(uncommented(before_mark(b'\n', piece)))
         .next()
         .is_none()
-}
-
-// Whether the first word after the mark of a header names this game.
-fn names_game(variant: Variant, line: &[u8]) -> bool
-    ensures { result ≡ names_game variant line.now }
-{
-    first_word(after_mark(line)).eq_ignore_ascii_case(variant.word().as_bytes())
-}
-
-fn after_mark(line: &[u8]) -> &[u8]
-    ensures { result.now ≡ drop 1 line.now }
-{
-    &line[line.len().min(1)..]
-}
-
-fn first_word(text: &[u8]) -> &[u8]
-    ensures { result.now ≡ first_word text.now }
-{
-    let rest = &text[gap_len(text)..];
-    &rest[..word_len(rest)]
-}
-
-fn gap_len(bytes: &[u8]) -> usize
-    ensures value { result ≡ prefix_len separates_tokens bytes.now }
-    ensures within { result ≤ length bytes.now }
-{
-    bytes.iter().take_while(|byte| separates(**byte)).count()
-}
-
-fn word_len(bytes: &[u8]) -> usize
-    ensures value { result ≡ prefix_len (λ byte. not (separates_tokens byte)) bytes.now }
-    ensures within { result ≤ length bytes.now }
-{
-    bytes.iter().take_while(|byte| !separates(**byte)).count()
-}
-
-fn separates(byte: u8) -> bool
-    ensures { result ≡ separates_tokens byte }
-{
-    byte == b' ' || byte == b'\t' || byte == b'\n' || byte == b'\r'
 }

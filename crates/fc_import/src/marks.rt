@@ -210,8 +210,8 @@ impl Shape {
         self.empties = 0;
     }
 
-    // Sees a word or a mark that names no card.
-    fn see_other(&mut self, at: usize) {
+    /// Sees a word or a mark that names no card.
+    pub(crate) fn see_other(&mut self, at: usize) {
         if self.others == 0 {
             self.other = at;
         }
@@ -254,12 +254,14 @@ impl Shape {
 
 // Where the label of this kind ends, with its mark.
 fn label_end(text: &[u8], label: LabelKind) -> usize {
-    let mark = match (memchr(b':', text), Words::new(text).next()) {
-        (Some(place), _) => place,
-        (None, Some(word)) if label != LabelKind::Bare => word.end,
-        _ => return 0,
-    };
-    mark.saturating_add(1)
+    match memchr(b':', text) {
+        Some(place) => place.saturating_add(1),
+        None if label == LabelKind::Bare => 0,
+        None => match Words::new(text).next() {
+            Some(word) => word.end.saturating_add(1),
+            None => 0,
+        },
+    }
 }
 
 // Where the mark at this place ends, at the latest at the second place.

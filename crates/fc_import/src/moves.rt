@@ -202,10 +202,10 @@ fn from(text: &[u8], at: usize) -> &[u8]
 fn is_label(word: &[u8], after: &[u8]) -> bool
     ensures { result ≡ is_label word.now after.now }
 {
-    if is_number(word) {
-        matches!(after.first(), Some(b':' | b'.' | b')'))
-    } else {
-        matches!(after.first(), Some(b':')) && is_solution_name(word)
+    match after.first() {
+        Some(b':') => is_number(word) || is_solution_name(word),
+        Some(b'.' | b')') => is_number(word),
+        _ => false,
     }
 }
 

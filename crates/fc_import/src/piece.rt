@@ -1,8 +1,8 @@
 //! The lines of one piece of a text, scanned once each, up to where the piece ends. Nothing is
 //! promised of where that is.
-ghost use Rattle.{fc_import.specs.Seen.{IsSeen}, std.specs.Prelude.{IfOk}};
-
+use crate::hearing::{LineHeard, is_list};
 use crate::labels::LabelKind;
+use crate::marks::Shape;
 use crate::scan::{LineSeen, Placed, named_card};
 use crate::words::{Words, before_mark, uncommented};
 use arrayvec::ArrayVec;
@@ -50,34 +50,18 @@ pub(crate) enum PieceKind {
     Moves,
 }
 
-/// A line of a piece: where it is, what it looks like, and which of the piece's cards it has.
+/// A line of a piece: where it is, what it looks like, and which of the piece's cards and gaps it
+/// has.
 #[derive(Clone, Copy)]
 pub(crate) struct PieceLine {
     pub(crate) start: usize,
     pub(crate) len: usize,
     pub(crate) kind: LineKind,
-    pub(crate) label: LabelKind,
+    pub(crate) shape: Shape,
     pub(crate) first: usize,
     pub(crate) end: usize,
-    /// The places without a card before the first card, before the last one, and those that a mark
-    /// says.
-    pub(crate) lead: usize,
-    pub(crate) gaps: usize,
-    pub(crate) marks: usize,
-    /// How many tabs and how many bytes it begins with; whether a mark parts any two words, and a
-    /// bar begins it; and the fewest and most blanks between two words.
-    pub(crate) tabs: usize,
-    pub(crate) indent: usize,
-    pub(crate) is_parted: bool,
-    pub(crate) has_bar: bool,
-    pub(crate) least_run: usize,
-    pub(crate) most_run: usize,
-    /// The words that are no cards and of no label, and where the first one is.
-    pub(crate) others: usize,
-    pub(crate) other: usize,
     /// How many of its cards were there before, in the line or above it.
     repeats: usize,
-    pub(crate) bits: u64,
     is_list: bool,
     names_none_home: bool,
 }
@@ -88,22 +72,10 @@ impl Default for PieceLine {
             start: 0,
             len: 0,
             kind: LineKind::Blank,
-            label: LabelKind::Bare,
+            shape: Shape::new(b""),
             first: 0,
             end: 0,
-            lead: 0,
-            gaps: 0,
-            marks: 0,
-            tabs: 0,
-            indent: 0,
-            is_parted: false,
-            has_bar: false,
-            least_run: 0,
-            most_run: 0,
-            others: 0,
-            other: 0,
             repeats: 0,
-            bits: 0,
             is_list: false,
             names_none_home: false,
         }
@@ -120,10 +92,8 @@ pub(crate) struct Piece {
     line_moves: Vec<u8>,
     /// Where the first word of a solution begins that is of no move.
     pub(crate) foreign: Option<usize>,
-    /// Whether the last line that was looked at is a number alone, which is a move, and whether it
-    /// names few moves.
+    /// Whether the last line that was looked at is a number alone, which is a move.
     pub(crate) is_number: bool,
-    has_few_moves: bool,
     /// The heights of C D H S.
     pub(crate) heights: [u8; 4],
     has_heights: bool,
@@ -152,7 +122,6 @@ impl Piece {
             line_moves: Vec::new(alloc),
             foreign: None,
             is_number: false,
-            has_few_moves: true,
             heights: [0; 4],
             has_heights: false,
             has_cells: false,
@@ -198,7 +167,7 @@ impl Piece {
                 self.go_on_with_moves::<R>(text)?;
                 Ok(PieceKind::Moves)
             }
-            LineKind::Other if !self.has_few_moves => {
+            LineKind::Other if !self.has_few_moves::<R>(first.text)? => {
                 self.go_on_with_moves::<R>(text)?;
                 Ok(PieceKind::Moves)
             }
@@ -222,7 +191,7 @@ impl Piece {
                 break;
             }
             let seen = self.look_at::<R>(line)?;
-            if !self.takes(seen) {
+            if !self.takes(&seen) {
                 break;
             }
             self.add(seen, line.text);
@@ -271,17 +240,19 @@ impl Piece {
         if line.trim_ascii().is_empty() {
             return Ok(true);
         }
-        let seen = self.scan::<R>(line)?;
-        let is_list = seen.is_list::<R>(line, self.line_moves.as_slice());
-        Ok(!is_list && begins_board(kind_of(line, &seen, is_list)))
+        let seen = LineSeen::of(line, &mut self.placed)?;
+        let is_list = is_list::<R>(line, &seen, &mut self.line_moves)?;
+        Ok(!is_list && begins_board(self.kind_of::<R>(line, &seen, is_list)?))
     }
 
     // Takes the moves of a line.
     fn take_moves<R: Rule>(&mut self, line: Line<'_>, is_said: bool) -> Result<(), AllocError> {
         let text = line.text;
-        let seen = self.scan::<R>(text)?;
-        let is_list = seen.is_list::<R>(text, self.line_moves.as_slice());
-        if is_list && seen.heard.all && seen.heard.from.is_none() {
+        let seen = LineSeen::of(text, &mut self.placed)?;
+        let LineHeard { heard, other } = LineHeard::of::<R>(text, &mut self.line_moves)?;
+        let is_alone = seen.words == 1 && seen.numbers;
+        let is_list = text.starts_with(b">") || !self.line_moves.is_empty() && !is_alone;
+        if is_list && heard.all && heard.from.is_none() {
             self.moves.extend_from_slice(self.line_moves.as_slice())?;
             return Ok(());
         }
@@ -289,11 +260,11 @@ impl Piece {
         if seen.words == 0 || is_between || self.foreign.is_some() {
             return Ok(());
         }
-        if line.start == 0 && seen.words == 1 && seen.numbers {
+        if line.start == 0 && is_alone {
             self.moves.extend_from_slice(self.line_moves.as_slice())?;
             return Ok(());
         }
-        self.foreign = Some(line.start.saturating_add(seen.other));
+        self.foreign = Some(line.start.saturating_add(other));
         Ok(())
     }
 
@@ -303,64 +274,77 @@ impl Piece {
     }
 
     /// The cards and gaps of a line.
-    pub(crate) fn placed(&self, line: PieceLine) -> &[Placed] {
+    pub(crate) fn placed(&self, line: &PieceLine) -> &[Placed] {
         self.placed
             .as_slice()
             .get(line.first..line.end)
             .unwrap_or(&[])
     }
 
-    // Scans a line. Its cards come after the others.
-    fn scan<R: Rule>(&mut self, line: &[u8]) -> Result<LineSeen, AllocError>
-        ensures { IfOk result (IsSeen R.game line.now self.new.line_moves.items) }
-    {
-        self.line_moves.clear();
-        LineSeen::of::<R>(line, &mut self.placed, &mut self.line_moves)
+    // Whether the line names few moves.
+    fn has_few_moves<R: Rule>(&mut self, line: &[u8]) -> Result<bool, AllocError> {
+        let seen = LineSeen::of(line, &mut self.placed)?;
+        let heard = LineHeard::of::<R>(line, &mut self.line_moves)?;
+        Ok(heard.has_few_moves::<R>(line, &seen, self.line_moves.as_slice()))
+    }
+
+    fn kind_of<R: Rule>(
+        &mut self,
+        line: &[u8],
+        seen: &LineSeen,
+        is_list: bool,
+    ) -> Result<LineKind, AllocError> {
+        let front = line.trim_ascii_start();
+        Ok(match front {
+            [] => LineKind::Blank,
+            [b'#', ..] => LineKind::Comment,
+            [b'>', ..] if self.is_marked_list::<R>(line, seen)? => LineKind::Moves,
+            _ if begins_said(front) => LineKind::Moves,
+            [b'=', b'=', ..] | [b'-', b'=', ..] => LineKind::Other,
+            _ => kind_by_label(line, seen, is_list),
+        })
+    }
+
+    // Whether a line that begins with the mark of a list is one, and no line of cards that is quoted.
+    fn is_marked_list<R: Rule>(
+        &mut self,
+        line: &[u8],
+        seen: &LineSeen,
+    ) -> Result<bool, AllocError> {
+        let heard = LineHeard::of::<R>(line, &mut self.line_moves)?;
+        Ok(seen.shape.cards < 3 || heard.heard.all)
     }
 
     // What the line looks like.
     fn look_at<R: Rule>(&mut self, line: Line<'_>) -> Result<PieceLine, AllocError> {
         let text = line.text;
         let first = self.placed.len();
-        let seen = self.scan::<R>(text)?;
-        let is_list = seen.is_list::<R>(text, self.line_moves.as_slice());
-        let shape = &seen.shape;
-        let kind = kind_of(text, &seen, is_list);
-        let bold = match kind {
-            LineKind::Cells => bold_after_name(text),
-            _ => None,
-        };
-        self.is_number = seen.words == 1 && seen.numbers && self.line_moves.len() == 3;
-        self.has_few_moves = seen.has_few_moves::<R>(text, self.line_moves.as_slice());
+        let seen = LineSeen::of(text, &mut self.placed)?;
+        let is_list = is_list::<R>(text, &seen, &mut self.line_moves)?;
+        let is_number = seen.words == 1 && seen.numbers && self.line_moves.len() == 3;
+        let kind = self.kind_of::<R>(text, &seen, is_list)?;
+        let mut shape = seen.shape;
+        if let (LineKind::Cells, Some(place)) = (kind, bold_after_name(text)) {
+            shape.see_other(place);
+        }
+        self.is_number = is_number;
         Ok(PieceLine {
             start: line.start,
             len: text.len(),
             kind,
-            label: shape.label,
+            shape,
             first,
             end: self.placed.len(),
-            lead: shape.lead,
-            gaps: shape.gaps,
-            marks: shape.marks,
-            tabs: shape.tabs,
-            indent: shape.indent,
-            is_parted: shape.is_parted,
-            has_bar: shape.has_bar,
-            least_run: shape.least_run,
-            most_run: shape.most_run,
-            others: shape.others.saturating_add(usize::from(bold.is_some())),
-            other: bold.unwrap_or(shape.other),
             repeats: shape
                 .cards
                 .saturating_sub(count_of(shape.bits & !self.bits)),
-            bits: shape.bits,
             is_list,
             names_none_home: kind == LineKind::Foundations && heights_of(text).0 == [0; 4],
         })
     }
 
     // Whether the line may be the board's.
-    fn takes(&mut self, line: PieceLine) -> bool {
+    fn takes(&mut self, line: &PieceLine) -> bool {
         let is_whole = self.is_whole();
         let is_after_blank = self.up_to_blank == self.lines.len() && self.up_to_blank > 0;
         match line.kind {
@@ -371,8 +355,8 @@ impl Piece {
                 let fits = !is_whole || line.names_none_home;
                 !self.has_heights && fits && !(is_after_blank && self.rows > 0)
             }
-            LineKind::Cells => !self.has_cells && (!is_whole || line.bits == 0),
-            LineKind::Cards if is_whole => self.rows < 8 && line.bits == 0,
+            LineKind::Cells => !self.has_cells && (!is_whole || line.shape.bits == 0),
+            LineKind::Cards if is_whole => self.rows < 8 && line.shape.bits == 0,
             LineKind::Cards if line.repeats > 0 && line.is_list => false,
             LineKind::Cards if self.begins_other(line) => {
                 self.cut_at_blank();
@@ -384,7 +368,7 @@ impl Piece {
 
     // Whether another board seems to begin above the line: its cards come again after a blank line,
     // or most of them do.
-    fn begins_other(&self, line: PieceLine) -> bool {
+    fn begins_other(&self, line: &PieceLine) -> bool {
         let repeats = line.repeats;
         let cards = line.end.saturating_sub(line.first);
         repeats > 0 && self.up_to_blank > 0 || repeats >= 3 && repeats > cards / 2
@@ -417,9 +401,11 @@ impl Piece {
             _ => {}
         }
         if line.kind != LineKind::Foundations {
-            self.is_damaged = self.is_damaged || line.repeats > 0 || line.others > 0;
-            self.count = self.count.saturating_add(count_of(line.bits & !self.bits));
-            self.bits |= line.bits;
+            self.is_damaged = self.is_damaged || line.repeats > 0 || line.shape.others > 0;
+            self.count = self
+                .count
+                .saturating_add(count_of(line.shape.bits & !self.bits));
+            self.bits |= line.shape.bits;
         }
         let _ = self.lines.try_push(line);
     }
@@ -483,18 +469,6 @@ fn begins_board(kind: LineKind) -> bool {
         kind,
         LineKind::Foundations | LineKind::Cells | LineKind::Cards
     )
-}
-
-fn kind_of(line: &[u8], seen: &LineSeen, is_list: bool) -> LineKind {
-    let front = line.trim_ascii_start();
-    match front {
-        [] => LineKind::Blank,
-        [b'#', ..] => LineKind::Comment,
-        [b'>', ..] if seen.shape.cards < 3 || seen.heard.all => LineKind::Moves,
-        _ if begins_said(front) => LineKind::Moves,
-        [b'=', b'=', ..] | [b'-', b'=', ..] => LineKind::Other,
-        _ => kind_by_label(line, seen, is_list),
-    }
 }
 
 fn kind_by_label(line: &[u8], seen: &LineSeen, is_list: bool) -> LineKind {

@@ -10,7 +10,9 @@ ghost use Rattle.fc_record.specs.RecordTexts.{header_mark};
 ghost use Rattle.fc_import.specs.{inside.{form_of, TakesAsItIs}, Notes.{name_by}};
 
 use crate::line::line_len;
-use crate::made::{Form, Made, is_equal, line_of, name_given};
+use crate::made::{Form, Made, line_of};
+use crate::naming::name_given;
+use crate::spelled::is_equal;
 use crate::tally::Fate;
 use fc_board::{Rule, Variant};
 use fc_record::push_header;

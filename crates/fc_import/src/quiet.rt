@@ -2,32 +2,64 @@
 ghost use Rattle.std.specs.Prelude.{◌++◌, ◌↔◌, ◌≡◌, ◌⊎◌, All, IfOk, IsTrue, length, OnOk, true};
 ghost use Rattle.fc_text.specs.Lines.{lines_from};
 ghost use Rattle.fc_import.specs.Import.{AreLists, IsNoBoard, moves_of, moves_of_line};
-ghost use Rattle.fc_import.specs.Scan.{cards_in, is_list, IsProse, IsQuiet, words_of};
-ghost use Rattle.fc_import.specs.Seen.{cards_of, IsSeen};
+ghost use Rattle.fc_import.specs.Scan.{cards_in, HasFewMoves, is_list, IsProse, IsQuiet, words_of};
+ghost use Rattle.fc_import.specs.Seen.{cards_of, IsHeard, IsSeen};
 
+use crate::hearing::LineHeard;
 use crate::scan::{LineSeen, Placed};
 use fc_board::Rule;
 use fc_text::Lines;
 use std::alloc::{AllocError, Global};
 
-/// A line that was scanned, with its cards and moves.
+/// A line that was seen and heard, with its cards and moves.
 #[derive(Drop)]
 struct Scanned {
     seen: LineSeen,
     cards: usize,
+    heard: LineHeard,
     moves: Vec<u8>,
 }
 
 // What the line is.
 fn scan_line<R: Rule>(alloc: Global, line: &[u8]) -> Result<Scanned, AllocError>
-    ensures seen { IfOk result (λ scanned. IsSeen R.game line.now scanned.moves.items scanned.seen) }
+    ensures seen { IfOk result (λ scanned. IsSeen line.now scanned.seen) }
     ensures cards { IfOk result (λ scanned. scanned.cards ≡ length (cards_in line.now)) }
+    ensures heard { IfOk result
+        (λ scanned. IsHeard R.game line.now scanned.moves.items scanned.heard) }
 {
     let mut placed = Vec::new(alloc);
     let mut moves = Vec::new(alloc);
-    let seen = LineSeen::of::<R>(line, &mut placed, &mut moves)?;
+    let seen = LineSeen::of(line, &mut placed)?;
     let cards = count_of(placed.as_slice());
-    Ok(Scanned { seen, cards, moves })
+    let heard = LineHeard::of::<R>(line, &mut moves)?;
+    Ok(Scanned {
+        seen,
+        cards,
+        heard,
+        moves,
+    })
+}
+
+impl Scanned {
+    // Whether the line, which is this one, is a list.
+    fn is_list<R: Rule>(&self, line: &[u8]) -> bool
+        requires seen { IsSeen line.now self.now.seen }
+        requires heard { IsHeard R.game line.now self.now.moves.items self.now.heard }
+        ensures { result ≡ is_list R.game line.now }
+    {
+        self.heard
+            .is_list::<R>(line, &self.seen, self.moves.as_slice())
+    }
+
+    // Whether the line, which is this one, names few moves.
+    fn has_few_moves<R: Rule>(&self, line: &[u8]) -> bool
+        requires seen { IsSeen line.now self.now.seen }
+        requires heard { IsHeard R.game line.now self.now.moves.items self.now.heard }
+        ensures { IsTrue result → HasFewMoves R.game line.now }
+    {
+        self.heard
+            .has_few_moves::<R>(line, &self.seen, self.moves.as_slice())
+    }
 }
 
 // How many of these are cards.
@@ -57,12 +89,11 @@ pub(crate) fn are_quiet<R: Rule>(alloc: Global, lines: &[u8]) -> Result<bool, Al
 fn is_quiet<R: Rule>(alloc: Global, line: &[u8]) -> Result<bool, AllocError>
     ensures { IfOk result (λ quiet. IsTrue quiet → IsQuiet R.game line.now) }
 {
-    let Scanned { seen, cards, moves } = scan_line::<R>(alloc, line)?;
-    let moves = moves.as_slice();
-    if cards > 0 || seen.is_list::<R>(line, moves) {
+    let scanned = scan_line::<R>(alloc, line)?;
+    if scanned.cards > 0 || scanned.is_list::<R>(line) {
         return Ok(false);
     }
-    Ok(seen.has_few_moves::<R>(line, moves))
+    Ok(scanned.has_few_moves::<R>(line))
 }
 
 /// Whether each line is no list, names few moves, and names cards by at most half of its words.
@@ -81,12 +112,11 @@ pub(crate) fn are_prose<R: Rule>(alloc: Global, lines: &[u8]) -> Result<bool, Al
 fn is_prose<R: Rule>(alloc: Global, line: &[u8]) -> Result<bool, AllocError>
     ensures { IfOk result (λ prose. IsTrue prose → IsProse R.game line.now) }
 {
-    let Scanned { seen, cards, moves } = scan_line::<R>(alloc, line)?;
-    let moves = moves.as_slice();
-    if cards > seen.words / 2 {
+    let scanned = scan_line::<R>(alloc, line)?;
+    if scanned.cards > scanned.seen.words / 2 {
         return Ok(false);
     }
-    Ok(!seen.is_list::<R>(line, moves) && seen.has_few_moves::<R>(line, moves))
+    Ok(!scanned.is_list::<R>(line) && scanned.has_few_moves::<R>(line))
 }
 
 /// Whether no line may be a board's: each is a list, or at most half of its words name cards.
@@ -105,8 +135,8 @@ pub(crate) fn are_no_board<R: Rule>(alloc: Global, lines: &[u8]) -> Result<bool,
 fn is_no_board<R: Rule>(alloc: Global, line: &[u8]) -> Result<bool, AllocError>
     ensures { IfOk result (λ is. IsTrue is → IsNoBoard R.game line.now) }
 {
-    let Scanned { seen, cards, moves } = scan_line::<R>(alloc, line)?;
-    Ok(cards <= seen.words / 2 || seen.is_list::<R>(line, moves.as_slice()))
+    let scanned = scan_line::<R>(alloc, line)?;
+    Ok(scanned.cards <= scanned.seen.words / 2 || scanned.is_list::<R>(line))
 }
 
 /// Whether each line is a list, or has no words.
@@ -125,8 +155,8 @@ fn is_list_or_empty<R: Rule>(alloc: Global, line: &[u8]) -> Result<bool, AllocEr
     ensures { IfOk result (λ is. IsTrue is ↔ ((is_list R.game line.now ≡ true)
         ⊎ (length (words_of line.now) ≡ 0))) }
 {
-    let Scanned { seen, moves, .. } = scan_line::<R>(alloc, line)?;
-    Ok(seen.words == 0 || seen.is_list::<R>(line, moves.as_slice()))
+    let scanned = scan_line::<R>(alloc, line)?;
+    Ok(scanned.seen.words == 0 || scanned.is_list::<R>(line))
 }
 
 /// Puts the moves that the lists among the lines name, each after a blank.
@@ -147,10 +177,8 @@ fn push_moves_of<R: Rule>(alloc: Global, line: &[u8], moves: &mut Vec<u8>) -> Re
     ensures { OnOk result (moves.new.items ≡ moves.old.items ++ moves_of_line R.game line.now) }
 {
     let scanned = scan_line::<R>(alloc, line)?;
-    let seen = &scanned.seen;
-    let words = scanned.moves.as_slice();
-    if seen.is_list::<R>(line, words) || seen.words == 1 && seen.numbers {
-        moves.extend_from_slice(words)?;
+    if scanned.is_list::<R>(line) || scanned.seen.is_number_alone(line) {
+        moves.extend_from_slice(scanned.moves.as_slice())?;
     }
     Ok(())
 }

@@ -58,7 +58,7 @@ impl<'a> Iterator for Words<'a> {
 }
 
 /// How many bytes at the front are between words, and how many in the word after them: mostly one
-/// blank and the two of a card.
+/// blank and the two of a card, at the front of a line no blank, and at its end nothing after it.
 fn gap_and_word(bytes: &[u8]) -> (usize, usize)
     ensures gap { result.0 ≡ prefix_len parts_words bytes.now }
     ensures word { result.1
@@ -66,6 +66,16 @@ fn gap_and_word(bytes: &[u8]) -> (usize, usize)
     ensures within { result.0 + result.1 ≤ length bytes.now }
 {
     if let [b' ', first, second, b' ', ..] = bytes {
+        if !parts_words(*first) && !parts_words(*second) {
+            return (1, 2);
+        }
+    }
+    if let [first, second, b' ', ..] = bytes {
+        if !parts_words(*first) && !parts_words(*second) {
+            return (0, 2);
+        }
+    }
+    if let [b' ', first, second] = bytes {
         if !parts_words(*first) && !parts_words(*second) {
             return (1, 2);
         }

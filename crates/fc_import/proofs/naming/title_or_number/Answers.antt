@@ -1,7 +1,7 @@
 use Rattle.std.proofs.Common.{◌++◌, ◌∙◌, ◌≡◌, ap, arith, length, subst, sym, true}
 use Rattle.std.specs.Fmt.{decimal}
 use Rattle.fc_record.{proofs.HeadingLemmas.{word_numbered}, specs.Grammar.{is_name}}
-use Rattle.fc_import.proofs.made.title_or_number.Goals as goal
+use Rattle.fc_import.proofs.naming.title_or_number.Goals as goal
 
 pub returns-clause-name : goal.returns-clause-name
 returns-clause-name c =

@@ -1,6 +1,6 @@
 use Rattle.std.proofs.Common.{◌∙◌, ◌≡◌, false, inl, subst, sym, true}
 use Rattle.{fc_import.proofs.TakingLemmas.{none_read, read_alone}, fc_text.specs.Spelling.{Spells}}
-use Rattle.fc_import.proofs.made.spells_out.Goals as goal
+use Rattle.fc_import.proofs.spelled.spells_out.Goals as goal
 
 pub returns-in-Ok-clause-spells : goal.returns-in-Ok-clause-spells
 returns-in-Ok-clause-spells g c =

@@ -1,7 +1,7 @@
 use Rattle.std.proofs.Common.{◌==◌, ◌≡◌, length}
 use Rattle.std.specs.List.{list_all}
 use Rattle.fc_import.specs.{Scan.{words_of}, Seen.{words_left}}
-use Rattle.fc_import.proofs.scan.are_single.Given as goal
+use Rattle.fc_import.proofs.hearing.is_each_single.Given as goal
 
 abbrev pub invariant-loop-word : goal.invariant-loop-word
 invariant-loop-word l =

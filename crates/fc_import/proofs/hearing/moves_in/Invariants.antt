@@ -1,6 +1,6 @@
 use Rattle.std.{proofs.Common.{◌==◌, ◌≡◌, ◌≤◌, take}, specs.List.{count_by}}
 use Rattle.fc_text.specs.Bytes.{blank}
-use Rattle.fc_import.proofs.scan.moves_in.Given as goal
+use Rattle.fc_import.proofs.hearing.moves_in.Given as goal
 
 abbrev pub invariant-loop-byte : goal.invariant-loop-byte
 invariant-loop-byte l = record {

@@ -1,6 +1,6 @@
 use Rattle.std.proofs.Common.{◌∙◌, ap, sym}
 use Rattle.fc_text.{proofs.SpellingLemmas.{same_board}, specs.Printed.{text_of}}
-use Rattle.fc_import.proofs.made.is_same.Goals as goal
+use Rattle.fc_import.proofs.spelled.is_same.Goals as goal
 
 pub returns : goal.returns
 returns g c =

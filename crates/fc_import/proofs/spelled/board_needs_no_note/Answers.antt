@@ -1,6 +1,6 @@
 use Rattle.std.proofs.Common.{◌↔◌, IfOk, IsTrue, subst, sym}
 use Rattle.fc_import.specs.Import.{BoardNeedsNoNote}
-use Rattle.fc_import.proofs.made.board_needs_no_note.Goals as goal
+use Rattle.fc_import.proofs.spelled.board_needs_no_note.Goals as goal
 
 pub returns-in_ok-named-in-Doubts : goal.returns-in_ok-named-in-Doubts
 returns-in_ok-named-in-Doubts g c =

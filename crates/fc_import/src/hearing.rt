@@ -1,0 +1,218 @@
+//! What the words of a line say of moves: the only place where a byte becomes a move.
+ghost use Rattle.std.specs.{List.{list_all}, Option.{is_none}, Prelude.{◌&&◌, ◌*◌, ◌==◌, ◌≡◌, ◌≤◌}};
+ghost use Rattle.std.specs.Prelude.{◌⊎◌, count_by, false, IfOk, if◌then◌else◌, IsTrue, length};
+ghost use Rattle.std.specs.Prelude.{nat_lt, None, slice_index, true};
+ghost use Rattle.fc_text.specs.Bytes.{blank};
+ghost use Rattle.fc_import.specs.Scan.{after_word, are_single, begins_single, HasFewMoves, is_list};
+ghost use Rattle.fc_import.specs.Scan.{is_number_alone, said_in, words_of};
+ghost use Rattle.fc_import.specs.Seen.{IsHeard, IsSeen, piece_of, said_of};
+
+use crate::moves::{Heard, is_sure};
+use crate::scan::LineSeen;
+use crate::solver::{push_solver_move, word_at};
+use crate::words::{Word, Words, uncommented};
+use fc_board::Rule;
+use fc_text::run_named;
+use std::alloc::AllocError;
+
+/// What a line says of moves, beside these.
+#[derive(Clone, Copy, Debug)]
+pub(crate) struct LineHeard {
+    pub(crate) heard: Heard,
+    /// Where the first word is that is of no move, of which nothing is promised.
+    pub(crate) other: usize,
+}
+
+impl LineHeard {
+    /// Hears a line: puts the moves that its words name in place of those that are there.
+    pub(crate) fn of<R: Rule>(line: &[u8], moves: &mut Vec<u8>) -> Result<LineHeard, AllocError>
+        ensures { IfOk result (IsHeard R.game line.now moves.new.items) }
+    {
+        moves.clear();
+        let text = uncommented(line);
+        let is_said = push_solver_move::<R>(text, moves)?;
+        let mut heard = first_heard(is_said);
+        let mut other: usize = 0;
+        for word in Words::new(text) {
+            other = later_if(heard.all, word.start, other);
+            heard = hear::<R>(is_said, heard, text, &word, moves)?;
+        }
+        Ok(LineHeard { heard, other })
+    }
+
+    /// Whether the line is a list, of which these are the moves.
+    pub(crate) fn is_list<R: Rule>(&self, line: &[u8], seen: &LineSeen, moves: &[u8]) -> bool
+        requires seen { IsSeen line.now seen.now }
+        requires heard { IsHeard R.game line.now moves.now self.now }
+        ensures { result ≡ is_list R.game line.now }
+    {
+        if line.first() == Some(&b'>') {
+            return true;
+        }
+        self.heard.all
+            && self.heard.from.is_none()
+            && !moves.is_empty()
+            && !seen.is_number_alone(line)
+    }
+
+    /// Whether the line names few moves, which are these.
+    pub(crate) fn has_few_moves<R: Rule>(&self, line: &[u8], seen: &LineSeen, moves: &[u8]) -> bool
+        requires seen { IsSeen line.now seen.now }
+        requires heard { IsHeard R.game line.now moves.now self.now }
+        ensures { IsTrue result → HasFewMoves R.game line.now }
+    {
+        let count = moves_in(moves);
+        if count >= 4 || !has_half(line, seen, count) {
+            return false;
+        }
+        if self.heard.sure > 1 || self.heard.led {
+            return false;
+        }
+        !are_single::<R>(line, seen)
+    }
+}
+
+/// Whether the line is a list. It is heard no further than to a word that is of no move.
+pub(crate) fn is_list<R: Rule>(
+    line: &[u8],
+    seen: &LineSeen,
+    moves: &mut Vec<u8>,
+) -> Result<bool, AllocError>
+    requires { IsSeen line.now seen.now }
+    ensures { IfOk result (λ is. is ≡ is_list R.game line.now) }
+{
+    if line.first() == Some(&b'>') {
+        return Ok(true);
+    }
+    let names_moves = names_moves::<R>(line, moves)?;
+    Ok(names_moves && !seen.is_number_alone(line))
+}
+
+// Whether each word of the line is of a move, and there is one.
+fn names_moves<R: Rule>(line: &[u8], moves: &mut Vec<u8>) -> Result<bool, AllocError>
+    ensures { IfOk result (λ is. is ≡ ((said_in R.game line.now).all
+        && is_none (said_in R.game line.now).from
+        && nat_lt 0 (length (said_in R.game line.now).moves))) }
+{
+    moves.clear();
+    let text = uncommented(line);
+    let is_said = push_solver_move::<R>(text, moves)?;
+    let mut heard = first_heard(is_said);
+    for word in Words::new(text) {
+        heard = hear::<R>(is_said, heard, text, &word, moves)?;
+        if !heard.all {
+            return Ok(false);
+        }
+    }
+    Ok(has_moves(heard, moves))
+}
+
+// Whether there are moves, of which none lacks its target.
+fn has_moves(heard: Heard, moves: &Vec<u8>) -> bool
+    ensures { result ≡ (is_none heard.from && nat_lt 0 (length moves.now.items)) }
+{
+    heard.from.is_none() && !moves.is_empty()
+}
+
+// Whether so many moves are at most half of the words, or the line is a number alone.
+fn has_half(line: &[u8], seen: &LineSeen, count: usize) -> bool
+    requires { IsSeen line.now seen.now }
+    ensures { IsTrue result → (2 * count ≤ length (words_of line.now))
+        ⊎ (is_number_alone (words_of line.now) ≡ true) }
+{
+    count <= seen.words / 2 || seen.is_number_alone(line)
+}
+
+// Whether each word is one sign, and the first two are a move.
+fn are_single<R: Rule>(line: &[u8], seen: &LineSeen) -> bool
+    requires { IsSeen line.now seen.now }
+    ensures { result ≡ are_single R.game (words_of line.now) }
+{
+    seen.words >= 4 && is_each_single(line) && begins_single::<R>(line)
+}
+
+// Whether the first signs of the first two words of the line are a move with a digit and a letter.
+fn begins_single<R: Rule>(line: &[u8]) -> bool
+    ensures { result ≡ begins_single R.game (words_of line.now) }
+{
+    let text = uncommented(line);
+    let letters = [first_byte(word_at(text, 0)), first_byte(word_at(text, 1))];
+    is_sure(letters.as_slice()) && run_named::<R>(letters.as_slice()).is_some()
+}
+
+// Whether each word of the line is one sign.
+fn is_each_single(line: &[u8]) -> bool
+    ensures { result ≡ list_all (λ word. length word.0.bytes == 1) (words_of line.now) }
+{
+    for word in Words::new(uncommented(line)) {
+        if !is_single(word.text) {
+            return false;
+        }
+    }
+    true
+}
+
+// Hears the next word, unless the line says a move as Freecell Solver does.
+fn hear<R: Rule>(
+    is_said: bool,
+    heard: Heard,
+    text: &[u8],
+    word: &Word<'_>,
+    moves: &mut Vec<u8>,
+) -> Result<Heard, AllocError>
+    ensures { IfOk result (λ after. said_of moves.new.items after
+        ≡ if is_said then said_of moves.old.items heard
+        else after_word R.game text.now (said_of moves.old.items heard) (piece_of word.now)) }
+{
+    if is_said {
+        return Ok(heard);
+    }
+    heard.take::<R>(text, word, moves)
+}
+
+fn later_if(is_later: bool, later: usize, before: usize) -> usize {
+    if is_later { later } else { before }
+}
+
+fn is_single(word: &[u8]) -> bool
+    ensures { result ≡ (length word.now == 1) }
+{
+    word.len() == 1
+}
+
+fn first_byte(word: &[u8]) -> u8
+    ensures { result ≡ slice_index word.now 0 }
+{
+    match word.first() {
+        Some(byte) => *byte,
+        None => 0,
+    }
+}
+
+// What is heard before the first word: whether it is of a move that Freecell Solver says.
+fn first_heard(is_said: bool) -> Heard
+    ensures from { result.from ≡ None }
+    ensures pointed { result.pointed ≡ false }
+    ensures all { result.all ≡ true }
+    ensures sure { result.sure ≡ if is_said then 1 else 0 }
+    ensures led { result.led ≡ is_said }
+{
+    Heard {
+        from: None,
+        pointed: false,
+        all: true,
+        sure: u8::from(is_said),
+        led: is_said,
+    }
+}
+
+/// How many moves there are, each after a blank.
+pub(crate) fn moves_in(moves: &[u8]) -> usize
+    ensures { result ≡ count_by (λ byte. byte == blank) moves.now }
+{
+    let mut count = 0;
+    for byte in moves {
+        count += usize::from(*byte == b' ');
+    }
+    count
+}
