@@ -10,6 +10,7 @@ from typing import Dict, NamedTuple, Tuple
 
 # The games, each by its number, in a store as in fcanon.h. tools/tables wrote this from fcanon.h, to the next empty line.
 GAMES = ("freecell", "bakers_game", "eight_off")
+RELEASE = "1.0.0"
 CELLS = ("abcd", "abcd", "abcdefgk")  # of each game the letters of its cells
 
 COLUMNS = "12345678"

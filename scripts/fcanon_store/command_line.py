@@ -11,7 +11,7 @@ from contextlib import nullcontext
 from typing import Callable, List, NamedTuple, NoReturn
 
 from . import Fault, commands
-from .boards import GAMES
+from .boards import GAMES, RELEASE
 from .solver import FREECELL_PROVER, FREECELL_SOLVER, UNSOLVABLE
 from .store import Store
 
@@ -148,6 +148,7 @@ OPTIONS = {"files": add_files, "keys": add_keys, "forgotten": add_forgotten, "va
 
 def parser() -> Parser:
     top = Parser(prog="fcanon-store", usage=USAGE, description=ABOUT, epilog=NOTES)
+    top.add_argument("--version", action="version", version=f"fcanon-store {RELEASE}", help="print the release")
     subparsers = top.add_subparsers(dest="command", required=True, metavar="COMMAND", parser_class=Parser)
     for name, command in COMMANDS.items():
         it = subparsers.add_parser(name, prog=f"fcanon-store {name}", help=command.about,

@@ -113,9 +113,10 @@ class Progress:
 
 
 def unsolved(store: Store, solver: str, limits: Limits) -> Iterator[Position]:
+    """The positions to be solved, but for those that another run has solved when their turn comes."""
     after = 0
     while found := store.unsolved(solver, limits, after):
-        yield from found
+        yield from (it for it in found if not store.is_solved(it.id))
         after = found[-1].id
 
 
@@ -128,10 +129,12 @@ def solve(store: Store, words: argparse.Namespace) -> int:
         for answer in answers(solver, unsolved(store, solver.name, limits), words.jobs):
             with store.writing():
                 if answer.solution:
-                    store.add_solution(answer.position, answer.solution, answer.finder)
+                    is_new = store.add_solution(answer.position, answer.solution, answer.finder)
                 else:
+                    is_new = not store.is_solved(answer.position)
                     store.tried(answer.position, answer.finder, limits, answer.outcome)
-            progress.count(answer)
+            if is_new:
+                progress.count(answer)
     finally:
         progress.end()
     say([f"{progress}\n"])

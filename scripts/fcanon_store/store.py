@@ -193,9 +193,12 @@ class Store:
         self.table.execute("insert or ignore into source (name) values (?)", (name,))
         return self.one("select id from source where name = ?", (name,))
 
+    def is_solved(self, position: int) -> bool:
+        return bool(self.one("select exists (select 1 from solution where position = ?)", (position,)))
+
     def add_solution(self, position: int, it: Moves, finder: Optional[str]) -> bool:
         """Adds a list that wins from the canonical board, and returns whether it is the first of this position."""
-        is_first = not self.one("select exists (select 1 from solution where position = ?)", (position,))
+        is_first = not self.is_solved(position)
         self.table.execute("insert or ignore into solution values (?, ?, ?, ?, ?)",
                            (position, it.length, it.form, it.moves, finder))
         return is_first
