@@ -8,6 +8,8 @@ from sources import ROOT
 
 PATHS = sorted([*ROOT.glob("*.md"), *(ROOT / "docs").glob("*.md")])
 PAGES = {path.name: "index.html" if path.stem == "TRUST" else f"doc-{path.stem}.html" for path in PATHS}
+# They name what a user types and reads, and nothing of the code.
+OF_USERS = {"FORMATS.md", "KEEPERS.md", "PAGE.md", "SCALE.md"}
 SPAN = re.compile(r"`([^`]+)`|!\[([^\]]*)\]\([^)]*\)|\[((?:[^\]`]|`[^`]*`)*)\]\(([^)]*)\)"
                   r"|\*\*((?:[^*]|\*(?!\*))+)\*\*|\*([^*\s][^*]*)\*|<(https?:[^>]*)>")
 

@@ -1,12 +1,17 @@
 """Where all things are in the book, and what the words of documents, contracts and definitions are linked to."""
 
 import re
+from html import escape
 
 from markup import from_page, inline, link, linked
-from sources import CRATES, ITEM, LAW_MODULES, definitions, is_law
+from sources import CRATES, ITEM, LAW_MODULES, definitions, is_law, trust
 
 CALL = re.compile(rf"{definitions.WORD.pattern}(?=\(|::<)")
 KINDS = ("Function", "Type", "Laws", "Definitions", "Crate")
+# What names something in a document, as `fc_canon::{canon, same}`; and the columns of tables whose plain words do too, since
+# elsewhere such a word is one of a command.
+NAMES = re.compile(r"\w+(?:::\w+)*(?:::\{[\w, ]+\})?")
+COLUMNS = ("Function", "Definitions", "Crate", "Crates", "Laws", "Laws that are promises themselves", "Carried by")
 
 
 def module_path(module):
@@ -50,6 +55,15 @@ def rank(found, homes, column):
     return (place, near) if column == "Function" else (near, place)
 
 
+def as_it_is(text, heading="", column=None):
+    """What is between backticks, without links."""
+    return f"<code>{escape(text, False)}</code>"
+
+
+def crates_in(text):
+    return [word for word in re.findall(r"\w+", text) if word in CRATES]
+
+
 def proof_link(proof, words):
     return link(f"proof-{proof.crate}.html#{proof.anchor}", words)
 
@@ -67,6 +81,7 @@ class Links:
         for crate in CRATES:
             self.place_functions(crate)
         self.by_name = self.names()
+        self.private = {piece.target for piece in self.functions() if not piece.is_public}
         self.of_name = gathered((piece.crate, piece.name, piece) for piece in self.functions())
         self.cited = gathered((*other, home) for home in self.targets for other in self.definitions.cited_by(home))
         self.citing = gathered((*home, piece) for piece in self.functions() for home in piece.cites)
@@ -119,10 +134,25 @@ class Links:
         left = both or near or (found if len(found) == 1 else [])
         return min(left, key=lambda it: rank(it, homes, column), default=(None,) * 3)[2]
 
-    def code(self, text, heading="", column=None):
+    def code(self, text, heading=""):
         """What is between backticks, with links to what it names."""
-        crates = [word for word in re.findall(r"\w+", heading) if word in CRATES]
-        return f"<code>{linked(text, lambda word: self.name(word, crates, column))}</code>"
+        return f"<code>{linked(text, lambda word: self.name(word, crates_in(heading)))}</code>"
+
+    def named(self, text, heading="", column=None):
+        """What is between backticks in a document, with links where it names what has a contract, laws and what these cite; of a
+        command, an option or a path no word is one. After `::` are names of the crate before it."""
+        crates = crates_in(text) if "::" in text else []
+
+        def target(word):
+            found = self.name(word, crates or crates_in(heading), column)
+            is_near = not crates or found in [it[2] for it in self.by_name.get(word, []) if it[1] in crates]
+            return found if is_near and (column == "Function" or found not in self.private) else None
+        is_name = NAMES.fullmatch(text) and (column in COLUMNS or re.search("::|_|[A-Z]", text))
+        first, path, _ = text.partition("::")
+        is_known = column in COLUMNS or first in self.by_name and any(map(target, trust.names_in(f"`{text}`")))
+        if not is_name or path and not is_known:
+            return as_it_is(text)
+        return f"<code>{linked(text, target)}</code>"
 
     def comment(self, text, crate):
         """A comment: what is between backticks is linked as this crate names it."""

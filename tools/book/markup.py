@@ -14,9 +14,10 @@ STYLE = """:root {
 }
 body { margin: 0; background: var(--paper); color: var(--ink); font: 16px/1.5 system-ui, sans-serif }
 nav, main { max-width: 62rem; margin: 0 auto; padding: .5rem 1rem }
-nav { border-bottom: 1px solid var(--line) }
+nav { border-bottom: 1px solid var(--line); display: flex; flex-wrap: wrap }
 nav a { margin-right: 1rem; white-space: nowrap }
 a { color: var(--link); text-decoration: none }
+a, code { overflow-wrap: anywhere }
 a:hover { text-decoration: underline }
 h1, h2, h3, h4 { line-height: 1.25; overflow-wrap: anywhere }
 pre, code { font-family: ui-monospace, monospace; font-size: .88em }

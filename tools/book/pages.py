@@ -5,7 +5,7 @@ from html import escape
 
 import documents
 from chapters import Chapters, file_of
-from links import CALL, edit_link, gathered, lemma_target, module_path, page_of_code, proof_link, types_of
+from links import CALL, as_it_is, edit_link, gathered, lemma_target, module_path, page_of_code, proof_link, types_of
 from markup import code_block, faint, folded, from_page, items, link, linked, page, paragraph, section
 from sources import CRATES, LAW_MODULES, LEMMA, ROOT, comment_of, definitions, is_law, trust
 
@@ -196,7 +196,8 @@ class Book(Chapters):
     # ---- documents, and the start
 
     def document(self, path, text=None):
-        return documents.Document(path.name, self.code, self.statement).html(path.read_text() if text is None else text)
+        named = as_it_is if path.name in documents.OF_USERS else self.named
+        return documents.Document(path.name, named, self.statement).html(path.read_text() if text is None else text)
 
     def statement(self, kind, name):
         """A definition, a law or a lemma as it stands, linked to where it is."""
@@ -229,11 +230,10 @@ class Book(Chapters):
                 yield documents.PAGES[path.name], page(documents.title_of(path), self.document(path))
 
     def trusted_page(self):
-        """What README, TRUST and PROOFS say of what is not proved."""
-        readme, trust, proofs = ROOT / "README.md", ROOT / "docs" / "TRUST.md", ROOT / "docs" / "PROOFS.md"
-        proved = documents.section(readme, "What is proved")
-        parts = [self.document(readme, proved[proved.index("**Only tested**"):])]
-        for path, title in ((trust, "Not promised"), (trust, "Only tested"), (proofs, "Definitions that no law reaches"),
+        """What TRUST and PROOFS say of what is trusted, and of what is not proved."""
+        trust, proofs = ROOT / "docs" / "TRUST.md", ROOT / "docs" / "PROOFS.md"
+        parts = []
+        for path, title in ((trust, "What must I trust?"), (trust, "Not promised"), (trust, "Only tested"), (proofs, "Definitions that no law reaches"),
                             (proofs, "Planted bodies that are let through"), (proofs, "Mutation testing")):
             parts.append(f"<h2>{escape(title)}</h2>\n" + self.document(path, documents.section(path, title)))
         return "trusted.html", page("What is trusted, tested, neither", "".join(parts))
