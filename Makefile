@@ -105,7 +105,10 @@ help: ## prints this
 
 needs-rt:
 	@command -v rt >/dev/null || { \
-		echo "fcanon is written in Rattle: put the command rt of its toolchain on the PATH." >&2; exit 1; }
+		printf '%s\n' "fcanon is written in Rattle: put the command rt of its toolchain on the PATH." \
+			"That toolchain, which proves and compiles, is not public yet. Without it you can use what" \
+			"'make dist' packed elsewhere: program, library, bindings and page; 'make book' shows what" \
+			"is proved, and needs Python 3 alone." >&2; exit 1; }
 
 needs-python3:
 	@command -v python3 >/dev/null || { \
