@@ -6,9 +6,9 @@ mod BitsDecoded
 pub mod MovesDecoded
 pub mod PassageDecoded
 mod PutCards
-mod ChildrenLemmas
+pub mod ChildrenLemmas
 pub mod LegalMoves
-mod RunMoves
+pub mod RunMoves
 mod AskedColumns
 mod EmptyPiles
 pub mod SumLemmas

@@ -1,17 +1,16 @@
 -- What `closed` finds is so of all members of a collection.
-use Rattle.std.proofs.Common.{◌++◌, ◌+◌, ◌<◌, ◌==◌, ◌↔◌, ◌∙◌, ◌∷◌, ◌≡◌, [], ap, ap₂, arith, Bool}
+use Rattle.std.proofs.Common.{◌++◌, ◌+◌, ◌==◌, ◌↔◌, ◌∙◌, ◌∷◌, ◌≡◌, [], ap, ap₂, arith, Bool}
 use Rattle.std.proofs.Common.{codes, cond, false, is_some, length, List, map, None, not, Option}
 use Rattle.std.proofs.Common.{refl, slice_index, Some, subst, suc, sym, true, true≢false, zero, ℕ}
-use Rattle.std.proofs.lemmas.Bool.{eqb-true}
-use Rattle.std.proofs.lemmas.List.{Elements.{All-contains}, Folds.{list_any_at}}
+use Rattle.std.proofs.lemmas.{Bool.{eqb-true}, List.{Elements.{All-contains}, Folds.{list_any_at}}}
 use Rattle.std.proofs.lemmas.List.{get_or-map, length-map, Sums.{sum_by-cons}}
-use Rattle.std.specs.List.{Contains, count_by, filter, find, flat_map, list_all, list_any}
+use Rattle.std.specs.List.{Contains, count_by, filter, find}
 use Rattle.std.specs.{Option.{option_map, option_or, unwrap_or}, Str.{bytes_eq}}
 use Rattle.fc_board.proofs.{DeckLemmas.{stays_well_formed}, RunPlayLemmas.{after_step}}
 use Rattle.fc_board.proofs.StepLemmas.{not_refused_at_step, step_from}
-use Rattle.fc_board.specs.{Boards.{Board, IsWellFormed}, Games.{Game, game_of, variant_word}}
+use Rattle.fc_board.specs.{Boards.{Board, IsWellFormed}, Games.{game_of, variant_word}}
 use Rattle.fc_board.specs.laws.RenamingTests.{bakers_game_laws, eight_off_laws, freecell_laws}
-use Rattle.fc_board.specs.{Play.{has_all_home, IsWon}, Steps.{after_move, Step}}
+use Rattle.fc_board.specs.{Play.{has_all_home}, Steps.{Step}}
 use Rattle.fc_board.specs.declared.moves.Move.{Move}
 use Rattle.fc_board.specs.declared.rule.Variant.TheVariants.{BakersGame, EightOff, FreeCell}
 use Rattle.fc_board.specs.declared.rule.Variant.{Variant}
@@ -35,7 +34,8 @@ use Rattle.fc_laws.proofs.{MemberLemmas.{member-IsWellFormed}, SolutionLemmas.{a
 
 -- ---- lists
 
-none_at : {X : Type 0} (test : X → Bool) (xs : List X) → find test xs ≡ None → (x : X) → Contains xs x → test x ≡ false
+pub none_at : {X : Type 0} (test : X → Bool) (xs : List X) → find test xs ≡ None → (x : X) → Contains xs x
+    → test x ≡ false
 none_at test [] e x (k, below, is) = absurd (omega (arith, below))
 none_at {X} test (y ∷ ys) e x there = by (test y) refl e there (λ left later. none_at test ys left x later)
   where
@@ -102,7 +102,8 @@ module _ (variant : Variant) where
 -- ---- members without a flaw
 
 module _ (all : List Member) where
-  each_flawless : (members : List Member) → first_flawed all members ≡ None → (member : Member) → Contains members member → flaw_of all member ≡ None
+  pub each_flawless : (members : List Member) → first_flawed all members ≡ None → (member : Member)
+      → Contains members member → flaw_of all member ≡ None
   each_flawless [] e member (k, below, is) = absurd (omega (arith, below))
   each_flawless (first ∷ members) e member there = by (flaw_of all first) refl e there (λ left later. each_flawless members left member later)
     where
@@ -167,23 +168,66 @@ module _ (all : List Member) (wells : (member : Member) → Contains all member 
   not_true true e = refl
   not_true false e = cc
 
-  -- after a move from a member's board there is an equivalent one, if none leads out
-  next_there : (member : Member) → Contains all member → flaw_of all member ≡ None → (after : Board) (move : Move)
+  -- a move leads out exactly where no board of the member's game is equivalent to the one after it
+  pub stays_exactly : (member : Member) → Contains all member → (move : Move) (after : Board)
       → Step (game_of member.heading.variant) member.contents.board move after
-      → (other : Member) × Contains all other × (member.heading.variant ≡ other.heading.variant)
-      × Equivalent (game_of member.heading.variant) after other.contents.board
-  next_there member there none after move step =
+      → (leads_out all member move ≡ false) ↔ IsAmong (game_of member.heading.variant)
+      (boards_of member.heading.variant all) after
+  stays_exactly member there move after step = (ahead, back)
+    where
+      leads : (member_after member move).contents.board ≡ after
+      leads = after_step (game_of member.heading.variant) member.contents.board after move step
+
+      well : IsWellFormed (game_of member.heading.variant) (member_after member move).contents.board
+      well = subst (IsWellFormed (game_of member.heading.variant)) (sym leads)
+          (stays_well_formed (game_of member.heading.variant) member.contents.board after move
+          (wells member there) step)
+
+      ahead : leads_out all member move ≡ false
+          → IsAmong (game_of member.heading.variant) (boards_of member.heading.variant all) after
+      ahead stays =
+          let next = member_after member move in
+          let (other, inside, together) = any_where (λ other. belong_together other next) all
+          (not_true (has_one next all) stays) in
+          let (named, alike) = (together-Equivalent other next (wells other inside) well).0 together in
+          let back = Equivalent-sym (game_of other.heading.variant) other.contents.board next.contents.board
+          (wells other inside).piles alike in
+          let own = subst
+          (λ variant. Equivalent (game_of variant) next.contents.board other.contents.board) named back in (
+            other.contents.board,
+            owned member.heading.variant all other inside (sym named),
+            subst
+                (λ board. Equivalent (game_of member.heading.variant) board other.contents.board) leads own,
+          )
+
+      back : IsAmong (game_of member.heading.variant) (boards_of member.heading.variant all) after
+          → leads_out all member move ≡ false
+      back (held, among, alike) =
+          let next = member_after member move in
+          let (other, (k, below, is), same, is_held) = owner member.heading.variant all held among in
+          let own = subst (λ held. Equivalent (game_of member.heading.variant) next.contents.board held)
+          (sym is_held) (subst (λ board. Equivalent (game_of member.heading.variant) board held)
+          (sym leads) alike) in
+          let turned = Equivalent-sym
+          (game_of member.heading.variant) next.contents.board other.contents.board well.piles own in
+          let together = (together-Equivalent other next (wells other (k, below, is)) well).1 (
+            sym same,
+            subst
+                (λ variant. Equivalent (game_of variant) other.contents.board next.contents.board) same turned,
+          ) in
+          ap not (list_any_at (λ other. belong_together other next) all k other below
+          (ap (λ other. belong_together other next) is ∙ together))
+
+  -- each move from a member without a flaw leads to a board that is equivalent to one of its game's
+  pub next_among : (member : Member) → Contains all member → flaw_of all member ≡ None → (after : Board) (move : Move)
+      → Step (game_of member.heading.variant) member.contents.board move after
+      → IsAmong (game_of member.heading.variant) (boards_of member.heading.variant all) after
+  next_among member there none after move step =
       let game = game_of member.heading.variant in
       let board = member.contents.board in
-      let next = member_after member move in
-      let leads : next.contents.board ≡ after = after_step game board after move step in
-      let well = subst (IsWellFormed game) (sym leads) (stays_well_formed game board after move (wells member there) step) in
       let listed = all_listed game board move (step.fits, not_refused_at_step game board after move step) in
-      let stays = none_at (leads_out all member) (legal_moves game board) (flawless_parts all member none).1 move listed in
-      let (other, inside, together) = any_where (λ other. belong_together other next) all (not_true (has_one next all) stays) in
-      let (named, alike) = (together-Equivalent other next (wells other inside) well).0 together in
-      let back = Equivalent-sym (game_of other.heading.variant) other.contents.board next.contents.board (wells other inside).piles alike in
-      (other, inside, sym named, subst (λ board. Equivalent game board other.contents.board) leads (subst (λ variant. Equivalent (game_of variant) next.contents.board other.contents.board) named back))
+      (stays_exactly member there move after step).0
+      (none_at (leads_out all member) (legal_moves game board) (flawless_parts all member none).1 move listed)
 
   pub each_game_closed : first_flawed all all ≡ None → (of : Variant) → IsClosed (game_of of) (boards_of of all)
   each_game_closed none of = record {
@@ -194,8 +238,8 @@ module _ (all : List Member) (wells : (member : Member) → Contains all member 
     stays = λ board after move inside step.
         let (member, there, same, held) = owner of all board inside in
         let step' = subst (λ variant. Step (game_of variant) member.contents.board move after) same (subst (λ board. Step (game_of of) board move after) (sym held) step) in
-        let (other, among, named, alike) = next_there member there (each_flawless all all none member there) after move step' in
-        (other.contents.board, owned of all other among (same ∙ named), subst (λ variant. Equivalent (game_of variant) after other.contents.board) (sym same) alike);
+        subst (λ variant. IsAmong (game_of variant) (boards_of variant all) after) (sym same)
+        (next_among member there (each_flawless all all none member there) after move step');
   }
 
   -- and where the boards of each game are closed, no member has a flaw
@@ -216,15 +260,8 @@ module _ (all : List Member) (wells : (member : Member) → Contains all member 
           stays move listed =
               let (fits, allowed) = All-contains (IsAllowed (game_of member.heading.variant) member.contents.board) (legal_moves (game_of member.heading.variant) member.contents.board) move (all_legal (game_of member.heading.variant) member.contents.board) listed in
               let (after, step) = step_from (game_of member.heading.variant) member.contents.board move fits allowed in
-              let next = member_after member move in
-              let leads : next.contents.board ≡ after = after_step (game_of member.heading.variant) member.contents.board after move step in
-              let well = subst (IsWellFormed (game_of member.heading.variant)) (sym leads) (stays_well_formed (game_of member.heading.variant) member.contents.board after move (wells member there) step) in
-              let (held, among, alike) = (closed member.heading.variant).stays member.contents.board after move inside step in
-              let (other, (k, below, is), same, is_held) = owner member.heading.variant all held among in
-              let alike' = subst (λ held. Equivalent (game_of member.heading.variant) next.contents.board held) (sym is_held) (subst (λ board. Equivalent (game_of member.heading.variant) board held) (sym leads) alike) in
-              let back = Equivalent-sym (game_of member.heading.variant) next.contents.board other.contents.board well.piles alike' in
-              let together = (together-Equivalent other next (wells other (k, below, is)) well).1 (sym same, subst (λ variant. Equivalent (game_of variant) other.contents.board next.contents.board) same back) in
-              ap not (list_any_at (λ other. belong_together other next) all k other below (ap (λ other. belong_together other next) is ∙ together))
+              (stays_exactly member there move after step).1
+              ((closed member.heading.variant).stays member.contents.board after move inside step)
 
 -- ---- the accepted records of a collection
 
@@ -237,7 +274,8 @@ module _ (variant : Variant) (records : List RecordText) where
   abbrev pub members : List Member
   members = members_among variant records
 
-  wells : (member : Member) → Contains members member → IsWellFormed (game_of member.heading.variant) member.contents.board
+  pub wells : (member : Member) → Contains members member
+      → IsWellFormed (game_of member.heading.variant) member.contents.board
   wells = member-IsWellFormed variant records
 
   pub member_unsolvable : first_flawed members members ≡ None → (member : Member) → Contains members member

@@ -8,6 +8,7 @@ pub mod ClosedRowLemmas
 pub mod CommentLemmas
 pub mod ExampleLemmas
 pub mod ExpandLemmas
+pub mod FlawedLemmas
 pub mod HalfLemmas
 pub mod HeaderLemmas
 pub mod HeaderSaysLemmas
@@ -15,6 +16,7 @@ pub mod HeadlineLemmas
 pub mod JoiningLemmas
 pub mod JsonLemmas
 pub mod LeaderLemmas
+pub mod ListingLemmas
 pub mod MemberLemmas
 pub mod NamedLineLemmas
 pub mod ObjectLemmas

@@ -1,19 +1,22 @@
 //! Laws of boards, passages and moves as plain bytes.
-ghost use Rattle.std.specs.Prelude.{◌↔◌, ◌∷◌, ◌≡◌, [], replicate};
+ghost use Rattle.std.specs.List.{Contains, Sorted.{IsStrictlyIncreasing}};
+ghost use Rattle.std.specs.Prelude.{◌↔◌, ◌∷◌, ◌≡◌, ◌≤◌, [], map, replicate, Some, ℕ};
 ghost use Rattle.fc_card.specs.declared.suit.Suit.TheVariants.{C, D, H, S};
 ghost use Rattle.fc_board.specs.{Boards.{Board, IsWellFormed}, Games.{word}};
-ghost use Rattle.fc_board.specs.Passages.{carried, IsPassage, Passage};
+ghost use Rattle.fc_board.specs.{Passages.{carried, IsPassage, Passage}, Steps.{RunStep, Step}};
 ghost use Rattle.fc_board.specs.declared.{moves.Move.{Move}, run_move.RunMove.{RunMove}};
-ghost use Rattle.fc_board.specs.declared.run_move.RunMove.TheVariants.{One};
+ghost use Rattle.fc_board.specs.declared.run_move.RunMove.TheVariants.{One, Run};
 ghost use Rattle.fc_canon.specs.{Chosen, Equivalent};
 ghost use Rattle.fc_bytes.specs.{board_bytes, board_hash, HoldsBoard, HoldsMove, HoldsPassage};
-ghost use Rattle.fc_bytes.specs.{HoldsRun, move_bytes, passage_bytes, run_bytes};
+ghost use Rattle.fc_bytes.specs.{HoldsRun, legal_moves, legal_runs, move_bytes, passage_bytes};
+ghost use Rattle.fc_bytes.specs.{run_bytes};
 ghost use Rattle.fc_bytes.specs.declared.board.BoardBytes.{BoardBytes};
 ghost use Rattle.fc_bytes.specs.declared.moves.MoveBytes.{MoveBytes};
 ghost use Rattle.fc_bytes.specs.declared.passage.PassageBytes.{PassageBytes};
 ghost use Rattle.fc_bytes.specs.declared.runs.RunBytes.{RunBytes};
 ghost use Rattle.fc_laws.specs.BoardExamples.{move_3a, move_kh, run, run_of_count, two_spades_left};
 ghost use Rattle.fc_laws.specs.CanonicalExamples.{clubs_king_left};
+ghost use Rattle.fc_laws.specs.Listings.{move_order, run_order};
 
 use fc_board::Rule;
 
@@ -104,4 +107,19 @@ pub fn bytes_of_moves()
     ensures one_card { run_bytes (One move_3a) ≡ record { from = 51; to = 97; count = 0 } }
     ensures no_number { run_bytes (run 2 0) ≡ record { from = 51; to = 49; count = 0 } }
     ensures thirteen { run_bytes (run_of_count 13 2 0) ≡ record { from = 51; to = 49; count = 13 } }
+{}
+
+/// The moves that are listed of a board are those that the rules allow, each once, in the order of
+/// piles: of one card by where it is from and then by where it goes, of several by their columns
+/// and then by how many they are, which each of them says.
+pub fn each_legal_move_is_listed_once<R: Rule>()
+    ensures one_card { (board : Board) (move : Move) → Contains (legal_moves R.game board) move
+        ↔ ((after : Board) × Step R.game board move after) }
+    ensures in_order { (board : Board)
+        → IsStrictlyIncreasing (map (move_order R.game) (legal_moves R.game board)) }
+    ensures runs { (board : Board) (run : RunMove) → Contains (legal_runs R.game board) run
+        ↔ ((from to count : ℕ) × (run ≡ Run from to (Some count)) × (2 ≤ count)
+        × ((after : Board) × RunStep R.game board run after)) }
+    ensures runs_in_order { (board : Board)
+        → IsStrictlyIncreasing (map run_order (legal_runs R.game board)) }
 {}

@@ -1,18 +1,20 @@
 //! Laws of what `closed` finds of a collection.
 ghost use Rattle.std.specs.List.{Contains, count_by};
-ghost use Rattle.std.specs.Prelude.{◌++◌, ◌↔◌, ◌≡◌, All, codes, length, List, Some, ℕ};
+ghost use Rattle.std.specs.Prelude.{◌++◌, ◌<◌, ◌↔◌, ◌≡◌, All, codes, length, List, Some, ℕ};
 ghost use Rattle.fc_board.specs.{Games.{game_of}, Play.{IsWon}, Steps.{Step}};
 ghost use Rattle.{fc_board.specs.declared.rule.Variant.{Variant}, fc_canon.specs.{Equivalent}};
 ghost use Rattle.fc_bytes.specs.{legal_moves, move_bytes};
 ghost use Rattle.fc_closed.specs.{IsClosed, IsUnsolvable};
 ghost use Rattle.fc_record.specs.{Printing.{is_refused}, RecordTexts.{RecordText}};
-ghost use Rattle.fc_collect.specs.Closed.{boards_of, Closed, finding_of};
+ghost use Rattle.fc_collect.specs.Closed.{boards_of, Closed, finding_of, Flawed, Refused};
 ghost use Rattle.fc_collect.specs.Groups.{groups_of, members_among, summary_of};
 ghost use Rattle.fc_collect.specs.{Promises.{OutputOf}, Records.{records_from}, Runs.{printing_of}};
 ghost use Rattle.fc_collect.specs.declared.commands.CountFormat.TheVariants.{Words};
 ghost use Rattle.fc_collect.specs.declared.commands.RunKind.TheVariants as runs;
+ghost use Rattle.fc_collect.specs.declared.commands.closed.Flaw.{Flaw};
 ghost use Rattle.fc_collect.specs.declared.streams.faults.Summary.{Summary};
 ghost use Rattle.fc_collect.specs.declared.streams.limits.Limits.{Limits};
+ghost use Rattle.fc_laws.specs.Findings.{IsFirstFlawed, IsShutIn};
 
 /// Where a run of `closed` writes `closed`, no list of moves, of one card or of several, wins from
 /// the board of any accepted record, and none is refused. It writes that exactly where it ends with
@@ -49,4 +51,19 @@ pub fn closed_is_found_exactly()
         ≡ Closed count classes
         → (count ≡ length records)
         × (classes ≡ length (groups_of (members_among variant records))) }
+{}
+
+/// A record that is named is the first that is in the way: where `won` names it, its board is won;
+/// where `open` names it with a move, that is the first of its legal moves that leads to a board
+/// which is equivalent to none of its game's. None is in the way where refused records are counted.
+pub fn what_is_named_is_in_the_way_first()
+    ensures named { (variant : Variant) (records : List RecordText) (name : List ℕ) (flaw : Flaw)
+        → finding_of (summary_of variant records) (members_among variant records)
+        ≡ Flawed name flaw
+        → IsFirstFlawed (members_among variant records) name flaw }
+    ensures refused { (variant : Variant) (records : List RecordText) (count : ℕ)
+        → finding_of (summary_of variant records) (members_among variant records)
+        ≡ Refused count
+        → (count ≡ count_by (is_refused variant) records) × (0 < count)
+        × All (IsShutIn (members_among variant records)) (members_among variant records) }
 {}
