@@ -1,6 +1,6 @@
 # `make` proves and builds the program build/fcanon; `make help` lists the other targets.
 .POSIX:
-.PHONY: all demo library page book paper deals settled test bench chaos edits mutants install uninstall \
+.PHONY: all demo library page book paper deals settled unsolvable test bench chaos edits mutants install uninstall \
 	install-program install-library dist clean help needs-rt needs-python3 needs-cc needs-fc-solve \
 	needs-pdflatex
 
@@ -59,6 +59,9 @@ deals: all needs-python3 needs-fc-solve ## makes a store of Microsoft's deals, s
 settled: all library needs-python3 needs-cc ## settles deals by proof, in build/settled: GAME=freecell FIRST=1 LAST=32000
 	@tools/settled build/settled $(GAME) $(FIRST) $(LAST)
 
+unsolvable: all library needs-python3 needs-cc ## makes closed lists of the eight unsolvable deals, in build/deals
+	@tools/unsolvable build/deals
+
 test: needs-rt needs-python3 needs-cc ## proves all from nothing, tries wrong bodies, runs all tests
 	@tests/all
 
@@ -68,6 +71,7 @@ bench: library needs-python3 needs-cc ## measures records a second, memory and c
 	@tests/calls/run
 	@tests/yardstick/run build/fcanon
 	@tests/library/bench build
+	@tests/library/searches build
 	@tests/store/bench build/fcanon
 
 chaos: library needs-python3 needs-cc ## tries input made by chance, for so many minutes: MINUTES=60
