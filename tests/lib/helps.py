@@ -1,12 +1,10 @@
-"""What the help of the program, and that of fcanon-store, says part by part."""
+"""What the help of the program, and those of the scripts, say part by part."""
 
 import re
 import subprocess
 from typing import NamedTuple
 
 from lib.paths import SCRIPTS
-
-STORE = SCRIPTS / "fcanon-store"
 
 
 class Option(NamedTuple):
@@ -31,11 +29,11 @@ def answer(words, text="", **more):
 
 
 def option_of(names, about):
-    value = re.search(r" <?([A-Z]+)>?", names)
+    value = re.search(r" <?([A-Z]+)>?", names) or re.search(r"--(\w+) {", names)
     default = re.search(r" \[default: (.*?)\]", about)
-    values = re.search(r" \[possible values: (.*?)\]", about)
-    return Option(tuple(re.findall(r"--?\w[\w-]*", names)), value[1] if value else "", about.split(" [")[0],
-                  default[1] if default else "", tuple(values[1].split(", ")) if values else ())
+    values = re.search(r" \[possible values: (.*?)\]", about) or re.search(r"{(.*)}", names)
+    return Option(tuple(re.findall(r"--?\w[\w-]*", names)), value[1].upper() if value else "", about.split(" [")[0],
+                  default[1] if default else "", tuple(re.split(", ?", values[1])) if values else ())
 
 
 def read_help(text, usage="Usage", commands="Commands", arguments="Arguments", options="Options"):
@@ -56,11 +54,13 @@ def helps_of(program):
     return top, {name: read_help(answer([program, "help", name])) for name in top.commands if name != "help"}
 
 
-def helps_of_store():
-    """The same of fcanon-store."""
-    def asked(*words):
-        return read_help(answer([STORE, *words, "--help"]), "usage", "positional arguments", "positional arguments",
-                         "option(?:s|al arguments)")
+def help_of_script(name, *words):
+    """The help of a script, or of a command of it."""
+    return read_help(answer([SCRIPTS / name, *words, "--help"]), "usage", "positional arguments", "positional arguments",
+                     "option(?:s|al arguments)")
 
-    top = asked()
-    return top, {name: asked(name) for name in top.commands}
+
+def helps_of_store():
+    """The help of fcanon-store, and that of each of its commands."""
+    top = help_of_script("fcanon-store")
+    return top, {name: help_of_script("fcanon-store", name) for name in top.commands}
