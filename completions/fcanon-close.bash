@@ -10,7 +10,7 @@ _fcanon_close() {
     case $COMP_CWORD.$before.$word in
     *.--variant.*) words='freecell bakers_game eight_off' ;;
     *.--most.*) ;;
-    *.*.-*) words='-h --help --variant --most --version' ;;
+    *.*.-*) words='-h --help --variant --most --collection --version' ;;
     esac
     COMPREPLY=($(compgen -W "$words" -- "$word"))
 }
