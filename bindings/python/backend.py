@@ -1,13 +1,13 @@
 """backend: builds the wheel of this package, by `pip wheel .`, or `python3 backend.py FOLDER`;
-`python3 backend.py --sdist FOLDER` its source distribution, and `python3 backend.py --module FILE`
-one extension module alone, _calls.abi3.so or _runs.abi3.so.
+`python3 backend.py --sdist FOLDER` its source distribution, `python3 backend.py --module FILE` one
+extension module alone, _calls.abi3.so or _runs.abi3.so, and `python3 backend.py --metadata FOLDER` the
+folder by which pip knows of an installed package.
 
 The modules are compiled by the C compiler CC, of calls.c with the archive libfcanon.a and of runs.c
 with libfcanon_runs.a: those of the folder FCANON_LIB, or those which `make library` left in the
-repository, or the installed ones. Where there is no libfcanon_runs.a, the package has no whole
-commands. A source distribution has fcanon-portable.c, by tools/portable, in the place of the archives.
-A module is for the machine that CC compiles for, and serves every Python from 3.8 on. Nothing is
-downloaded, and the same files make the same bytes.
+repository, or the installed ones. A source distribution has two files of C, by tools/portable, in the
+place of the archives. A module is for the machine that CC compiles for, and serves every Python from
+3.8 on. Nothing is downloaded, and the same files make the same bytes.
 """
 
 import base64
@@ -28,11 +28,16 @@ from pathlib import Path
 HERE = Path(__file__).resolve().parent
 TOP = HERE.parent.parent
 CC = shlex.split(os.environ.get("CC", "cc"))
-FLAGS = ["-std=gnu11", "-O2", "-fPIC", "-shared", "-fvisibility=hidden", "-Wl,--exclude-libs,ALL",
-         "-Wl,-s,-z,relro,-z,now", "-Wl,--build-id=none"]
-PORTABLE = ["fcanon-portable.c", "fcanon.h"]
-# Each module: its source, and the archive that it is linked with.
-MODULES = {"_calls.abi3.so": ("calls.c", "libfcanon.a"), "_runs.abi3.so": ("runs.c", "libfcanon_runs.a")}
+FLAGS = ["-std=gnu11", "-O2", "-fvisibility=hidden"]
+LINKED = {  # how a module is linked, by a part of the name of the machine that CC compiles for
+    "darwin": ["-fPIC", "-bundle", "-undefined", "dynamic_lookup"],
+    "mingw": ["-shared", "-s", f"-L{sys.base_prefix}/libs", "-lpython3"],
+    "": ["-fPIC", "-shared", "-Wl,--exclude-libs,ALL", "-Wl,-s,-z,relro,-z,now", "-Wl,--build-id=none"],
+}
+# Each module: its source, the archive that it is linked with, and the file of C that is in its place.
+MODULES = {"_calls.abi3.so": ("calls.c", "libfcanon.a", "fcanon-portable.c"),
+           "_runs.abi3.so": ("runs.c", "libfcanon_runs.a", "fcanon-runs-portable.c")}
+PORTABLE = ["fcanon-portable.c", "fcanon-runs-portable.c", "fcanon.h", "fcanon_runs.h"]
 NOON = (1980, 1, 1, 0, 0, 0)  # the first time that a wheel can have
 
 
@@ -68,33 +73,39 @@ def library():
     return found[0]
 
 
+def linking():
+    """The words by which CC links a module."""
+    machine = subprocess.run([*CC, "-dumpmachine"], stdout=subprocess.PIPE, check=True, text=True).stdout
+    return next(words for part, words in LINKED.items() if part in machine)
+
+
 def module(name):
-    """An extension module, as CC compiles it, or None where its library is not here."""
+    """An extension module, as CC compiles it."""
     folder = library()
-    source, archive = MODULES[name]
-    linked = folder / archive
+    source, archive, portable = MODULES[name]
+    linked = folder / (portable if folder == HERE else archive)
     if not linked.exists():
-        linked = folder / PORTABLE[0]
-        if name != "_calls.abi3.so":
-            return None
+        raise SystemExit(f"{archive} is not found beside libfcanon.a")
     headers = [sysconfig.get_path("include"), folder, folder.parent / "include"]
     with tempfile.TemporaryDirectory() as room:
         made = Path(room) / "made"
-        words = [*CC, *FLAGS, *(f"-I{it}" for it in headers), HERE / source, linked, "-o", made]
+        words = [*CC, *FLAGS, *(f"-I{it}" for it in headers), HERE / source, linked, *linking(), "-o", made]
         subprocess.run([str(it) for it in words], check=True)
         return made.read_bytes()
 
 
 def modules():
-    made = {name: module(name) for name in MODULES}
-    return {name: it for name, it in made.items() if it}
+    """Both, by the names that Python finds them by."""
+    ending = ".pyd" if "-lpython3" in linking() else ".abi3.so"
+    return {name.replace(".abi3.so", ending): module(name) for name in MODULES}
 
 
 # ---- the wheel
 
 
 def tag(made):
-    """The machine that a module is for: of the known ones every Linux from glibc 2.17 on."""
+    """The machine that modules are for: of the known ones every Linux from glibc 2.17 on."""
+    made = next(iter(made.values()))
     machine = {62: "x86_64", 183: "aarch64"}.get(made[18])  # as the ELF format has it
     if machine and library() != HERE:
         return f"cp38-abi3-manylinux2014_{machine}"
@@ -122,6 +133,22 @@ def metadata():
     return ("\n".join(lines) + f"\n\n{(HERE / 'README.md').read_text()}").encode()
 
 
+def info():
+    """What pip is told of the package, by the names of its files."""
+    folder = f"fcanon-{field('version')}.dist-info"
+    texts = {f"{folder}/licenses/{it.name}": it.read_bytes() for it in licences()}
+    return {f"{folder}/METADATA": metadata(), **texts}
+
+
+def prepare_metadata_for_build_wheel(metadata_directory, config_settings=None):
+    files = info()
+    for name, data in files.items():
+        file = Path(metadata_directory) / name
+        file.parent.mkdir(parents=True, exist_ok=True)
+        file.write_bytes(data)
+    return next(iter(files)).split("/")[0]
+
+
 def package():
     """The package's own files, but for its modules."""
     return [it for it in sorted((HERE / "fcanon").iterdir()) if it.is_file() and it.suffix != ".so"]
@@ -129,14 +156,13 @@ def package():
 
 def write_wheel(folder, files, tagged):
     """Writes a wheel of these files, by their names, and of what each wheel has."""
-    info = f"fcanon-{field('version')}.dist-info"
-    files[f"{info}/METADATA"] = metadata()
-    files[f"{info}/WHEEL"] = (
+    files.update(info())
+    place = f"fcanon-{field('version')}.dist-info"
+    files[f"{place}/WHEEL"] = (
         f"Wheel-Version: 1.0\nGenerator: fcanon\nRoot-Is-Purelib: false\nTag: {tagged}\n"
     ).encode()
-    files.update({f"{info}/licenses/{it.name}": it.read_bytes() for it in licences()})
     lines = [f"{name},sha256={sum_of(it)},{len(it)}\n" for name, it in files.items()]
-    files[f"{info}/RECORD"] = "".join([*lines, f"{info}/RECORD,,\n"]).encode()
+    files[f"{place}/RECORD"] = "".join([*lines, f"{place}/RECORD,,\n"]).encode()
     name = f"fcanon-{field('version')}-{tagged}.whl"
     with zipfile.ZipFile(Path(folder) / name, "w", zipfile.ZIP_DEFLATED) as wheel:
         for path, data in files.items():
@@ -151,7 +177,7 @@ def build_wheel(wheel_directory, config_settings=None, metadata_directory=None):
     made = modules()
     files = {f"fcanon/{it.name}": it.read_bytes() for it in package()}
     files.update({f"fcanon/{name}": data for name, data in made.items()})
-    return write_wheel(wheel_directory, files, tag(made["_calls.abi3.so"]))
+    return write_wheel(wheel_directory, files, tag(made))
 
 
 def build_editable(wheel_directory, config_settings=None, metadata_directory=None):
@@ -159,7 +185,7 @@ def build_editable(wheel_directory, config_settings=None, metadata_directory=Non
     made = modules()
     for name, data in made.items():
         (HERE / "fcanon" / name).write_bytes(data)
-    return write_wheel(wheel_directory, {"fcanon.pth": f"{HERE}\n".encode()}, tag(made["_calls.abi3.so"]))
+    return write_wheel(wheel_directory, {"fcanon.pth": f"{HERE}\n".encode()}, tag(made))
 
 
 # ---- the source distribution
@@ -195,10 +221,9 @@ def build_sdist(sdist_directory, config_settings=None):
 def main(words):
     if words[0] == "--module":
         file = Path(words[1])
-        made = module(file.name)
-        if not made:
-            raise SystemExit(f"{MODULES[file.name][1]} is not found beside libfcanon.a")
-        file.write_bytes(made)
+        file.write_bytes(module(file.name))
+    elif words[0] == "--metadata":
+        print(prepare_metadata_for_build_wheel(words[1]))
     elif words[0] == "--sdist":
         print(build_sdist(words[1]))
     else:
