@@ -10,9 +10,10 @@ import { bytesOf, endingOf, GREATER, joined, LINE_FEED, linesIn } from './lines.
 import { anyPassage, areEqual, inAnyOrder, isColumn, PLACE, upTo } from './passages.mjs';
 import { exchangedOf, shown } from './shown.mjs';
 import { apply, AT_FIRST, store } from './store.mjs';
-import { exchangedWords, inFigures, moveWords } from './words.mjs';
+import { exchangedWords, inFigures, moveWords, verdictWords } from './words.mjs';
 
 const STAGGER_MILLISECONDS = 40;
+const MOST_SEEN = 40; // boards that are drawn or counted
 const FIRST_NAME = 45; // of a name, so that the words after it have room
 const ALL_ARE_HOME = 'All 52 cards are home, on both boards.';
 
@@ -20,16 +21,17 @@ const ALL_ARE_HOME = 'All 52 cards are home, on both boards.';
 
 const isSame = (record, board) => areEqual(fcanon.canon(record.game, board).canonical, record.canonical);
 
+const seenWith = (one) => [...store.state.seen, one].slice(-MOST_SEEN);
+
 // What a shuffle changes, and what is said of it.
 export function shuffleBy(passage) {
   const { record, isCanonical } = shown;
-  const { exchange, seen } = store.state;
   const times = store.state.times + 1;
   const isRight = isSame(record, fcanon.image(record.game, record.board, passage));
   const still = isCanonical ? 'same canonical board.' : 'the right board has not moved.';
   const often = times === 1 ? 'once' : `${inFigures(times)} times`;
   const says = `Shuffled ${often}: ${isRight ? still : 'NOT the same canonical board!'}`;
-  const change = { shuffle: passage, times, seen: [...seen, { shuffle: passage, exchange }] };
+  const change = { shuffle: passage, times, seen: seenWith({ shuffle: passage, exchange: store.state.exchange }) };
   return { what: 'the shuffle', says, isBad: !isRight, change, stagger: STAGGER_MILLISECONDS, isBeside: true };
 }
 
@@ -40,11 +42,11 @@ export function exchangeBy(one, other) {
   const { sides, base, chosen, step } = shown;
   const board = sides.own.slice();
   [board[one], board[other]] = [board[other], board[one]];
-  const exchange = { board, cards: [board[one], board[other]], list: chosen, step };
-  const isOne = isSame(exchangedOf(base, exchange), sides.own);
+  const isOne = isSame(exchangedOf(base, { board }), sides.own);
+  const exchange = { board, cards: [board[one], board[other]], list: chosen, step, isOne };
   const words = exchangedWords(exchange.cards, sides.left.passage);
   const said = isOne ? 'the same puzzle under other names.' : 'another puzzle, and another canonical board.';
-  const seen = [...store.state.seen, { shuffle: store.state.shuffle, exchange }];
+  const seen = seenWith({ shuffle: store.state.shuffle, exchange });
   const change = { exchange, list: 0, step: 0, seen, isSorted: false };
   return { what: `the swap of ${words}`, says: `${words} swapped: ${said}`, change };
 }
@@ -94,7 +96,7 @@ export function stepTo(place, isBeside = false) {
 export function carryTo(member) {
   const { record, lists, chosen } = shown;
   const list = carriedTo(member, lists[chosen].list);
-  const carried = { list, label: `from ${record.name}: ${verdictOf(member.game, member.board, list)}` };
+  const carried = { list, label: `from ${record.name}: ${verdictWords(verdictOf(member.game, member.board, list))}` };
   choose(member, { carried, list: member.lists.length });
 }
 
@@ -114,8 +116,8 @@ export const chooseGame = (game) => apply({ what: 'the choice of a game', change
 
 // Adds a record at the end of the text, where it has room there, and shows it.
 export function append(what, { game, name }, board, lists = [], more = {}) {
-  const { bytes, starts, isBeingRead } = collection;
-  if (isBeingRead) return say('The collection is being read.', true);
+  const { bytes, starts, reading } = collection;
+  if (reading) return say('The collection is being read.', true);
   const isEnded = bytes.length === 0 || bytes[bytes.length - 1] === LINE_FEED;
   const before = (isEnded ? '' : '\n') + (bytes.length > 0 ? '\n' : '');
   const added = before + headerLine({ game, name }) + fcanon.write(game, board) + lists.map(listLine).join('');
@@ -151,7 +153,7 @@ function asRuns(list, count) {
 // else the list that was begun here grows, or a new list begins. No list loses a move.
 export function makeMove(move) {
   const { record, lists, chosen, step, sides, shuffle: passage } = shown;
-  if (collection.isBeingRead) return say('The collection is being read.', true);
+  if (collection.reading) return say('The collection is being read.', true);
   if (step >= MOST.moves) return say('The list is full.', true);
   const moves = [...lists.length > 0 ? asRuns(lists[chosen].list, step) : [], ...move];
   const onLeft = fcanon.carry(record.game, passage, listOf(move));

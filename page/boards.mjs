@@ -6,6 +6,7 @@ import { cardsByPile, cardText, HOMES, isColumn, keyAfter, pileKeys, renamed, su
 import { pileName } from './words.mjs';
 
 const TURN_MILLISECONDS = 150;
+const FLIGHT = { column: 330, card: 15, glide: 800, suits: 3_400, cells: 3_900 }; // milliseconds: what begins when
 const suitShapes = new Map([...SUITS].map((suit) => [suit, at(suit).firstChild.getAttribute('d')]));
 
 // A card that has this number on the record's own board; on other boards it may have another suit.
@@ -23,7 +24,7 @@ function pileElement(key, bands) {
   const isHome = key[0] === 'h';
   const x = isHome ? 4 + HOMES.indexOf(key[1]) : isColumn(key) ? Number(key) - 1 : CELLS.indexOf(key);
   const y = isHome ? bands - 1 : isColumn(key) ? bands : 0;
-  const sign = element('span', { className: 'place' }, isHome ? drawing(key[1], 'pip') : key);
+  const sign = element('span', { className: 'place' }, isHome ? drawing(key[1], 'pip') : key, element('span'));
   const className = isColumn(key) ? 'pile column' : 'pile';
   const pile = element('div', { className, tabIndex: -1, role: 'button', x, y }, sign);
   Object.assign(pile.dataset, { key, name: pileName(key) });
@@ -73,37 +74,33 @@ export class BoardView {
     this.table.replaceChildren(...this.piles.values(), element('div', { ariaHidden: 'true' }, ...this.cards));
   }
 
-  // Where nothing flies a card keeps its face, and takes the number of the card that has this face now.
-  keepFaces(passage) {
-    const byFace = new Map(this.cards.map((card) => [card.dataset.card, card]));
-    this.cards = this.cards.map((_, place) => byFace.get(cardText(renamed(place + 1, passage))));
-    this.cards.forEach((card, place) => { card.dataset.own = place + 1; });
-  }
-
   // Draws a board to which the passage leads from the record's own one. Cards fly, one column after another where a
   // stagger is given, and turn where their suits are others. Of each pile as many cards can be gripped as a move takes.
-  draw({ game, board, passage, label, wordsOf, grips, stagger = 0, most }) {
+  // A column and its cards have the colour of its place on the right board, which is said where it is another one.
+  draw({ game, board, passage, label, wordsOf, placeOf, grips, stagger = 0, most }) {
     const isFirst = this.game === null;
     this.lay(game);
     this.passage = passage;
     this.holder.ariaLabel = label;
     this.table.style.setProperty('--most', most);
     this.table.classList.toggle('slow', stagger > 0);
-    if (!isFirst && prefersStill.matches) this.keepFaces(passage);
     for (const [key, cards] of cardsByPile(game, board)) {
       const pile = this.piles.get(key);
+      const place = pile.dataset.place = placeOf(key);
+      pile.firstChild.lastChild.textContent = place && place !== key ? `→${place}` : '';
       pile.ariaLabel = pile.words = wordsOf(key, cards);
       const squeeze = key < '9' ? Math.min(1, most / Math.max(1, cards.length - 1)) : 0;
       cards.forEach((card, row) => {
         const made = this.cards[card - suitOf(card) + passage.subarray(0, 4).indexOf(suitOf(card)) - 1];
         const left = cards.length - row; // from this card on
         const classes = { home: key[0] === 'h', last: left === 1 && key[0] !== 'h', grip: left <= grips.get(key) };
-        const drawn = [pile.x, pile.y, squeeze * row, key, cardText(card), ...Object.values(classes)].join();
+        const now = { card: cardText(card), key, row, place };
+        const drawn = [pile.x, pile.y, squeeze * row, ...Object.values(now), ...Object.values(classes)].join();
         if (made.drawn === drawn) return;  // it stays as it is
         made.drawn = drawn;
         for (const [name, isSo] of Object.entries(classes)) made.classList.toggle(name, isSo);
         placeAt(made, pile.x, pile.y, squeeze * row);
-        this.move(made, { card: cardText(card), key, row }, stagger * pile.x, isFirst || prefersStill.matches);
+        this.move(made, now, stagger * pile.x, isFirst || prefersStill.matches);
       });
     }
   }
@@ -121,24 +118,36 @@ export class BoardView {
     if (before.key !== now.key && !isStill) raise(made, 200, 500 + delay);
   }
 
-  // The cards glide here from where they are on another drawn board, and turn on the way.
-  carryFrom(view) {
-    if (prefersStill.matches) return Promise.resolve();
+  // The cards glide here from where they are on another drawn board, over a ghost of this one: one column after
+  // another, then all suits change their names, and the cells and homes come last.
+  async carryFrom(view) {
+    this.land();
+    if (prefersStill.matches) return;
     const starts = this.cards.map((card, place) => {
       const [here, there] = [card, view.cards[place]].map((it) => it.getBoundingClientRect());
       return `translate(${there.x - here.x}px, ${there.y - here.y}px) scale(${there.width / here.width})`;
     });
-    return Promise.all(this.cards.map((card, place) => {
-      const delay = 90 * this.piles.get(card.dataset.key).x + 20 * card.dataset.row;
-      const before = view.cards[place].dataset.card;
+    const copies = this.cards.map((it) => it.cloneNode(true));
+    const ghost = element('div', { className: 'ghost', ariaHidden: 'true' }, ...copies);
+    this.table.firstChild.before(ghost);
+    await Promise.all(this.cards.map((card, place) => {
+      const [before, { key, row }] = [view.cards[place].dataset.card, card.dataset];
+      const delay = isColumn(key) ? FLIGHT.column * (Number(key) - 1) + FLIGHT.card * row : FLIGHT.cells;
       if (before !== card.dataset.card) {
         showSuit(card, before[1]);
-        turnCard(card, delay + 450);
+        turnCard(card, FLIGHT.suits);
       }
-      raise(card, 300, 900 + delay);
-      const timing = { duration: 900, delay, easing: 'cubic-bezier(.5, 0, .2, 1)', fill: 'backwards' };
+      raise(card, 300, FLIGHT.glide + delay);
+      const timing = { duration: FLIGHT.glide, delay, easing: 'cubic-bezier(.5, 0, .2, 1)', fill: 'backwards' };
       return card.animate({ transform: [starts[place], 'none'] }, timing).finished;
     }));
+    ghost.remove();
+  }
+
+  // Cards that glide here land at once.
+  land() {
+    const isGliding = this.table.firstChild?.className === 'ghost';
+    for (const it of isGliding ? this.table.getAnimations({ subtree: true }) : []) it.finish();
   }
 
   // Marks cards by their numbers on the record's own board, and piles by their keys there.

@@ -1,78 +1,19 @@
 // The collection: the records of the text, what the program says of each, and what it prints of one, taken apart. They
-// are read again where the text changes: a small part at once, a large one while the page goes on.
+// are read again where the text changes: a small one at once, a large one while the page goes on.
 //
 // They are in columns, each with one thing of every record: where it begins, its group (-1 where it is refused), and
-// its name, which may be empty. Beside them are the groups' places by their keys, the faults of the refused ones, and
-// the records that were looked at, by their places.
+// its name, which may be empty. Beside them are the faults of the refused ones, and the records that were looked at, by
+// their places.
 
 import { GAMES } from '../bindings/javascript/calls.js';
 import { at } from './elements.mjs';
 import { COUNTS, fcanon, MOST } from './library.mjs';
-import { asText, AT_SIGN, bytesOf, countLines, headersIn, joined, LINE_FEED, restOfLine, spliceOf } from './lines.mjs';
-import { later, placeIn, workAt } from './work.mjs';
+import { asText, AT_SIGN, bytesOf, headersIn, LINE_FEED, restOfLine } from './lines.mjs';
+import { later, workAt } from './work.mjs';
 
-// The groups' places by their keys, which are taken apart once they are asked for.
-function placesOf(keys) {
-  let places = null;
-  const keyList = () => (keys.length > 0 ? asText.decode(keys).split('\n') : []);
-  return () => places ??= new Map(keyList().map((key, place) => [key, place]));
-}
-
-// Records of what is said of a text.
-function recordsOf({ starts, groups, names, keys, faults: { columns: [at, place, line], reasons } }) {
-  const reasonList = at.length > 0 ? reasons.split('\n') : [];
-  const faults = reasonList.map((reason, it) => ({ at: at[it], place: place[it], line: line[it], reason }));
-  const nameList = starts.length > 0 ? names.split('\n') : [];
-  return { starts, groups, names: nameList, places: placesOf(keys), faults, made: new Map() };
-}
-
-const noRecords = () => recordsOf({
-  starts: new Uint32Array(), groups: new Int32Array(), names: '', keys: new Uint8Array(),
-  faults: { columns: [[], [], []], reasons: '' },
-});
+const noRecords = { starts: new Uint32Array(), groups: new Int32Array(), names: [], faults: [] };
 
 const endOf = ({ starts, bytes }, place) => starts[place + 1] ?? bytes.length;
-
-// What a change of the text leaves of the records: those before the place `first`, and those from `rest` on, which move
-// along; what is between them is to be read again.
-function recordsAround(all, size, { from, taken, put }) {
-  const { starts } = all;
-  const grown = put.length - taken.length;
-  const placeWhere = (test) => [starts.findIndex(test), starts.length].find((place) => place >= 0);
-  const first = placeWhere((_, place) => endOf(all, place) >= from);
-  const rest = placeWhere((start, place) => place >= first && start > from + taken.length);
-  const end = rest < starts.length ? starts[rest] + grown : size;
-  return { first, rest, grown, start: first > 0 ? starts[first] : 0, end };
-}
-
-// Faults where there are so many records, bytes and lines more before them.
-function faultsMoved(faults, records, bytes, countMore) {
-  if (faults.length === 0) return [];
-  const lines = countMore();
-  return faults.map((it) => ({ ...it, at: it.at + records, place: it.place + bytes, line: it.line + lines }));
-}
-
-// The records after a change of the text, of which some were read again.
-function recordsWith(all, records, bytes, { first, rest, grown, start }, { taken, put }) {
-  if (rest - first === all.starts.length) return records;
-  const groupPlaces = [...records.places().keys()].map((key) => placeIn(all.places(), key));
-  const more = first + records.starts.length - rest;
-  const column = (name, now, after = all[name].subarray(rest)) => joined(all[name].subarray(0, first), now, after);
-  const madeBefore = [...all.made].filter(([place]) => place < first);
-  const madeAfter = [...all.made].filter(([place]) => place >= rest).map(([place, record]) => [place + more, record]);
-  return {
-    starts: column('starts', records.starts.map((it) => start + it), all.starts.subarray(rest).map((it) => it + grown)),
-    groups: column('groups', records.groups.map((it) => groupPlaces[it] ?? -1)),
-    names: [...all.names.slice(0, first), ...records.names, ...all.names.slice(rest)],
-    places: all.places,
-    faults: [
-      ...all.faults.filter(({ at }) => at < first),
-      ...faultsMoved(records.faults, first, start, () => countLines(bytes.subarray(0, start))),
-      ...faultsMoved(all.faults.filter(({ at }) => at >= rest), more, grown, () => countLines(put) - countLines(taken)),
-    ],
-    made: new Map([...madeBefore, ...madeAfter]),
-  };
-}
 
 // The groups: where each has its first record, in their order, and after each record the place of the next one of its
 // group, or -1.
@@ -95,57 +36,42 @@ export function membersFrom({ next }, first) {
   return members;
 }
 
-// ---- the collection that is read
-
 export const LARGE = 300_000; // bytes that are not read at once, and not put in the text field
 const FIRST = 5_000; // bytes of a large text of which a record is shown before all is read
 
-const emptied = () => ({ ...noRecords(), ...groupsOf(noRecords()), fault: null, isBeingRead: false });
+const emptied = (bytes, game) =>
+  ({ bytes, game, ...noRecords, ...groupsOf(noRecords), made: new Map(), fault: null, reading: null });
 
 /** @type {any} */
-export let collection = { bytes: new Uint8Array(), game: 0, ...emptied() };
+export let collection = emptied(new Uint8Array(), 0);
 
 export const isLarge = () => collection.bytes.length > LARGE;
 
-// Reads the bytes, of which only what changed is read again. Gives true once they are read: at once, or a promise of it
-// where that takes long, which gives false where another reading has begun. The first records are there meanwhile.
+// Reads the bytes, where they are others. Gives true once they are read: at once, or a promise of it where that takes
+// long, which gives false where another reading has begun. The first records are there meanwhile.
 /** @returns {true | Promise<boolean>} */
 export function read(bytes, game) {
-  const isAnew = collection.isBeingRead || collection.fault || collection.game !== game;
-  const last = isAnew ? { ...emptied(), bytes: new Uint8Array() } : collection;
-  const splice = spliceOf(last.bytes, bytes) ?? { from: 0, taken: [], put: [] };
-  if (!isAnew && splice.put.length + splice.taken.length === 0) return true;
-  const around = recordsAround(last, bytes.length, splice);
-  const { start, end } = around;
-  collection = { ...emptied(), bytes, game };
-  const work = { work: 'read', bytes: bytes.subarray(start, end), game };
-  const take = (said) => finish(said, (records) => recordsWith(last, records, bytes, around, splice));
-  if (end - start <= LARGE) return take(workAt(work));
-  const reading = collection;
-  reading.isBeingRead = true;
+  if (collection.bytes === bytes && collection.game === game) return collection.reading ?? true;
+  const begun = collection = emptied(bytes, game);
+  const work = { work: 'read', bytes, game };
+  if (!isLarge()) return finish(workAt(work));
   const first = bytes.subarray(0, headersIn(bytes.subarray(0, LARGE), FIRST)[0] ?? 0);
   finish(workAt({ ...work, bytes: first }));
-  return later(work).then((said) => {
-    if (reading !== collection) return false;
-    reading.isBeingRead = false;
-    return take(said);
-  });
+  at('progress').hidden = false;
+  return begun.reading = later(work).then((said) => begun === collection && finish(said));
 }
 
 // Takes what is said of the text, or keeps what the program says where it gives up.
 /** @returns {true} */
-function finish({ value = null, fault = null }, recordsFrom = (records) => records) {
-  const records = fault ? noRecords() : recordsFrom(recordsOf(value));
+function finish({ value = null, fault = null }) {
+  const records = value ?? noRecords;
   const isTooLarge = records.starts.length > MOST.records || collection.bytes.length > MOST.input;
   collection.fault = fault ?? (isTooLarge ? 'input too large' : null);
-  const taken = collection.fault ? noRecords() : records;
-  const made = new Map([...taken.made, ...collection.made]);
-  Object.assign(collection, taken, groupsOf(taken), { made });
-  at('progress').hidden = !collection.isBeingRead;
+  const taken = collection.fault ? noRecords : records;
+  Object.assign(collection, taken, groupsOf(taken), { reading: null });
+  at('progress').hidden = true;
   return true;
 }
-
-// ---- one record
 
 // One without a name has its number for one.
 export const nameAt = ({ names }, place) => names[place] || String(place + 1);

@@ -50,14 +50,6 @@ export const nameButton = (id, word, rest = '') =>
 // A control that has nothing to do keeps the focus, which a disabled one would lose.
 export const setIdle = (id, isIdle) => { at(id).ariaDisabled = isIdle; };
 
-// Does what takes a while, once at a time: its control has nothing to do meanwhile.
-export async function onceAtATime(id, act) {
-  if (at(id).ariaDisabled === 'true') return;
-  setIdle(id, true);
-  await act();
-  setIdle(id, false);
-}
-
 // Hides a control; where it has the focus, another one takes it.
 export function hide(id, isHidden) {
   const hadFocus = isHidden && at(id).contains(document.activeElement);
@@ -69,6 +61,16 @@ export function hide(id, isHidden) {
 export function say(words, isBad = false) {
   write('counter', words, isBad);
   if (!prefersStill.matches && words !== '') at('counter').animate({ opacity: [.3, 1] }, { duration: 250 });
+}
+
+// Copies a text, and says so, or why not.
+export async function copy(id, text) {
+  try {
+    await navigator.clipboard.writeText(text);
+    write(id, 'Copied.');
+  } catch {
+    write(id, 'This browser does not let the page copy: select it, and press Ctrl-C.', true);
+  }
 }
 
 // Saves a file of these parts.

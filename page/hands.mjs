@@ -11,7 +11,6 @@ import { gripsOf, views } from './table.mjs';
 import { cardSign, moveWords, pileName, refusalWords } from './words.mjs';
 
 const DRAG_PIXELS = 6; // a shorter way is a press
-const REFUSED_MILLISECONDS = 400;
 
 // Cards of a pile of the record's own board, by that board's keys: how many a move can take, and where these may go.
 let held = null;
@@ -110,8 +109,6 @@ function drop(name, key) {
   const { answer } = held.cards.length === 1 ? tryMove(held.key, key[0], tried.move[2], '>') : tried;
   const capacity = isColumn(key) ? fcanon.capacity(game, board, key.charCodeAt(0)) : 1;
   say(refusalWords({ game, board, passage, cards: held.cards, key, reason: wordsOf(answer), capacity }), true);
-  views[name].mark('refused', held.cards);
-  setTimeout(() => views[name].mark('refused', []), REFUSED_MILLISECONDS);
   release();
 }
 
@@ -231,7 +228,7 @@ function typeLetter(key) {
 // Undo and redo are everywhere the same, but in fields of one line.
 function undoByKeys(event, key) {
   const act = { z: event.shiftKey ? redo : undo, y: redo }[key];
-  if (!act || event.target.matches('input[type=text]')) return;
+  if (!act || event.target.matches('input:not([type=checkbox], [type=range])')) return;
   event.preventDefault();
   act();
 }

@@ -15,7 +15,7 @@ export const IN_SUIT = [false, true, true];
 export const COUNTS = '123456789abcd';
 export const MOST = { input: 16_777_216, records: 65_536, moves: 4_096 };
 export const MOVE_SIZE = 3;
-const [BOARD, PASSAGE, NUMBER, TEXT, SYMMETRIES] = [72, 20, 8, 256, 96];
+const [BOARD, PASSAGE, NUMBER, TEXT] = [72, 20, 8, 256];
 const CARRY = { '>': 'carry', '>>': 'carry_run' };
 const PLAY = { '>': 'play', '>>': 'play_run' };
 
@@ -62,9 +62,6 @@ export const fcanon = {
 
   // The board where a passage leads.
   image: (game, board, passage) => written(BOARD, 'image', game, passage, board),
-
-  // How many renamings lead, with some orders, from the board to itself.
-  countSymmetries: (game, board) => numberIn(written(NUMBER, 'symmetries', game, board, new Uint8Array(SYMMETRIES))),
 
   // The moves that the game allows, each in three bytes: those of one card, which say no count, and those of more.
   moves(game, board) {
@@ -113,8 +110,6 @@ export const fcanon = {
     return number > 0 && number < 2 ** 32 && answerOf('deal', game, number, board) === 0 ? board : null;
   },
 };
-
-// ---- lists of moves
 
 export const listOf = (moves) => ({ sign: '>>', bytes: Uint8Array.from(moves) });
 

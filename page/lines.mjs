@@ -37,8 +37,6 @@ export function linesIn(bytes, from, limit) {
   return starts.map((start, place) => ({ start, end: endOfLine(stops[place]) })).filter(isSaid);
 }
 
-// ---- changes
-
 // Arrays as one, of the kind of the first one.
 export function joined(...parts) {
   const all = new parts[0].constructor(parts.reduce((size, part) => size + part.length, 0));
@@ -79,33 +77,28 @@ export const turned = (splice) => splice && { from: splice.from, taken: splice.p
 
 export const fieldText = (bytes) => asText.decode(bytes).replace(/\r\n?/g, '\n');
 
-// The place in the bytes of a character of the field's text.
-function placeOf(bytes, character) {
-  let low = 0, high = bytes.length;
-  if (fieldText(bytes).length === high) return character;
-  while (low < high) {
-    const middle = (low + high + 1) >> 1;
-    if (fieldText(bytes.subarray(0, middle)).length <= character) low = middle;
-    else high = middle - 1;
-  }
-  return low;
-}
-
-// Whether this half of a character that the field has in two has the other half after it.
-const isFirstOfTwo = (text, place) => /[\ud800-\udbff]/.test(text[place] ?? '');
-
 // How lines end in a text: as the first one does.
 export function endingOf(bytes) {
   const first = bytes.indexOf(LINE_FEED);
   return first > 0 && bytes[first - 1] === CARRIAGE_RETURN ? '\r\n' : '\n';
 }
 
-// The bytes after the field's text was changed. What was not touched keeps its bytes.
+// Where the lines of the field's text begin in the bytes.
+function startsOfLines(bytes) {
+  const starts = [0];
+  bytes.forEach((byte, at) => {
+    const isEnd = byte === LINE_FEED || (byte === CARRIAGE_RETURN && bytes[at + 1] !== LINE_FEED);
+    if (isEnd) starts.push(at + 1);
+  });
+  return starts;
+}
+
+// The bytes after the field's text was changed. Lines that were not touched keep their bytes.
 export function afterField(bytes, text) {
-  const before = fieldText(bytes);
-  let { from, same } = commonOf(before, text);
-  if (isFirstOfTwo(before, from - 1)) from--;
-  if (isFirstOfTwo(before, before.length - same - 1)) same--;
-  const put = bytesOf(text.slice(from, text.length - same).replaceAll('\n', endingOf(bytes)));
-  return joined(bytes.subarray(0, placeOf(bytes, from)), put, bytes.subarray(placeOf(bytes, before.length - same)));
+  const [before, after] = [fieldText(bytes).split('\n'), text.split('\n')];
+  const { from, same } = commonOf(before.slice(0, -1), after.slice(0, -1));
+  const kept = before.at(-1) === after.at(-1) ? same + 1 : 0; // lines at the end
+  const starts = [...startsOfLines(bytes), bytes.length];
+  const put = after.slice(from, after.length - kept).concat(kept > 0 ? '' : []).join(endingOf(bytes));
+  return joined(bytes.subarray(0, starts[from]), bytesOf(put), bytes.subarray(starts[before.length - kept]));
 }

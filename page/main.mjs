@@ -3,30 +3,29 @@
 import { start } from '../bindings/javascript/calls.js';
 import { chooseGame, chooseList, keep, replace, shuffle, sort, stepTo, swap } from './actions.mjs';
 import { collection, read } from './collection.mjs';
-import { at, download, listen, nameButton, onceAtATime, say, setIdle, write } from './elements.mjs';
+import { at, download, listen, nameButton, say, setIdle, write } from './elements.mjs';
 import { holdMore, release, sayMoves } from './hands.mjs';
-import { forget, keepSoon, kept, linked, linkOf, LONGEST } from './keeping.mjs';
+import {
+  earlierState, forget, FORGETTING, keepSoon, kept, layAside, linked, linkOf, LONGEST,
+} from './keeping.mjs';
 import { bytesOf } from './lines.mjs';
 import {
-  chooseFound, deal, drawCarried, drawChosen, drawCollection, drawFound, drawShare, drawText, openDropped,
-  openFiles, paste, showCarried, typeText,
+  chooseFound, copyBoard, copyCarried, copyList, deal, drawCarried, drawChosen, drawCollection, drawFound, drawShare,
+  drawText, openDropped, openFiles, paste, showCarried, typeText,
 } from './positions.mjs';
 import { answerAs, copyPrinted, drawImported, drawPrinted, importText, savePrinted } from './program.mjs';
 import { derive, settled, shown } from './shown.mjs';
-import { apply, begin, redo, store, undo } from './store.mjs';
+import { apply, begin, EMPTY, redo, store, undo } from './store.mjs';
 import { drawTable, views } from './table.mjs';
-import { demonstrate, drawGathered, skip } from './theorem.mjs';
+import { demonstrate, drawGathered, replay, skip } from './theorem.mjs';
 import { inFigures } from './words.mjs';
 import { startRuns } from './work.mjs';
 
 const PLAY_MILLISECONDS = 450;
-const RESIZED_MILLISECONDS = 300;
+const FORGET = { first: 'Forget it', asked: 'Really forget all of it?' };
 
-let settling = null;
 let player = null;
 let drawn = null; // the collection that is drawn
-
-// ---- drawing
 
 // Draws the state: at once, or once its text is read, and of a large one the first record meanwhile.
 store.draw = (action) => {
@@ -57,9 +56,9 @@ function drawBoards({ stagger = 0, isBeside = false }) {
   if (!isBeside) setPlayer(null);
   store.state = settled(store.state);
   derive(store.state);
-  at('shown').hidden = shown === null;
+  for (const id of ['shown', 'lead', 'handed', 'share']) at(id).hidden = shown === null;
   drawChosen();
-  if (shown === null) return;
+  if (shown === null) return write('title', 'Which boards are the same puzzle?');
   drawTable(player === null ? stagger : 0);
   release();
   drawGathered();
@@ -68,8 +67,6 @@ function drawBoards({ stagger = 0, isBeside = false }) {
   write('legal', '');
   at('link-text').hidden = true;
 }
-
-// ---- playing a list
 
 function setPlayer(next) {
   clearInterval(player);
@@ -98,43 +95,55 @@ store.touched = () => {
   drawPlay();
 };
 
-// ---- links
-
 function makeLink() {
   const link = linkOf(shown);
   const isTooLong = link.length > LONGEST;
   const why = `This is too long for a link: ${inFigures(link.length)} characters. Save it.`;
-  write('link-said', isTooLong ? why : '', true);
+  const needs = 'It opens where this file is. Elsewhere, put what begins at # after the address of the page there.';
+  write('link-said', isTooLong ? why : location.protocol === 'file:' ? needs : '', isTooLong);
   Object.assign(at('link-text'), { hidden: isTooLong, value: location.href.split('#')[0] + link });
   if (!isTooLong) at('link-text').select();
 }
 
-// Shows what the link holds.
+// Shows what the link holds, and takes it out of the address, such that it does not come again over later work.
 function follow() {
   const change = linked(location.hash);
-  if (change) apply({ what: 'following the link', change });
+  if (!change) return;
+  history.replaceState(null, '', location.href.split('#')[0]);
+  layAside();
+  apply({ what: 'following the link', change });
 }
-
-// ---- the beginning
 
 const example = () => bytesOf(at('example').textContent);
 
-// Forgets what the browser keeps, and what was undone, and begins anew.
-function forgetAll() {
-  begin({ bytes: example() });
-  forget();
+// Forgets what the browser keeps, once that is pressed again; what this tab has is there to undo until it is closed.
+async function askToForget() {
+  const isAsked = at('forget').textContent === FORGET.asked;
+  write('forget', isAsked ? FORGET.first : FORGET.asked);
+  if (!isAsked) return;
+  await forget();
+  const says = 'Forgotten. Undo brings back what this tab had.';
+  apply({ what: FORGETTING, change: { ...EMPTY, bytes: example() }, says, isKept: false });
+}
+
+// Brings back the earlier work that is chosen; the present one is then among the earlier ones.
+async function bringBack() {
+  const change = await earlierState();
+  await layAside();
+  apply({ what: 'bringing back earlier work', change });
 }
 
 // What is done where something happens to an element.
 const ACTS = {
   click: {
-    undo, redo, shuffle, swap, sort, keep, skip, run: play, moves: sayMoves, 'let-go': release,
-    'carry-over': () => onceAtATime('carry-over', () => views.right.carryFrom(views.left)),
+    undo, redo, shuffle, swap, sort, keep, skip, replay, run: play, moves: sayMoves, 'let-go': release,
+    'carry-over': () => views.right.carryFrom(views.left),
     'more-cards': () => holdMore(1), 'fewer-cards': () => holdMore(-1),
     first: () => stepTo(0), back: () => stepTo(shown.step - 1), on: () => stepTo(shown.step + 1),
-    last: () => stepTo(Infinity), link: () => shown && makeLink(), carry: showCarried, forget: forgetAll,
+    last: () => stepTo(Infinity), link: makeLink, carry: showCarried, forget: askToForget, bring: bringBack,
     open: () => at('file').click(), save: () => download([collection.bytes], 'positions.collection'),
     more: () => replace('more examples', bytesOf(at('examples').textContent)), import: importText,
+    'copy-board': copyBoard, 'copy-list': copyList, 'copy-carried': copyCarried,
     'as-columns': answerAs('columns'), 'as-rows': answerAs('rows'), copy: copyPrinted, 'save-printed': savePrinted,
   },
   change: {
@@ -147,13 +156,6 @@ const ACTS = {
   toggle: { program: drawPrinted },
 };
 
-// At first, and where the window gets another size, cards are at their places at once.
-function settle() {
-  clearTimeout(settling);
-  document.body.classList.add('resized');
-  settling = setTimeout(() => document.body.classList.remove('resized'), RESIZED_MILLISECONDS);
-}
-
 // The bytes of a module that is packed into the page.
 async function moduleOf(id) {
   const packed = Uint8Array.from(atob(at(id).textContent), (letter) => letter.charCodeAt(0));
@@ -161,8 +163,7 @@ async function moduleOf(id) {
   return new Uint8Array(await new Response(stream).arrayBuffer());
 }
 
-// Begins with what the browser keeps, or with the example; a link that is opened, and not reloaded, is followed from
-// there.
+// Begins with what the browser keeps, or with the example; a link is followed from there.
 async function main() {
   const [calls, runs] = await Promise.all(['calls', 'runs'].map(moduleOf));
   start(await WebAssembly.compile(calls));
@@ -170,20 +171,17 @@ async function main() {
   for (const [event, acts] of Object.entries(ACTS)) {
     for (const [id, act] of Object.entries(acts)) listen(at(id), { [event]: act });
   }
-  listen(window, { hashchange: follow, resize: settle });
-  listen(window, { dragover: (event) => event.preventDefault(), drop: openDropped });
-  settle();
-  const [navigation] = /** @type {PerformanceNavigationTiming[]} */ (performance.getEntriesByType('navigation'));
-  let before = kept();
+  listen(window, { hashchange: follow, dragover: (event) => event.preventDefault(), drop: openDropped });
+  const first = { state: { bytes: example() } };
+  let before = await kept();
   try {
-    begin(before ?? { bytes: example() });
+    begin(before ?? first);
   } catch {
     before = null; // what is kept makes no sense
-    forgetAll();
+    begin(first);
   }
   await store.read;
-  const isAnew = navigation?.type === 'navigate' || before === null;
-  if (isAnew && linked(location.hash)) follow();
+  if (linked(location.hash)) follow();
   else if (before === null) demonstrate();
   await store.read;
   document.body.dataset.is = 'ready';

@@ -36,21 +36,6 @@ export function anyPassage(game) {
   return fcanon.isPassage(game, passage) ? passage : anyPassage(game);
 }
 
-const factorial = (count) => (count < 2 ? 1 : count * factorial(count - 1));
-
-// How many passages lead from a board to itself: its symmetries, with its empty columns and cells in any order.
-function countStaying(game, board) {
-  const countEmpty = (from, count) => board.subarray(from, from + count).filter((it) => it === 0).length;
-  const orders = factorial(countEmpty(PLACE.lengths, 8)) * factorial(countEmpty(PLACE.cells, CELL_COUNTS[game]));
-  return fcanon.countSymmetries(game, board) * orders;
-}
-
-const ALL_HOME = new Uint8Array(72).fill(13, 0, 4); // each passage leads from this board to itself
-
-// How many boards are equivalent to a board, it among them: as many as there are passages, but those that lead to one
-// board count once.
-export const countEquivalent = (game, board) => countStaying(game, ALL_HOME) / countStaying(game, board);
-
 // ---- piles: a column is known by its digit, a cell by its letter, a home by `h` and its suit
 
 const keysOf = (cells) => [...cells, ...[...HOMES].map((suit) => `h${suit}`), ...'12345678'];

@@ -2,7 +2,7 @@
 
 import { append, carryTo, choose, replace, type } from './actions.mjs';
 import { collection, isLarge, LARGE, membersFrom, nameAt, recordAt, wordAt } from './collection.mjs';
-import { at, element, fill, write } from './elements.mjs';
+import { at, copy, element, fill, write } from './elements.mjs';
 import { carriedTo, fcanon, headerLine, listLine, TITLES, verdictOf } from './library.mjs';
 import { afterField, bytesOf, fieldText, headersIn, joined, linesIn, spliceOf } from './lines.mjs';
 import { drawPrinted, importAsNeeded } from './program.mjs';
@@ -10,7 +10,7 @@ import { shown } from './shown.mjs';
 import { store } from './store.mjs';
 import { counted, inFigures } from './words.mjs';
 
-const MOST_SHOWN = { faults: 20, groups: 60, members: 100 };
+const MOST_SHOWN = { faults: 20, groups: 200, members: 100 };
 const LEAST_SEARCHED = 12; // records, among which one looks for a name
 
 // ---- the text
@@ -109,8 +109,6 @@ export function openDropped(event) {
   else come('the drop', bytesOf(text));
 }
 
-// ---- faults
-
 function drawFaults() {
   const { faults, bytes } = collection;
   const items = faults.slice(0, MOST_SHOWN.faults).map(({ at: record, place, line, reason }) => {
@@ -167,8 +165,9 @@ export function drawFound() {
   groupsFound = part === '' ? collection.firsts : collection.firsts.filter(countFound);
   const count = () => groupsFound.reduce((sum, first) => sum + countFound(first), 0);
   write('find-said', part === '' ? '' : `${inFigures(count())} found`);
-  at('groups').replaceChildren(element('li', { className: 'end' }));
-  drawMoreGroups();
+  const drawn = groupsFound.slice(0, MOST_SHOWN.groups).map(groupElement);
+  const more = leftOut(groupsFound, drawn).map((said) => element('li', {}, said));
+  at('groups').replaceChildren(...drawn, ...more);
 }
 
 // Shows the first record that is found.
@@ -176,19 +175,6 @@ export function chooseFound(event) {
   event.preventDefault();
   if (groupsFound.length > 0) chooseAt(membersFound(groupsFound[0])[0]);
 }
-
-// Groups are drawn as far as they are seen: the list's last line, once it is seen, draws some more.
-function drawMoreGroups() {
-  const { lastElementChild: end, childElementCount: count } = at('groups');
-  const more = groupsFound.slice(count - 1, count - 1 + MOST_SHOWN.groups);
-  end.before(...more.map(groupElement));
-  watcher.unobserve(end);
-  if (more.length > 0) watcher.observe(end);
-}
-
-const watcher = new IntersectionObserver((seen) => {
-  if (seen.some((it) => it.isIntersecting)) drawMoreGroups();
-});
 
 // Marks the record that is shown, and brings it in sight in its list.
 export function drawChosen() {
@@ -204,8 +190,7 @@ function bringInSight(button) {
   at('groups').scrollTop += Math.max(0, Math.ceil(one.bottom - all.bottom)) + Math.min(0, Math.floor(one.top - all.top));
 }
 
-// ---- a list carried to another member of the group
-
+// Offers a list to the other members of the group.
 export function drawShare() {
   const { base, lists, exchange } = shown;
   const own = base.number - 1;
@@ -225,3 +210,17 @@ export function drawCarried() {
 }
 
 export const showCarried = () => carryTo(chosenMember());
+
+// Copies the left board as it is, the list on it, or the list on the other record.
+export function copyBoard() {
+  const { record, sides: { left: { board } } } = shown;
+  copy('copied-this', headerLine(record) + fcanon.write(record.game, board));
+}
+
+export function copyList() {
+  const { record: { game }, lists, chosen, shuffle } = shown;
+  copy('copied-this', listLine(fcanon.carry(game, shuffle, lists[chosen].list)));
+}
+
+export const copyCarried = () =>
+  copy('copied-this', listLine(carriedTo(chosenMember(), shown.lists[shown.chosen].list)));

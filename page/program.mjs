@@ -4,9 +4,10 @@
 import { COMMANDS } from '../bindings/javascript/runs.js';
 import { replace } from './actions.mjs';
 import { collection, isHeaded, isLarge } from './collection.mjs';
-import { at, download, fill, onceAtATime, say, write } from './elements.mjs';
+import { at, copy, download, fill, say, write } from './elements.mjs';
 import { asText } from './lines.mjs';
 import { amend, store } from './store.mjs';
+import { counted } from './words.mjs';
 import { later, workAt } from './work.mjs';
 
 const OPTIONS = { table: ['', ' --header', ' --json'], count: ['', ' --json'] };
@@ -16,8 +17,6 @@ const MOST_NOTES = 100;
 const QUESTION = /may be columns or rows($|:)/; // in a note that asks
 const ANSWERS = ', with --columns or --rows'; // how the program is answered
 
-// ---- what is printed
-
 let printed = { command: '', text: new Uint8Array() }; // of a collection
 
 fill('command', 'option', PRINTINGS, PRINTINGS);
@@ -25,7 +24,7 @@ fill('command', 'option', PRINTINGS, PRINTINGS);
 // Prints anew where the text or the command is another one, and this is seen.
 export function drawPrinted() {
   const [of, command] = [collection, at('command').value];
-  if (!at('program').open || of.isBeingRead || (printed.of === of && printed.command === command)) return;
+  if (!at('program').open || of.reading || (printed.of === of && printed.command === command)) return;
   const asked = printed = { of, command, text: new Uint8Array(), ready: null };
   const work = { work: 'print', command, bytes: of.bytes, game: of.game };
   if (!isLarge()) return takePrinted(asked, workAt(work));
@@ -43,27 +42,21 @@ function takePrinted(asked, { value = null, fault = '' }) {
   write('copied', isCut ? 'The beginning is shown; save it to have all.' : fault);
 }
 
+// Copies all that is printed, also where only the beginning of it is shown.
 export async function copyPrinted() {
-  try {
-    await navigator.clipboard.writeText(at('printed').textContent);
-    write('copied', 'Copied.');
-  } catch {
-    getSelection().selectAllChildren(at('printed'));
-    write('copied', 'Selected: copy it by Ctrl-C.');
-  }
+  await printed.ready;
+  copy('copied', asText.decode(printed.text));
 }
 
 // Saves all that is printed: what is no table is read again as a collection.
-export const savePrinted = () => onceAtATime('save-printed', async () => {
+export async function savePrinted() {
   const asked = printed;
   await asked.ready;
   if (printed !== asked) return;
   const isTable = /^(check|table|same|symmetries|count|closed)/.test(asked.command);
   download([asked.text], `${asked.command.replace(' --', '-')}.${isTable ? 'txt' : 'collection'}`);
   write('copied', 'Saved.');
-});
-
-// ---- what is imported
+}
 
 // Imports these bytes, where that was asked for or something is said of them; a question is answered by `lines`.
 async function importBytes(bytes, what, { isAsked = true, lines = undefined } = {}) {
@@ -71,9 +64,13 @@ async function importBytes(bytes, what, { isAsked = true, lines = undefined } = 
   const work = { work: 'import', bytes, game: before.game, lines };
   const { value, fault } = isLarge() ? await later(work) : workAt(work);
   if (fault) return say(fault, true);
-  if (store.state !== before || !(isAsked || value.said.length > 0)) return;
-  const imported = { bytes, said: asText.decode(value.said) };
-  if (value.text.length > 0) replace(what, value.text, imported);
+  const { starts, faults } = collection;
+  const accepted = starts.length - faults.length;
+  const isBetter = value.records - value.refused > accepted;
+  const isHeard = value.said.length > 0 && (accepted === 0 || starts.length === 1);
+  if (store.state !== before || !(isAsked || isBetter || isHeard)) return;
+  const imported = { bytes, said: asText.decode(value.said), records: value.records, isMade: value.text.length > 0 };
+  if (imported.isMade) replace(what, value.text, imported);
   else amend({ imported });
 }
 
@@ -81,13 +78,14 @@ export const importText = () => importBytes(store.state.bytes, 'the import');
 
 export const answerAs = (lines) => () => importBytes(store.state.imported.bytes, `the answer ${lines}`, { lines });
 
-// Imports at once what came from elsewhere, where no record of it is accepted, or where it is one board without a
-// header, whose lines may be rows; and where `import` has something to say of it.
+// Imports at once what came from elsewhere, where a record of it is refused, or where it is one board without a header,
+// whose lines may be rows. That is taken where more records are then accepted; and where none or one was read, also
+// where `import` has something to say.
 export async function importAsNeeded() {
   await store.read;
   const { starts, faults } = collection;
   const isBare = starts.length === 1 && !isHeaded(collection, 0);
-  const isNeeded = starts.length > 0 && (isBare || faults.length === starts.length);
+  const isNeeded = starts.length > 0 && (isBare || faults.length > 0);
   if (isNeeded && !isLarge()) importBytes(store.state.bytes, 'the import', { isAsked: false });
 }
 
@@ -100,5 +98,7 @@ export function drawImported() {
   at('imported').hidden = !imported;
   at('ask').hidden = !notes.some((note) => QUESTION.test(note));
   fill('notes', 'li', notes.length > MOST_NOTES ? [...notes.slice(0, MOST_NOTES), '..', notes.at(-1)] : notes);
-  if (imported) write('imported-said', notes.length > 0 ? 'Import says of this:' : 'Import reads this as it is.');
+  const count = counted(imported?.records ?? 0, 'record');
+  const made = imported?.isMade ? `Imported: ${count}. Undo brings back what came.` : 'Import makes nothing of this.';
+  write('imported-said', notes.length > 0 ? `${made} It says:` : made);
 }

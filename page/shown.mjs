@@ -4,6 +4,7 @@ import { collection, nameAt, recordAt } from './collection.mjs';
 import { fcanon, MOVE_SIZE, stepsOf, verdictOf } from './library.mjs';
 import { areEqual, PLACE, stayingPassage } from './passages.mjs';
 import { AT_FIRST } from './store.mjs';
+import { verdictWords } from './words.mjs';
 
 const MOST_ROWS = { least: 6, most: 9 }; // below the first card of a column; longer columns are squeezed
 
@@ -63,7 +64,8 @@ export function derive(state) {
   const { times, exchange, isSorted, list: chosen } = state;
   const record = exchangedOf(base, exchange);
   const { game } = record;
-  const labelled = (list, place) => ({ list, label: `${place + 1}: ${verdictOf(game, record.board, list)}` });
+  const saidOf = (list) => verdictWords(verdictOf(game, record.board, list));
+  const labelled = (list, place) => ({ list, label: `${place + 1}: ${saidOf(list)}` });
   const more = state.carried && !exchange ? [state.carried] : [];
   const lists = [...once(record, () => record.lists.map(labelled)), ...more];
   const still = { boards: [record.board], images: [record.canonical], isAlike: true, refusal: null };
@@ -75,9 +77,11 @@ export function derive(state) {
   const sorted = fcanon.canon(game, own);
   const [board, passage] = isSorted ? [sorted.canonical, sorted.passage] : [steps.images[step], record.passage];
   const isCanonical = areEqual(fcanon.canon(game, left.board).canonical, board);
+  const isSame = fcanon.areSame(game, left.board, board);
   const rows = Math.max(...own.subarray(PLACE.lengths, PLACE.cards)) - 1;
   const before = shown?.base.name === base.name ? shown.most : MOST_ROWS.least;
   const most = Math.min(MOST_ROWS.most, Math.max(before, rows));
   const sides = { own, left, right: { board, passage } };
-  shown = { base, record, lists, chosen, steps, step, times, exchange, isSorted, shuffle, sides, isCanonical, most };
+  const is = { isSorted, isCanonical, isSame };
+  shown = { base, record, lists, chosen, steps, step, times, exchange, shuffle, sides, most, ...is };
 }

@@ -12,7 +12,9 @@ export const AT_FIRST = {
   list: 0, step: 0, shuffle: null, times: 0, exchange: null, isSorted: false, carried: null,
   seen: [{ shuffle: null, exchange: null }],
 };
-const EMPTY = { bytes: new Uint8Array(), game: 0, number: 1, name: null, begun: [], imported: null, ...AT_FIRST };
+export const EMPTY = {
+  bytes: new Uint8Array(), game: 0, number: 1, name: null, begun: [], imported: null, ...AT_FIRST,
+};
 
 // How it is drawn, and who is called, is put here by others. Undo and redo go through the past and the future.
 /** @type {{ [name: string]: any }} */
@@ -30,16 +32,16 @@ export function apply(action) {
   store.acted();
   const after = { ...store.state, ...action.change };
   takeDown(action, store.state, after);
-  become(after, { ...action, isKept: true });
+  become(after, { isKept: true, ...action });
 }
 
 // A change that nobody asked for, and that undo passes by.
 export const amend = (change, action = {}) => become({ ...store.state, ...change }, action);
 
-// Forgets all, and begins from a state.
-export function begin(change) {
-  Object.assign(store, { past: [], future: [] });
-  become({ ...EMPTY, ...change }, {});
+// Begins from a state, with its history.
+export function begin({ state, past = [], future = [] }) {
+  Object.assign(store, { past, future });
+  become({ ...EMPTY, ...state }, {});
 }
 
 // ---- the history: an entry keeps what two states differ in, of the text a splice

@@ -4,9 +4,11 @@ import { SUITS } from '../bindings/javascript/calls.js';
 import { BoardView } from './boards.mjs';
 import { at, drawing, element, fill, hide, nameButton, setIdle, write } from './elements.mjs';
 import { fcanon, isWon, moveAt, movesIn, TITLES } from './library.mjs';
-import { cardsByPile, cellKeys, countEquivalent, keyAfter, keyBefore } from './passages.mjs';
+import { cardsByPile, cellKeys, isColumn, keyAfter, keyBefore, PLACE } from './passages.mjs';
 import { shown } from './shown.mjs';
-import { inFigures, moveWords, pileTitle, pileWords, SUIT_NAMES } from './words.mjs';
+import { moveWords, pileTitle, pileWords, SUIT_NAMES } from './words.mjs';
+
+const ONE_PUZZLE = 'These two boards are the same puzzle.';
 
 export const views = { left: new BoardView(at('left')), right: new BoardView(at('right')) };
 
@@ -14,7 +16,6 @@ export const views = { left: new BoardView(at('left')), right: new BoardView(at(
 export function drawTable(stagger = 0) {
   const { record, isCanonical } = shown;
   write('boards-title', `${record.name}, ${TITLES[record.game]}`);
-  write('ways', inFigures(countEquivalent(record.game, shown.sides.own)));
   drawSide('left', 'right', `Board ${record.name}`, 'becomes', stagger);
   drawSide('right', 'left', `${isCanonical ? 'Canonical board' : 'Image'} of ${record.name}`, 'was', stagger);
   drawPassage();
@@ -29,7 +30,8 @@ function drawSide(name, other, label, verb, stagger) {
     const title = pileTitle(key);
     return `${title[0].toUpperCase()}${title.slice(1)}: ${pileWords(key, cards)}. It ${verb} ${image}.`;
   };
-  views[name].draw({ game, ...side, label, wordsOf, grips: gripsOf(game, side.board), stagger, most });
+  const placeOf = (key) => (isColumn(key) ? keyAfter(shown.sides.right.passage, keyBefore(side.passage, key)) : '');
+  views[name].draw({ game, ...side, label, wordsOf, placeOf, grips: gripsOf(game, side.board), stagger, most });
   views[name].mark('moved', movedCards());
   views[name].mark('exchanged', shown.exchange?.cards ?? []);
 }
@@ -59,16 +61,23 @@ function drawPassage() {
     const properties = { className: 'arrow', role: 'img', title: words, ariaLabel: words };
     return element('span', properties, pip(before), '→', pip(after));
   });
-  const orders = [['columns', '12345678'], ['cells', cellKeys(shown.record.game)]].map(([name, keys]) => {
-    const before = [...keys].map((key) => keyAfter(left.passage, keyBefore(right.passage, key)));
-    return element('span', { className: 'order' }, `${name} ${before.join(' ')}`);
+  const isCell = left.board.subarray(PLACE.cells, PLACE.lengths).some((card) => card > 0);
+  const orders = [['columns', '12345678'], ['cells', isCell ? cellKeys(shown.record.game) : '']].map(([name, keys]) => {
+    const chips = [...keys].map((key) => {
+      const chip = element('span', { className: 'chip' }, keyAfter(left.passage, keyBefore(right.passage, key)));
+      if (isColumn(key)) chip.dataset.place = key;
+      return chip;
+    });
+    return element('span', { className: 'order', hidden: keys === '' }, name, ...chips.flatMap((chip) => [' ', chip]));
   });
-  at('passage').replaceChildren(...suits, ...orders);
+  at('passage').replaceChildren('Green becomes blue: ', ...suits, ...orders);
 }
 
 function drawCaption() {
-  const { isCanonical, isSorted, times, exchange } = shown;
+  const { isCanonical, isSame, isSorted, times, exchange } = shown;
   write('right-title', isCanonical ? 'Canonical board' : 'Image, not canonical');
+  const swapped = `Two cards swapped: ${exchange?.isOne ? 'the same' : 'another'} puzzle.`;
+  write('title', exchange ? swapped : isSame ? ONE_PUZZLE : 'These two boards are NOT the same puzzle!', !isSame);
   at('right').parentElement.classList.toggle('other', !isCanonical);
   write('sort', isSorted ? 'Follow the moves' : 'Show canonical');
   hide('sort', isCanonical && !isSorted);
@@ -77,19 +86,17 @@ function drawCaption() {
   nameButton('swap', 'Swap', exchange ? ' them back' : ' two cards');
 }
 
-// ---- lists
-
 function drawLists() {
   const { lists } = shown;
   fill('list', 'option', lists.map(({ label }) => label));
-  for (const id of ['play', 'run']) hide(id, lists.length === 0);
+  for (const id of ['play', 'run', 'copy-list']) hide(id, lists.length === 0);
   if (lists.length > 0) return drawStep();
   for (const id of ['count', 'move', 'expansion']) write(id, '');
 }
 
 // The list, what is said of the move that was made, of the next one, and of the boards.
 function drawStep() {
-  const { record, steps, step, lists, chosen, sides: { left, right } } = shown;
+  const { steps, step, lists, chosen } = shown;
   const last = steps.boards.length - 1;
   const total = movesIn(lists[chosen].list);
   at('list').value = chosen;
@@ -97,7 +104,7 @@ function drawStep() {
   write('count', `${step} of ${total}`);
   for (const id of ['first', 'back']) setIdle(id, step === 0);
   for (const id of ['on', 'last']) setIdle(id, step === last);
-  const isSame = steps.isAlike && fcanon.areSame(record.game, left.board, right.board);
+  const isSame = steps.isAlike && shown.isSame;
   const made = step > 0 ? `Made: ${moveNow(step - 1)}. ` : '';
   write('move', `${made}${nextWords()} ${isSame ? 'Still the same puzzle.' : 'NOT the same puzzle!'}`, !isSame);
   drawExpansion();

@@ -37,6 +37,13 @@ function cardsOfMove(game, board, move) {
   return cards.slice(cardsByPile(game, played.board).get(from).length);
 }
 
+// What becomes of a list, as `check` says it, in words of players.
+export function verdictWords(verdict) {
+  const [, word, made, reason] = /^(\w+) (\d+) ?(.*)$/.exec(verdict);
+  const moves = counted(Number(made), 'move');
+  return { wins: `wins in ${moves}`, legal: `${moves}, not won`, illegal: `refused after ${moves}: ${reason}` }[word];
+}
+
 // A move on a board, which is a list of its own: its cards, and where they go.
 export function moveWords(game, board, { sign, bytes }) {
   const move = bytes.slice();

@@ -2,13 +2,12 @@
 
 import { GAMES } from '../bindings/javascript/calls.js';
 import { Runs } from '../bindings/javascript/runs.js';
-import { asText, AT_SIGN, bytesOf, countLines, headersIn, restOfLine } from './lines.mjs';
+import { asText, AT_SIGN, countLines, headersIn, restOfLine } from './lines.mjs';
 
 let module = null; // its bytes
 let runs = null;
 let worker = null;
-let canWork = true; // whether a worker may be made here
-const unanswered = []; // what was asked of the worker, which answers one after another, each with what takes its answer
+const unanswered = []; // what takes the answers of the worker, which answers one message after another
 
 export async function startRuns(bytes) {
   module = bytes;
@@ -24,23 +23,18 @@ function printFor({ command, bytes, game }) {
 // Whether the header at this place has a second word.
 const hasName = (bytes, start) => /[^ \t\r][ \t]+[^ \t\r]/.test(restOfLine(bytes, start + 1));
 
-// The place of a key in a map by keys, at whose end it is put where it is not there yet.
-export const placeIn = (places, key) => places.get(key) ?? places.set(key, places.size).size - 1;
-
 // The refused records: which ones they are, and where each is refused, for what, and in which line.
 function faultsIn(bytes, said) {
-  const refused = [...said.keys()].filter((at) => said[at].reason);
-  const places = refused.map((at) => said[at].place);
+  const refused = said.map(({ place, reason }, at) => ({ at, place, reason })).filter(({ reason }) => reason);
   let line = 1;
-  const lines = places.map((place, at) => (line += countLines(bytes.subarray(places[at - 1] ?? 0, place))));
-  const columns = [refused, places, lines].map((numbers) => Uint32Array.from(numbers));
-  return { columns, reasons: refused.map((at) => said[at].reason).join('\n') };
+  const lineOf = ({ place }, at) => (line += countLines(bytes.subarray(refused[at - 1]?.place ?? 0, place)));
+  return refused.map((fault, at) => ({ ...fault, line: lineOf(fault, at) }));
 }
 
-// The records of a text: where each begins, and what `table` says of it, column by column, which is soon handed over.
-// What comes before the first header is a record where `table` has a line more than there are headers. A group's key
-// is the game and the canonical board of its records; each has its group's place among the keys, a refused one -1. A
-// record without a name has an empty one here.
+// The records of a text: where each begins, and what `table` says of it, column by column.
+// What comes before the first header is a record where `table` has a line more than there are headers. A group has one
+// game and one canonical board; each record has its group's number, a refused one -1. A record without a name has an
+// empty one here.
 function recordsIn({ bytes, game }) {
   const lines = asText.decode(printFor({ command: 'table --json', bytes, game }).text).split('\n').slice(0, -1);
   const said = lines.map((line) => JSON.parse(line));
@@ -48,12 +42,12 @@ function recordsIn({ bytes, game }) {
   const starts = Uint32Array.from(said.length > headers.length ? [0, ...headers] : headers);
   const isNamed = ({ reason }, at) =>
     reason !== 'bad header' && bytes[starts[at]] === AT_SIGN && hasName(bytes, starts[at]);
-  const keys = new Map();
+  const numbers = new Map();
+  const numberOfGroup = (key) => numbers.get(key) ?? numbers.set(key, numbers.size).size - 1;
   return {
     starts,
-    groups: Int32Array.from(said, ({ variant, board }) => (board ? placeIn(keys, `${variant} ${board}`) : -1)),
-    names: said.map((it, at) => (isNamed(it, at) ? it.name ?? it.refused : '')).join('\n'),
-    keys: bytesOf([...keys.keys()].join('\n')),
+    groups: Int32Array.from(said, ({ variant, board }) => (board ? numberOfGroup(`${variant} ${board}`) : -1)),
+    names: said.map((it, at) => (isNamed(it, at) ? it.name ?? it.refused : '')),
     faults: faultsIn(bytes, said),
   };
 }
@@ -88,36 +82,25 @@ export function listenInWorker() {
   };
 }
 
-// ---- on the page: what is asked of its worker
-
 // Makes the worker, of the script that the page has too; its module goes there first.
 function makeWorker() {
   const { textContent } = document.getElementById('engine');
   const script = new Blob([textContent, 'listenInWorker();'], { type: 'text/javascript' });
   worker = new Worker(URL.createObjectURL(script));
-  worker.onmessage = ({ data }) => unanswered.shift()?.take(data);
-  worker.onerror = (event) => { event.preventDefault(); goWithout(); };
+  worker.onmessage = ({ data }) => unanswered.shift()(data);
   worker.postMessage({ bytes: module });
 }
 
-// Where no worker can be made, all is done on the page's own thread.
-function goWithout() {
-  canWork = false;
-  for (const { work, take } of unanswered.splice(0)) take(workAt(work));
-}
-
-// Does some work while the page goes on, and gives a promise of what comes of it.
+// Does some work while the page goes on, and gives a promise of what comes of it. Where no worker can be made, it is
+// done on the page's own thread.
 export const later = (work) => new Promise((take) => {
-  setTimeout(() => send({ work, take })); // what is to be seen meanwhile is drawn first
+  setTimeout(() => { // what is to be seen meanwhile is drawn first
+    try {
+      if (!worker) makeWorker();
+    } catch {
+      return take(workAt(work));
+    }
+    unanswered.push(take);
+    worker.postMessage(work);
+  });
 });
-
-function send(one) {
-  unanswered.push(one);
-  try {
-    if (canWork && !worker) makeWorker();
-  } catch {
-    canWork = false;
-  }
-  if (canWork) worker.postMessage(one.work);
-  else goWithout();
-}

@@ -74,7 +74,8 @@ class Browser:
     def open(self, wide, high, place=""):
         """Opens the page as for one who was never here."""
         if self.is_open:
-            self.value("at('forget').click()")
+            self.value("[at('forget'), at('forget')].forEach((it) => it.click())")
+            until(lambda: self.value("at('kept').textContent === 'Nothing is kept.'"))
         self.renew()
         self.resize(wide, high)
         self.go(PAGE.as_uri() + place)

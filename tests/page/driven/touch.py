@@ -12,8 +12,8 @@ HOME = "#text=" + quote("@ freecell last\nFound: H-K C-K D-K S-Q\nKS\n")
 CARD = "(([it]) => [it.x + it.width / 2, it.y + 8])([box(cards('left', {key!r}).at({place}))])"
 PILE = "(([it]) => [it.x + it.width / 2, it.y + it.height / 2])([box(pile('left', {key!r}))])"
 FINGER = 44  # pixels
-LARGE = """all('.middle button, .row button, .row input:not([type=file]), .row select, .row label.choice, .bar button, summary')
-  .filter((it) => it.offsetParent && it.type !== 'checkbox' && !it.closest('.hidden') && !it.matches('.plain'))
+LARGE = """all('button:not(figcaption button), input:not([type=file]), select, label.choice, summary, .proved li a')
+  .filter((it) => it.offsetParent && it.type !== 'checkbox' && !it.closest('.hidden'))
   .map((it) => [it.id || it.textContent.trim(), box(it).height])"""
 
 

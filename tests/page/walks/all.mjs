@@ -11,11 +11,12 @@ import {
   undoneAndLeft,
 } from './history.mjs';
 import { captions, expanded, scrubbed, stepped } from './lists.mjs';
-import { contrasts, fitting, focused, largeLetters, named } from './seen.mjs';
+import { claims, copied, earlierWorks, keptOrAsked, linkedOver, twoTabs, undoneInFields } from './kept.mjs';
+import { contrasts, fitting, focused, largeLetters, named, structured } from './seen.mjs';
 import {
-  collections, dealt, faults, imported, kept, large, linked, linkedDeals, names, searched, shared,
+  collections, dealt, faults, imported, kept, large, linked, linkedDeals, names, pasted, searched, shared,
 } from './text.mjs';
-import { counted, demonstration, demonstrationLeft, gathered, still } from './theorem.mjs';
+import { coloured, demonstration, demonstrationLeft, gathered, still } from './theorem.mjs';
 
 const PARTS = {
   'commands on collections': collections, boards, 'piles and their images': images, suits, faces,
@@ -23,7 +24,8 @@ const PARTS = {
   'keys in a board': walked, shuffled, swapped, 'moves typed': typed, 'moves amid a list': branched,
   'moves by pointer': pressed, refusals, deals: dealt, faults, names, 'names looked for': searched, 'boards kept': kept,
   'shared lists': shared, links: linked,
-  'links of deals': linkedDeals, 'large texts': large, 'what is pasted': imported, 'names of controls': named, contrasts,
+  'links of deals': linkedDeals, 'large texts': large, 'what is pasted': imported, 'what is found and pasted': pasted,
+  'names of controls': named, contrasts,
   focus: focused, 'all sizes': fitting, 'large letters': largeLetters, 'runs by keys': counts,
   'states of piles': states, 'what can move': legal, 'letters turned off': lettersOff, 'what is dragged': gripped,
   dragged, history, 'acts after undo': undoneAndLeft, 'branches of play': branchKept,
@@ -31,7 +33,10 @@ const PARTS = {
   'a file opened twice': openedTwice,
   'ends of lines': lineEnds, 'what links hold': linkHolds, 'links too long': linkTooLong,
   'places in lists': placeKept,
-  'boards of one puzzle': counted, 'boards gathered': gathered, demonstration, 'demonstration left': demonstrationLeft,
+  'a link over other work': linkedOver, 'earlier work': earlierWorks, 'two tabs': twoTabs,
+  'kept, or asked': keptOrAsked, 'undone in fields': undoneInFields, 'what is copied': copied,
+  'what the header claims': claims, 'how the page is built': structured,
+  'colours of columns': coloured, 'boards gathered': gathered, demonstration, 'demonstration left': demonstrationLeft,
 };
 const WITHOUT_MOTION = { 'without motion': still };
 

@@ -24,6 +24,14 @@ export function asDrawn(text) {
   return piles.join('\n');
 }
 
+// What `check` says of a list, in words of players.
+export function inPlayersWords(verdict) {
+  const [word, made, ...reason] = verdict.split(' ');
+  const moves = made === '1' ? '1 move' : `${made} moves`;
+  if (word === 'wins') return `wins in ${moves}`;
+  return word === 'legal' ? `${moves}, not won` : `refused after ${moves}: ${reason.join(' ')}`;
+}
+
 export function nameOf(key) {
   if (key[0] === 'h') return `home ${GLYPHS[key[1]]}`;
   return `${key < '9' ? 'column' : 'cell'} ${key}`;

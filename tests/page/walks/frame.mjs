@@ -21,15 +21,50 @@ export async function settled(look) {
   return look();
 }
 
-// Loads the page as it is for one who was never here.
-export async function load(hash = '') {
+// Waits until a frame shows the page.
+export async function opened(it = frame) {
+  await new Promise((done) => { it.onload = done; });
+  await until(() => it.contentDocument.body.dataset.is === 'ready');
+}
+
+async function leave() {
   frame.src = 'about:blank';
   await new Promise((done) => { frame.onload = done; });
-  localStorage.clear();
-  frame.src = `/page.html${hash}`;
-  await new Promise((done) => { frame.onload = done; });
-  await until(() => frame.contentDocument.body.dataset.is === 'ready');
 }
+
+// Leaves the page, and comes back in another tab.
+export async function comeBack(hash = '') {
+  await leave();
+  sessionStorage.clear();
+  frame.src = `/page.html${hash}`;
+  await opened();
+}
+
+// Loads the page as it is for one who was never here.
+export async function load(hash = '') {
+  await leave();
+  const gone = indexedDB.deleteDatabase('fcanon');
+  await new Promise((done) => { gone.onsuccess = done; });
+  await comeBack(hash);
+}
+
+// The same tab, loaded again.
+export async function reload() {
+  frame.contentWindow.location.reload();
+  await opened();
+}
+
+// What the browser keeps of the page; and what it puts there.
+export async function inWorks(act, mode = 'readonly') {
+  const opening = indexedDB.open('fcanon', 1);
+  await new Promise((done) => { opening.onsuccess = done; });
+  const request = act(opening.result.transaction('works', mode).objectStore('works'));
+  await new Promise((done) => { request.onsuccess = done; });
+  opening.result.close();
+  return request.result;
+}
+
+export const works = () => inWorks((all) => all.getAll());
 
 export function set(id, value, event) {
   at(id).value = value;

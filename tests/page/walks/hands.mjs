@@ -1,7 +1,7 @@
 // Moves by hand.
 
 import { all, at, choose, differ, frame, paste, plain, press, set } from './frame.mjs';
-import { asDrawn, drawn, Moved } from './drawn.mjs';
+import { asDrawn, drawn, inPlayersWords, Moved } from './drawn.mjs';
 
 export function walked({ example }) {
   paste(example);
@@ -36,7 +36,7 @@ export function typed({ example, lists, records }) {
     return differ(move, drawn('left'), here.drawn());
   });
   const [line] = at('text').value.split('\n').filter((it) => it.startsWith('>'));
-  found.push(...differ('label', at('list').selectedOptions[0].textContent, `1: ${verdict}`));
+  found.push(...differ('label', at('list').selectedOptions[0].textContent, `1: ${inPlayersWords(verdict)}`));
   found.push(...differ('moves', line.split(' ').length - 1, made));
   press('z', { ctrlKey: true });
   found.push(...differ('undone', at('count').textContent, `${made - 1} of ${made - 1}`));

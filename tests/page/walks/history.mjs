@@ -1,6 +1,8 @@
 // What changes is undone and redone, and nothing is lost.
 
-import { all, at, choose, differ, frame, later, load, paste, press, set, until } from './frame.mjs';
+import {
+  all, at, choose, differ, frame, inWorks, later, load, paste, press, reload, set, until, works,
+} from './frame.mjs';
 import { asDrawn, drawn } from './drawn.mjs';
 
 // All that is to be seen of a state.
@@ -114,44 +116,56 @@ export async function branchKept({ lists, records }) {
   return [...found, ...differ('the first list again', at('list').value, '0'), ...differ('lists', linesNow().length, 2)];
 }
 
-async function reload() {
-  frame.contentWindow.location.reload();
-  await new Promise((done) => { frame.onload = done; });
-  await until(() => frame.contentDocument.body.dataset.is === 'ready');
-}
+// Waits until what is shown is kept.
+const isKept = () => until(() => at('kept').textContent === 'This browser keeps your work.');
 
-// What is kept and makes no sense is forgotten.
-export async function keptBadly({ example, records: [{ board }] }) {
+// What is kept and makes no sense is not shown.
+export async function keptBadly({ example, twelve }) {
   await load();
   paste(example);
   at('swap').click();
-  frame.contentWindow.dispatchEvent(new Event('pagehide'));
-  const state = JSON.parse(localStorage.getItem('fcanon-state'));
-  const exchange = { ...state.exchange, board: { bytes: 'no board' } };
-  const broken = [{ ...state, exchange }, { text: 7 }, [], 'no state'];
-  const found = differ('kept', state.exchange.board.bytes.length, 72);
-  for (const one of broken) {
-    localStorage.setItem('fcanon-state', JSON.stringify(one));
+  await isKept();
+  const [work] = await works();
+  const exchange = { ...work.state.exchange, board: 'no board' };
+  const found = differ('kept', work.state.exchange.board.length, 72);
+  for (const state of [{ ...work.state, exchange }, { bytes: 7 }]) {
+    await inWorks((all) => all.put({ ...work, state }), 'readwrite');
     await reload();
-    found.push(...differ(JSON.stringify(one).slice(-40), drawn('left'), asDrawn(board)));
+    found.push(...differ(JSON.stringify(state).slice(-40), at('text').value.startsWith(twelve.text), true));
   }
   return found;
 }
 
-// After a reload all is as it was, and after it is forgotten nothing is.
-export async function keptHere({ example, records: [{ board }] }) {
+// After a reload all is as it was, with its past and its future. Before all is forgotten that is asked once more, and
+// what this tab had comes back by undo.
+export async function keptHere({ example, twelve }) {
   await load();
   paste(`# mine\r\n${example}`);
   choose('looks-new');
-  at('shuffle').click();
-  at('swap').click();
-  const before = described();
+  const states = ['shuffle', 'swap', 'undo'].map((id) => {
+    at(id).click();
+    return described();
+  });
+  await isKept();
+  await later(100);
   await reload();
-  const found = differing('after a reload', described(), before);
+  const found = differing('after a reload', described(), states[2]);
+  at('redo').click();
+  found.push(...differing('redone', described(), states[1]));
+  await later(100);
   at('forget').click();
-  await later(500);
-  found.push(...differ('kept', localStorage.length, 0), ...differ('the example', drawn('left'), asDrawn(board)));
-  return [...found, ...differ('forgotten', isIdle('undo'), true)];
+  await later(100);
+  found.push(...differ('asked', (await works()).length, 1));
+  at('forget').click();
+  await until(() => at('text').value.startsWith(twelve.text));
+  await later(100);
+  found.push(...differ('kept', (await works()).length, 0), ...differ('the example', drawn('left'), asDrawn(twelve.board)));
+  at('shuffle').click();
+  await isKept();
+  found.push(...differ('kept of it', (await works())[0].past.length, 1));
+  at('undo').click();
+  at('undo').click();
+  return [...found, ...differing('brought back', described(), states[1])];
 }
 
 function transferOf(files, text) {
@@ -206,18 +220,23 @@ export async function lineEnds({ records: [{ board }] }) {
   await load();
   const text = `# é\n@ freecell mine\n${board}@ freecell bad\nKC 1 2\n`;
   await openFile('mine.txt', text.replaceAll('\n', '\r\n'));
-  const bytesKept = async () => {
-    frame.contentWindow.dispatchEvent(new Event('pagehide'));
-    return JSON.parse(localStorage.getItem('fcanon-state')).text.bytes;
-  };
   const latin = (it) => String.fromCharCode(...new TextEncoder().encode(it));
+  const bytesKept = async () => {
+    await later(100);
+    return String.fromCharCode(...(await works()).at(-1).state.bytes);
+  };
   const found = differ('as it was', await bytesKept(), latin(text.replaceAll('\n', '\r\n')));
   all('#faults button')[0].click();
   const { value, selectionStart, selectionEnd } = at('text');
   found.push(...differ('selected', value.slice(selectionStart, selectionEnd), '1'));
   const changed = text.replace('# é\n', '# é\n# new\n');
   type(changed);
-  return [...found, ...differ('changed', await bytesKept(), latin(changed.replaceAll('\n', '\r\n')))];
+  found.push(...differ('changed', await bytesKept(), latin(changed.replaceAll('\n', '\r\n'))));
+  const mixed = `# caf\xe9\n@ freecell mine\r\n${board}`;
+  await openFile('mixed.txt', Uint8Array.from(mixed, (it) => it.charCodeAt(0)));
+  type(`${at('text').value}# last\n`);
+  type(`# first\n${at('text').value}`);
+  return [...found, ...differ('untouched', await bytesKept(), `# first\n${mixed}# last\n`)];
 }
 
 // A link holds the shuffle, two swapped cards, the list and the place in it.

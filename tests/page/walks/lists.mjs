@@ -1,14 +1,14 @@
 // Lists of moves, stepped and played.
 
 import { all, at, choose, differ, later, paste, plain, printedBy, set, until } from './frame.mjs';
-import { drawn, Moved, nameOf } from './drawn.mjs';
+import { drawn, inPlayersWords, Moved, nameOf } from './drawn.mjs';
 
 export function stepped({ example, lists, records }) {
   paste(example);
   return lists.flatMap(({ name, list, image, place, verdict, made }) => {
     choose(name);
     set('list', place, 'change');
-    const found = differ('label', at('list').selectedOptions[0].textContent, `${place + 1}: ${verdict}`);
+    const found = differ('label', at('list').selectedOptions[0].textContent, `${place + 1}: ${inPlayersWords(verdict)}`);
     const record = records.find((it) => it.name === name);
     const [here, there] = [new Moved(record.board), new Moved(record.canonical)];
     for (let step = 0; step < made; step++) {

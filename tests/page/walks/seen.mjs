@@ -4,6 +4,8 @@ import { all, at, choose, differ, frame, later, load, paste, settled } from './f
 
 const SIZES = [[1440, 900], [1024, 768], [768, 1024], [720, 450], [844, 390], [390, 664], [320, 568]];
 
+const LONG_WORDS = 'Green becomes blue: columns move, then suits are renamed.';
+
 // What does not fit a screen of this size: both boards are in sight at once, and the controls are with them.
 function tooLarge(wide, high) {
   const { scrollWidth } = frame.contentDocument.documentElement;
@@ -51,6 +53,7 @@ export async function fitting({ example, records: [{ name }] }) {
     paste(example);
     choose(name);
     at('shuffle').click();
+    at('counter').textContent = LONG_WORDS;
     await later(400);
     found.push(...await settled(() => tooLarge(wide, high)), ...tooSmall(wide));
   }
@@ -81,6 +84,21 @@ export function named({ example }) {
   return controls.flatMap((it) => differ(it.outerHTML.slice(0, 80), /[a-z\d]/i.test(nameOf(it)), true));
 }
 
+// No id is there twice, headings go down one by one, what scrolls can have the focus, and what is looked for is there.
+export function structured({ example }) {
+  paste(example);
+  for (const it of all('details')) it.open = true;
+  const ids = all('[id]').map((it) => it.id);
+  const levels = all('h1, h2, h3, h4').map((it) => Number(it.tagName[1]));
+  const isScrolled = (it) => ['auto', 'scroll'].includes(frame.contentWindow.getComputedStyle(it).overflowY);
+  const isReached = (it) => it.tabIndex >= 0 || it.querySelector('button, a, input') !== null;
+  const out = all('main *').filter((it) => isScrolled(it) && it.offsetParent && !isReached(it)).map((it) => it.id);
+  const places = all('a[href^="#"]').filter((it) => at(it.getAttribute('href').slice(1)) === null);
+  return [...differ('ids', ids.length, new Set(ids).size),
+    ...differ('headings', levels.every((level, place) => level <= (levels[place - 1] ?? 0) + 1), true),
+    ...differ('what scrolls without the focus', out.join(), ''), ...differ('links to nothing', places.length, 0)];
+}
+
 // Letters, borders and marks stand out from what is behind them, in light and in dark.
 export function contrasts() {
   const [{ cssRules }] = frame.contentDocument.styleSheets;
@@ -88,7 +106,7 @@ export function contrasts() {
   const light = cssRules[0].style, dark = [...cssRules].find(isDark).cssRules[0].style;
   const letters = ['ink paper', 'ink panel', 'soft paper', 'soft panel', 'accent paper', 'accent panel',
     'on-accent accent', 'bad paper', 'on-felt left-felt', 'on-felt right-felt', 'gold left-felt', 'gold right-felt',
-    'red card', 'black card', 'red lit', 'black lit'];
+    'red card', 'black card', 'red lit', 'black lit', ...[1, 2, 3, 4, 5, 6, 7, 8].map((place) => `on-place place-${place}`)];
   const borders = ['control paper', 'control panel', 'focus paper', 'focus panel', 'slot left-felt', 'slot right-felt',
     'slot left-deep', 'slot right-deep', 'mark card', 'swapped card', 'gold left-deep', 'gold right-deep'];
   const pairs = [...letters.map((pair) => [pair, 4.5]), ...borders.map((pair) => [pair, 3])];

@@ -189,6 +189,21 @@ function pasteAsReader(text) {
 
 const notesShown = () => (at('imported').offsetParent ? all('#notes li').map((note) => note.textContent).join('\n') : '');
 
+// What is pasted as it is on the web becomes what `import` makes of it, in silence too, and stays where it makes nothing.
+export async function pasted({ imports: { pastes } }) {
+  const found = [];
+  await load();
+  for (const { given, text, notes } of pastes) {
+    paste('');
+    pasteAsReader(given);
+    for (let turn = 0; turn < 50 && at('text').value !== text; turn++) await later(10);
+    found.push(...differ(given.slice(0, 60), at('text').value.slice(0, 300), text.slice(0, 300)));
+    if (notes) found.push(...differ(`notes on ${given.slice(0, 40)}`, notesShown(), notes.join('\n')));
+    if (notes) found.push(...differ('is said', at('imported-said').textContent.startsWith('Imported: '), true));
+  }
+  return found;
+}
+
 // Rows that are pasted become what `import` makes of them, with its notes; a question is answered by a button; what is
 // read as it is stays as it is, until it is asked for.
 export async function imported({ example, imports: { rows, square } }) {

@@ -3,16 +3,27 @@
 import { all, at, choose, differ, frame, later, load, paste, plain, until } from './frame.mjs';
 import { drawn, shown } from './drawn.mjs';
 
-// How many boards are one puzzle.
-export function counted({ example, ways, counted: others }) {
+const colourOf = (it) => frame.contentWindow.getComputedStyle(it).backgroundColor;
+
+// Each column has the colour of its place on the canonical board, on both boards and on the small pictures, and says
+// that place where it is another one.
+export function coloured({ example, records }) {
   paste(example);
-  const found = ways.flatMap(({ name, count }) => {
+  const columnsOf = (side) => all(`#${side} .pile.column`);
+  const colours = columnsOf('right').map((pile) => colourOf(pile.firstChild));
+  const found = differ('colours', new Set(colours).size, 8);
+  return found.concat(records.flatMap(({ name, columns }) => {
     choose(name);
-    return differ(name, at('ways').textContent, count.toLocaleString('en'));
-  });
-  return found.concat(others.flatMap(({ text, count }) => {
-    paste(text);
-    return differ(text, at('ways').textContent, count.toLocaleString('en'));
+    return columnsOf('left').flatMap((pile, column) => {
+      const place = columns.indexOf(String(column + 1));
+      const said = place === column ? `${column + 1}` : `${column + 1}→${place + 1}`;
+      const stripes = all(`#left .card[data-key="${column + 1}"]`).map((it) => it.dataset.place);
+      const bars = all('#gathered .picture.left')[0].querySelectorAll('path')[column];
+      return [...differ(`${name}: column ${column + 1}`, pile.firstChild.textContent, said),
+        ...differ(`${name}: its colour`, colourOf(pile.firstChild), colours[place]),
+        ...differ(`${name}: its cards`, [...new Set(stripes)].join(), stripes.length > 0 ? `${place + 1}` : ''),
+        ...differ(`${name}: in the picture`, bars.dataset.place, `${place + 1}`)];
+    });
   }));
 }
 
@@ -54,24 +65,41 @@ function marks() {
   }).join(' ');
 }
 
-// It begins by itself, is skipped, and leaves nothing to undo.
+const title = () => at('boards-title').textContent.split(',')[0];
+
+// It begins by itself on a board of twelve cards, which becomes the right one over a ghost of it: the cards keep their
+// suits until all columns are there. It is skipped, leaves nothing to undo, and is played once more.
 export async function demonstration() {
   await load();
-  const found = differ('at first', frames().join(), '1');
+  const found = [...differ('at first', `${frames()} ${title()}`, '1 twelve-cards')];
+  const suits = () => all('#right .table > div:last-child .face').filter((face) => face.classList.contains('red')).length;
+  await until(() => all('.ghost').length > 0);
+  const cards = [...all('#left .card'), ...all('#right .table > div:last-child .card')];
+  const shape = (card) => card.querySelector('.pip path').getAttribute('d');
+  const isSame = () => cards.slice(0, 52).every((card, place) => shape(card) === shape(cards[place + 52]));
+  await later(1_000);
+  found.push(...differ('in flight', `${isSame()} ${suits()}`, 'true 26'));
   await until(() => frames()[0] > 1);
+  found.push(...differ('landed', `${isSame()} ${all('.ghost').length}`, 'false 0'));
   found.push(...differ('begins', frames()[0] > 1, true), ...differ('may be skipped', at('skip').hidden, false));
   at('skip').click();
-  found.push(...differ('skipped to', frames().join(), '4,1'), ...differ('skipped', at('skip').hidden, true));
-  return [...found, ...differ('nothing to undo', at('undo').ariaDisabled, 'true')];
+  found.push(...differ('skipped to', `${frames()} ${title()}`, '4,1 deal-1'),
+    ...differ('skipped', at('skip').hidden, true), ...differ('nothing to undo', at('undo').ariaDisabled, 'true'));
+  at('replay').click();
+  found.push(...differ('again', `${frames()} ${at('skip').hidden}`, '1 false'));
+  at('undo').click();
+  return [...found, ...differ('undone', `${frames()} ${at('skip').hidden}`, '4,1 true')];
 }
 
 // The reader's first act ends it.
 export async function demonstrationLeft() {
   await load();
+  await until(() => all('.ghost').length > 0);
   at('shuffle').click();
   const before = drawn('left');
   await later(2_500);
-  return [...differ('ended', at('skip').hidden, true), ...differ('still', drawn('left'), before)];
+  return [...differ('ended', at('skip').hidden, true), ...differ('still', drawn('left'), before),
+    ...differ('landed', all('.ghost').length, 0)];
 }
 
 // Where motion is not wanted the demonstration is at its end at once, and nothing moves after it.
@@ -80,6 +108,8 @@ export async function still() {
   const found = [...differ('gathered', frames().join(), '4,1'), ...differ('no skip', at('skip').hidden, true)];
   at('shuffle').click();
   at('on').click();
+  found.push(...differ('shuffled', frames().join(), '5,1'));
+  at('replay').click();
   const moving = frame.contentDocument.getAnimations().length;
-  return [...found, ...differ('animations', moving, 0), ...differ('shuffled', frames().join(), '5,1')];
+  return [...found, ...differ('animations', moving, 0), ...differ('replayed', frames().join(), '4,1')];
 }
