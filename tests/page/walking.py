@@ -14,7 +14,7 @@ from lib.paths import EXAMPLES, ROOT
 HERE = Path(__file__).resolve().parent
 PAGE = ROOT / "build" / "fcanon.html"
 EXAMPLE = (EXAMPLES / "positions.collection").read_text()
-SECONDS = 300  # for Node, and for a browser's walk: either takes a few
+SECONDS = 600  # for Node, and for a browser's walk, which takes one or two minutes where nothing else runs
 
 
 class Served:
