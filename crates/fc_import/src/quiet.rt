@@ -161,11 +161,7 @@ pub(crate) fn are_lists<R: Rule>(alloc: Global, lines: &[u8]) -> Result<bool, Al
     Ok(true)
 }
 
-fn is_list_or_empty<R: Rule>(
-    alloc: Global,
-    in_words: bool,
-    line: &[u8],
-) -> Result<bool, AllocError>
+fn is_list_or_empty<R: Rule>(alloc: Global, in_words: bool, line: &[u8]) -> Result<bool, AllocError>
     ensures { IfOk result (λ is. IsTrue is ↔ ((lists_moves R.game in_words line.now ≡ true)
         ⊎ (length (words_of line.now) ≡ 0))) }
 {
