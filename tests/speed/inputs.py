@@ -65,6 +65,11 @@ def columns_alone(board):
     return "".join(" ".join(map(card_text, column)) + "\n" for column in board.columns)
 
 
+def rows_alone(board):
+    rows = (" ".join(card_text(column[at]) for column in board.columns if at < len(column)) for at in range(7))
+    return "".join(row + "\n" for row in rows)
+
+
 def as_solver(board):
     """As Freecell Solver prints boards in which no card is home or in a cell."""
     columns = "".join(f": {line}\n" for line in columns_alone(board).replace("T", "10").splitlines())
@@ -93,5 +98,6 @@ def collections():
         "solver": (FREECELL, [as_solver(deal(draws, FREECELL)) for _ in many]),
         "lists": (FREECELL, [late(draws) for _ in many]),
         "runs": (FREECELL, [board_text(runs()) + RUNS_THERE_AND_BACK] * LISTS),
+        "rows": (FREECELL, [rows_alone(deal(draws, FREECELL)) for _ in many]),
     }
     return {name: (collection(game, texts), len(texts)) for name, (game, texts) in made.items()}

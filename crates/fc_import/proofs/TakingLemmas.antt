@@ -102,21 +102,23 @@ module _ {R : Type 0} (variant : Variant) (game : Game) (piece : List ℕ) (old 
 
 -- ---- boards
 
--- where `show` reads lines, they spell out no other board, unless they are that column by column
-pub read_alone : (game : Game) (piece : List ℕ) (read board : Board) → Spells game piece read
-    → ¬ ((named_lines piece ≡ by_columns board) × IsPacked board) → SpellsOut game piece board
+-- `show` reads lines as one board
+pub read_alone : (game : Game) (piece : List ℕ) (read board : Board) → Spells game piece read → Spells game piece board
     → read ≡ board
-read_alone game piece read board spells turned (inl spelled) =
+read_alone game piece read board spells spelled =
     Spells-board_of game piece read spells ∙ sym (Spells-board_of game piece board spelled)
-read_alone game piece read board spells turned (inr columns) = absurd (turned columns)
 
 -- and where it finds a fault, none
 pub none_read : (game : Game) (piece : List ℕ) (board : Board) (fault : BoardFault)
-    → first_fault game piece ≡ Some fault → ¬ ((named_lines piece ≡ by_columns board) × IsPacked board)
-    → ¬ SpellsOut game piece board
-none_read game piece board fault is turned (inl spelled) =
-    absurd (let e = sym is ∙ faultless-from_Spells game piece board spelled in cc)
-none_read game piece board fault is turned (inr columns) = absurd (turned columns)
+    → first_fault game piece ≡ Some fault → ¬ Spells game piece board
+none_read game piece board fault is spelled =
+    let e = sym is ∙ faultless-from_Spells game piece board spelled in cc
+
+-- lines that spell out a board, and that `show` does not read as it, are its cells and columns
+pub spelled_by_columns : (game : Game) (piece : List ℕ) (board : Board) → ¬ Spells game piece board → SpellsOut game piece board
+    → (named_lines piece ≡ by_columns board) × IsPacked board
+spelled_by_columns game piece board unread (inl spelled) = absurd (unread spelled)
+spelled_by_columns game piece board unread (inr columns) = columns
 
 -- lines that need no note of a board spell it out
 pub spelled_out : (asked : Noted) (game : Game) (piece : List ℕ) (board : Board) → IsWellFormed game board

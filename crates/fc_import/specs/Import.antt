@@ -20,8 +20,8 @@ use Rattle.fc_collect.specs.declared.streams.faults.RunFault.{RunFault}
 use Rattle.fc_collect.specs.declared.streams.faults.RunFault.TheVariants.{TooLarge, Write}
 use Rattle.fc_collect.specs.declared.streams.faults.Summary.{Summary}
 use Rattle.fc_import.specs.Notes.{after, after_heading, counted, first_state, IsNote, line_feeds}
-use Rattle.fc_import.specs.{Notes.{SaysUnless, State}, Scan.{HasFewCards, is_list, is_number_alone}}
-use Rattle.fc_import.specs.Scan.{IsProse, IsQuiet, said_in, words_of}
+use Rattle.fc_import.specs.{Notes.{SaysUnless, State}, Scan.{HasFewCards, is_in_words, is_list}}
+use Rattle.fc_import.specs.Scan.{is_number_alone, IsProse, IsQuiet, lists_moves, said_in, words_of}
 use Rattle.fc_import.specs.Words.{ended, named_in, named_lines, text_read}
 use Rattle.fc_import.specs.declared.changes.Noted.{Noted, TheVariants.{Doubts, Strict}}
 use Rattle.fc_import.specs.declared.tally.Fate.TheVariants.{ABoard, Again, AList, LeftOut, Passed}
@@ -68,11 +68,11 @@ Names game text (OneCard moves) = Listed (IsToken game) text moves
 Names game text (Runs moves) = Listed (IsRunToken game) text moves
 
 -- the moves that its lists name, each after a blank; a number alone may be a move too
-abbrev pub moves_of_line : Game → (line : List ℕ) → List ℕ
-moves_of_line game line = if is_list game line || is_number_alone (words_of line) then (said_in game line).moves else []
+abbrev pub moves_of_line : Game → (in_words : Bool) → (line : List ℕ) → List ℕ
+moves_of_line game in_words line = if lists_moves game in_words line || is_number_alone (words_of line) then (said_in game line).moves else []
 
 abbrev pub moves_of : Game → (piece : List ℕ) → List ℕ
-moves_of game piece = flat_map (λ line. moves_of_line game line.bytes) (lines_from 0 piece)
+moves_of game piece = flat_map (λ line. moves_of_line game (is_in_words piece) line.bytes) (lines_from 0 piece)
 
 -- the words are one by one these tokens, but that a move of two letters may say that it is of one card
 abbrev pub agree : (words tokens : List (List ℕ)) → Bool
@@ -88,7 +88,7 @@ pub record NamesList (game : Game) (piece : List ℕ) (list : MoveList) : Type 0
 
 -- each line is a list, or has no words
 abbrev pub AreLists : Game → (piece : List ℕ) → Type 0
-AreLists game piece = All (λ line. (is_list game line.bytes ≡ true) ⊎ (length (words_of line.bytes) ≡ 0)) (lines_from 0 piece)
+AreLists game piece = All (λ line. (lists_moves game (is_in_words piece) line.bytes ≡ true) ⊎ (length (words_of line.bytes) ≡ 0)) (lines_from 0 piece)
 
 -- and of a list of moves: it is their lines or, where each change is noted, they are its line
 abbrev pub ListNeedsNoNote : Noted → Game → (piece : List ℕ) → MoveList → Type 0

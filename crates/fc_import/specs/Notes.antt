@@ -8,7 +8,7 @@ use Rattle.fc_board.specs.{Boards.{Board}, declared.rule.Variant.{Variant}, Game
 use Rattle.fc_text.specs.{Bytes.{line_feed}, Notation.{separates_tokens}}
 use Rattle.fc_record.specs.Grammar.{begins_with, Heading, heading_of, list_mark}
 use Rattle.fc_record.specs.declared.record.RecordFault.{RecordFault}
-use Rattle.fc_import.specs.Words.{is_between}
+use Rattle.fc_import.specs.{Scan.{is_in_words}, Words.{is_between}}
 use Rattle.fc_import.specs.declared.{changes.Noted.{Noted}, tally.Fate.{Fate, TheVariants.{ABoard}}}
 use Rattle.fc_import.specs.declared.tally.Fate.TheVariants.{Again, AList, LeftOut, Passed}
 use Rattle.fc_import.specs.declared.tally.Fate.TheVariants.{RefusedBoard, RefusedList}
@@ -77,7 +77,7 @@ begun_after fate begun piece = false
 
 -- the lines of a list that no mark begins, no move in words, and no sentence of Freecell Solver's, as where a board is won and its list has no moves
 abbrev pub is_unmarked : (piece : List ℕ) → Bool
-is_unmarked piece = not (begins_with list_mark piece || bytes_eq (take 5 piece) (codes "Move ") || bytes_eq (take 5 piece) (codes "Move:") || bytes_eq (take 5 piece) (codes "This "))
+is_unmarked piece = not (begins_with list_mark piece || is_in_words piece || bytes_eq (take 5 piece) (codes "This "))
 
 abbrev pub goes_on_after : Fate → (piece : List ℕ) → Bool
 goes_on_after AList piece = is_unmarked piece

@@ -211,6 +211,28 @@ is_list game line =
     let said = said_in game line in
     slice_index line 0 == 0x3E || (said.all && is_none said.from && nat_lt 0 (length said.moves) && not (is_number_alone (words_of line)))
 
+-- -------- A solution in Freecell Solver's words, with boards between its moves. From: what `fc-solve -sam` prints.
+
+-- the text begins with a move in words, or before its letters
+abbrev pub is_in_words : (text : List ℕ) → Bool
+is_in_words text = bytes_eq (take 5 text) (codes "Move ") || bytes_eq (take 5 text) (codes "Move:")
+
+-- one sign, a ten, the name of a line, or a card in capitals
+abbrev pub is_drawn_word : List ℕ → Bool
+is_drawn_word word =
+    length word == 1 || bytes_eq word (codes "10") || bytes_eq word (codes "Foundations") || bytes_eq word (codes "Freecells")
+    || (is_some (named_card word) && not (list_any is_ascii_lowercase word))
+
+-- a line of a drawn board
+abbrev pub is_drawn : (line : List ℕ) → Bool
+is_drawn line = list_all (λ word. is_drawn_word word.0.bytes) (words_of line)
+
+-- the line lists moves: in a solution in words, no line of a drawn board does
+abbrev pub lists_moves : Game → (in_words : Bool) → (line : List ℕ) → Bool
+lists_moves game in_words line = is_list game line && not (in_words && is_drawn line)
+
+-- -------- How many moves a line names, and whether they may be cut into signs.
+
 -- single characters, of which the first two are a move: so moves may be cut into two
 abbrev pub begins_single : Game → List (Piece × ℕ) → Bool
 begins_single game words =

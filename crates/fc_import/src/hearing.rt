@@ -1,14 +1,14 @@
 //! What the words of a line say of moves: the only place where a byte becomes a move.
-ghost use Rattle.std.specs.{List.{list_all}, Option.{is_none}, Prelude.{◌&&◌, ◌*◌, ◌==◌, ◌≡◌, ◌≤◌}};
-ghost use Rattle.std.specs.Prelude.{◌⊎◌, count_by, false, IfOk, if◌then◌else◌, IsTrue, length};
-ghost use Rattle.std.specs.Prelude.{nat_lt, None, slice_index, true};
+ghost use Rattle.std.specs.{List.{list_all}, Prelude.{◌*◌, ◌==◌, ◌≡◌, ◌≤◌, ◌⊎◌, count_by, false}};
+ghost use Rattle.std.specs.Prelude.{IfOk, if◌then◌else◌, IsTrue, length, None, slice_index, true};
 ghost use Rattle.fc_text.specs.Bytes.{blank};
-ghost use Rattle.fc_import.specs.Scan.{after_word, are_single, begins_single, HasFewMoves, is_list};
+ghost use Rattle.fc_import.specs.Scan.{after_word, are_single, begins_single, HasFewMoves};
+ghost use Rattle.fc_import.specs.Scan.{is_drawn, is_drawn_word, is_in_words, is_list};
 ghost use Rattle.fc_import.specs.Scan.{is_number_alone, said_in, words_of};
 ghost use Rattle.fc_import.specs.Seen.{IsHeard, IsSeen, piece_of, said_of};
 
-use crate::moves::{Heard, is_sure};
-use crate::scan::LineSeen;
+use crate::moves::{Heard, has_small_letters, is_sure};
+use crate::scan::{LineSeen, named_card};
 use crate::solver::{push_solver_move, word_at};
 use crate::words::{Word, Words, uncommented};
 use fc_board::Rule;
@@ -72,7 +72,7 @@ impl LineHeard {
     }
 }
 
-/// Whether the line is a list. It is heard no further than to a word that is of no move.
+/// Whether the line is a list, of which the moves are put in place of those that are there.
 pub(crate) fn is_list<R: Rule>(
     line: &[u8],
     seen: &LineSeen,
@@ -81,37 +81,8 @@ pub(crate) fn is_list<R: Rule>(
     requires { IsSeen line.now seen.now }
     ensures { IfOk result (λ is. is ≡ is_list R.game line.now) }
 {
-    if line.first() == Some(&b'>') {
-        return Ok(true);
-    }
-    let names_moves = names_moves::<R>(line, moves)?;
-    Ok(names_moves && !seen.is_number_alone(line))
-}
-
-// Whether each word of the line is of a move, and there is one.
-fn names_moves<R: Rule>(line: &[u8], moves: &mut Vec<u8>) -> Result<bool, AllocError>
-    ensures { IfOk result (λ is. is ≡ ((said_in R.game line.now).all
-        && is_none (said_in R.game line.now).from
-        && nat_lt 0 (length (said_in R.game line.now).moves))) }
-{
-    moves.clear();
-    let text = uncommented(line);
-    let is_said = push_solver_move::<R>(text, moves)?;
-    let mut heard = first_heard(is_said);
-    for word in Words::new(text) {
-        heard = hear::<R>(is_said, heard, text, &word, moves)?;
-        if !heard.all {
-            return Ok(false);
-        }
-    }
-    Ok(has_moves(heard, moves))
-}
-
-// Whether there are moves, of which none lacks its target.
-fn has_moves(heard: Heard, moves: &Vec<u8>) -> bool
-    ensures { result ≡ (is_none heard.from && nat_lt 0 (length moves.now.items)) }
-{
-    heard.from.is_none() && !moves.is_empty()
+    let heard = LineHeard::of::<R>(line, moves)?;
+    Ok(heard.is_list::<R>(line, seen, moves.as_slice()))
 }
 
 // Whether so many moves are at most half of the words, or the line is a number alone.
@@ -172,6 +143,36 @@ fn hear<R: Rule>(
 
 fn later_if(is_later: bool, later: usize, before: usize) -> usize {
     if is_later { later } else { before }
+}
+
+/// Whether the text begins with a move in Freecell Solver's words, or before its letters.
+pub(crate) fn is_in_words(text: &[u8]) -> bool
+    ensures { result ≡ is_in_words text.now }
+{
+    text.starts_with(b"Move ") || text.starts_with(b"Move:")
+}
+
+/// Whether each word of the line may be in a drawing of a board.
+pub(crate) fn is_drawn(line: &[u8]) -> bool
+    ensures { result ≡ is_drawn line.now }
+{
+    for word in Words::new(uncommented(line)) {
+        if !is_drawn_word(word.text) {
+            return false;
+        }
+    }
+    true
+}
+
+// Whether the word is one sign, a ten, the name of a line, or a card in capitals.
+fn is_drawn_word(word: &[u8]) -> bool
+    ensures { result ≡ is_drawn_word word.now }
+{
+    is_single(word)
+        || word == b"10".as_slice()
+        || word == b"Foundations".as_slice()
+        || word == b"Freecells".as_slice()
+        || named_card(word).is_some() && !has_small_letters(word)
 }
 
 fn is_single(word: &[u8]) -> bool

@@ -1,12 +1,13 @@
 //! What stands before the cards of a line: a name with a colon, or the number of a column.
-ghost use Rattle.std.specs.Prelude.{◌∷◌, ◌≡◌, []};
+ghost use Rattle.std.specs.{List.{before_first}, Prelude.{◌==◌, ◌∷◌, ◌≡◌, []}};
+ghost use Rattle.fc_text.specs.Bytes.{colon};
 ghost use Rattle.fc_import.specs.Labels.{all_words, cells_names, column_names, columns_names};
 ghost use Rattle.fc_import.specs.Labels.{foundations_names, is_among, is_column_number};
 ghost use Rattle.fc_import.specs.Labels.{is_numbered, label_of, said_by_front, said_by_one};
 ghost use Rattle.fc_import.specs.{Labels.{said_by_two, said_by_words}, Seen.{piece_of}};
 
 use crate::solver::{count_words, word_at};
-use crate::words::{Word, Words, before_mark};
+use crate::words::{Word, Words};
 
 /// What a label says that its line is.
 #[derive(Clone, Copy, PartialEq, Eq, Debug)]
@@ -23,11 +24,11 @@ pub(crate) enum LabelKind {
     Unknown,
 }
 
-/// What a line before a comment begins with.
-pub(crate) fn label_of(text: &[u8]) -> LabelKind
+/// What a line before a comment begins with, which has this before its first colon.
+pub(crate) fn label_of(text: &[u8], front: &[u8]) -> LabelKind
+    requires { front.now ≡ before_first (λ byte. byte == colon) text.now }
     ensures { result ≡ label_of text.now }
 {
-    let front = before_mark(b':', text);
     if front.len() == text.len() {
         said_by_front(text)
     } else {

@@ -95,11 +95,11 @@ fn if_playable<R: Rule>(board: Board<R>, layout: Layout) -> Drafted<R> {
 // Whether the lines may be rows of which the gaps are left out: less than eight, none longer than the
 // one before, and the last one shorter than the first.
 fn may_be_squeezed(piece: &Piece) -> bool {
-    let first = places_of(first_row(piece));
+    let first = first_row(piece).len();
     let mut last = first;
     for line in piece.lines.as_slice() {
         if line.kind == LineKind::Cards {
-            let places = places_of(*line);
+            let places = piece.placed(line).len();
             if places > last {
                 return false;
             }
@@ -133,8 +133,8 @@ fn has_unplayable_row<R: Rule>(piece: &Piece) -> bool {
 
 // The one or two layouts that the shape of the lines allows.
 fn layouts_of(text: &[u8], piece: &Piece, lines_are: LinesAre) -> (Layout, Option<Layout>) {
-    if piece.rows == 1 && !begins_with_colon(text, first_row(piece)) {
-        return layout_of_line(piece.placed(&first_row(piece)));
+    if piece.rows == 1 && !has_colon(text, piece) {
+        return layout_of_line(first_row(piece));
     }
     if !may_be_rows(text, piece) {
         (Layout::Columns, None)
@@ -145,7 +145,17 @@ fn layouts_of(text: &[u8], piece: &Piece, lines_are: LinesAre) -> (Layout, Optio
     }
 }
 
-fn begins_with_colon(text: &[u8], line: PieceLine) -> bool {
+// Whether a line of cards begins with a colon.
+fn has_colon(text: &[u8], piece: &Piece) -> bool {
+    for line in piece.lines.as_slice() {
+        if line.kind == LineKind::Cards && begins_with_colon(text, line) {
+            return true;
+        }
+    }
+    false
+}
+
+fn begins_with_colon(text: &[u8], line: &PieceLine) -> bool {
     let bytes = text.get(line.start..).unwrap_or(b"");
     bytes.trim_ascii_start().starts_with(b":")
 }
@@ -159,27 +169,26 @@ fn layout_of_line(placed: &[Placed]) -> (Layout, Option<Layout>) {
     }
 }
 
-fn first_row(piece: &Piece) -> PieceLine {
+// The cards and gaps of the first line of cards.
+fn first_row(piece: &Piece) -> &[Placed] {
     for line in piece.lines.as_slice() {
         if line.kind == LineKind::Cards {
-            return *line;
+            return piece.placed(line);
         }
     }
-    PieceLine::default()
+    &[]
 }
 
 // Whether the lines may be rows: none has a label or more than eight places.
 fn may_be_rows(text: &[u8], piece: &Piece) -> bool {
     for line in piece.lines.as_slice() {
         if line.kind == LineKind::Cards
-            && (line.end.saturating_sub(line.first) > 8
-                || line.shape.label != LabelKind::Bare
-                || begins_with_colon(text, *line))
+            && (piece.placed(line).len() > 8 || line.shape.label != LabelKind::Bare)
         {
             return false;
         }
     }
-    piece.rows > 1
+    piece.rows > 1 && !has_colon(text, piece)
 }
 
 // Whether a line has a place without a card that is not in front of all lines, or a place of the
@@ -330,7 +339,7 @@ fn columns_of(piece: &Piece, layout: Layout) -> Option<[ArrayVec<Card, 52>; 8]> 
     let mut row: usize = 0;
     for line in piece.lines.as_slice() {
         if line.kind == LineKind::Cards {
-            if !has_label_of(*line, row) || line.shape.others > 0 {
+            if !has_label_of(line, row) || line.shape.others > 0 {
                 return None;
             }
             let placed = piece.placed(line);
@@ -346,7 +355,7 @@ fn columns_of(piece: &Piece, layout: Layout) -> Option<[ArrayVec<Card, 52>; 8]> 
 }
 
 // Whether the label of the line, if it has one, is the number of this column, counted from 0.
-fn has_label_of(line: PieceLine, column: usize) -> bool {
+fn has_label_of(line: &PieceLine, column: usize) -> bool {
     match line.shape.label {
         LabelKind::Bare => true,
         LabelKind::Column(number) => usize::from(number) == column.saturating_add(1),
@@ -440,7 +449,7 @@ fn grid_of(piece: &Piece) -> Option<Grid> {
             }
         }
     }
-    let unit = least_step(piece.placed(&first_row(piece)));
+    let unit = least_step(first_row(piece));
     let grid = Grid { base, unit };
     if unit >= 2 && has_all(grid, piece) {
         Some(grid)
@@ -497,10 +506,13 @@ fn is_parted(piece: &Piece) -> bool {
 
 // Whether a bar begins each line, or none.
 fn have_equal_bars(piece: &Piece) -> bool {
-    let has_bar = first_row(piece).shape.has_bar;
+    let mut has_bar: Option<bool> = None;
     for line in piece.lines.as_slice() {
-        if line.kind == LineKind::Cards && line.shape.has_bar != has_bar {
-            return false;
+        if line.kind == LineKind::Cards {
+            if has_bar == Some(!line.shape.has_bar) {
+                return false;
+            }
+            has_bar = Some(line.shape.has_bar);
         }
     }
     true
@@ -508,9 +520,9 @@ fn have_equal_bars(piece: &Piece) -> bool {
 
 // Whether all rows have as many places as the first.
 fn are_full(piece: &Piece) -> bool {
-    let most = places_of(first_row(piece));
+    let most = first_row(piece).len();
     for line in piece.lines.as_slice() {
-        if line.kind == LineKind::Cards && places_of(*line) != most {
+        if line.kind == LineKind::Cards && piece.placed(line).len() != most {
             return false;
         }
     }
@@ -521,24 +533,24 @@ fn are_full(piece: &Piece) -> bool {
 fn is_deal(piece: &Piece) -> bool {
     let mut cards: usize = 0;
     for line in piece.lines.as_slice() {
-        let places = places_of(*line);
+        let places = piece.placed(line).len();
         match line.kind {
             LineKind::Cards => cards = cards.saturating_add(places),
             LineKind::Cells if line.shape.bits != 0 => return false,
             _ => {}
         }
     }
-    places_of(first_row(piece)) == 8 && cards == 52
+    first_row(piece).len() == 8 && cards == 52
 }
 
 // Whether all rows but the last have as many places as the first: without a grid, others could
 // leave out any column.
 fn are_even(piece: &Piece) -> bool {
-    let most = places_of(first_row(piece));
+    let most = first_row(piece).len();
     let mut is_short = false;
     for line in piece.lines.as_slice() {
         if line.kind == LineKind::Cards {
-            let places = places_of(*line);
+            let places = piece.placed(line).len();
             if is_short || places > most {
                 return false;
             }
@@ -546,10 +558,6 @@ fn are_even(piece: &Piece) -> bool {
         }
     }
     true
-}
-
-fn places_of(line: PieceLine) -> usize {
-    line.end.saturating_sub(line.first)
 }
 
 // Whether marks part the words of each line, or the lines begin at one place and have as many blanks

@@ -19,10 +19,13 @@ ghost use Rattle.fc_import.specs.declared.tally.Fate.TheVariants.{ABoard};
 
 use crate::cards::{Named, has_cards};
 use crate::changes::{Noted, RESPELLED};
+use crate::hearing::is_in_words;
 use crate::naming::{copied, name_given, names_game, numbered, title_or_number};
 use crate::playable::can_be;
 use crate::quiet::{are_lists, are_no_board, are_prose, are_quiet, push_moves};
-use crate::spelled::{board_needs_no_note, is_equal, spelled_needs_no_note, spells_out};
+use crate::spelled::{
+    board_needs_no_note, has_columns, is_equal, is_read_as, spelled_needs_no_note, spells_out,
+};
 use crate::tally::{Fate, Tally, counted};
 use crate::walk::{Walk, line_after};
 use crate::words::{Words, before_mark, uncommented};
@@ -395,10 +398,10 @@ impl<R: Rule> Made<R> {
         let Some(board) = &self.last else {
             return Ok(false);
         };
-        let named = Named::by(alloc, piece)?;
-        if spells_out(alloc, piece, &named, board)? {
+        if spells_out(alloc, piece, board)? {
             return Ok(true);
         }
+        let named = Named::by(alloc, piece)?;
         has_cards(alloc, &named, board)
     }
 
@@ -456,8 +459,12 @@ impl<R: Rule> Made<R> {
             → SpellsOut R.game piece.now board.now ⊎ HasCards piece.now board.now) }
         ensures kept { IfOk result (λ is. is ≡ false → self.new ≡ self.old) }
     {
+        if is_read_as(piece, board) {
+            self.say_change(piece, board)?;
+            return Ok(true);
+        }
         let named = Named::by(alloc, piece)?;
-        if spells_out(alloc, piece, &named, board)? {
+        if has_columns(alloc, &named, board)? {
             self.say_change(piece, board)?;
             return Ok(true);
         }
@@ -643,10 +650,7 @@ fn goes_on_after(fate: Fate, piece: &[u8]) -> bool
 fn is_unmarked(piece: &[u8]) -> bool
     ensures { result ≡ is_unmarked piece.now }
 {
-    !(piece.first() == Some(&b'>')
-        || piece.starts_with(b"Move ")
-        || piece.starts_with(b"Move:")
-        || piece.starts_with(b"This "))
+    !(piece.first() == Some(&b'>') || is_in_words(piece) || piece.starts_with(b"This "))
 }
 
 // Whether the first line begins as fcanon's lists do, or has no words.

@@ -4,43 +4,26 @@ ghost use Rattle.std.specs.Prelude.{◌≡◌};
 
 use crate::labels::{LabelKind, label_of};
 use crate::scan::Placed;
-use crate::words::Words;
+use crate::words::{Word, Words, before_mark};
 use fc_card::Card;
 use memchr::memchr;
 
-/// How the part of a line before a word looks.
+/// How a line looks.
 #[derive(Clone, Copy, Debug)]
 pub(crate) struct Shape {
     pub(crate) label: LabelKind,
-    /// Where the label ends, with its mark, and how many bytes of blanks and marks the line begins
-    /// with after that.
-    label_end: usize,
+    /// How many bytes of blanks and marks the line begins with after its label, and how many tabs.
     pub(crate) indent: usize,
-    /// How many tabs the line begins with.
     pub(crate) tabs: usize,
-    /// The place after the last word, and that of the next one.
-    end: usize,
-    at: usize,
-    /// How many marks that part groups were there.
-    group: usize,
-    /// Whether nothing came after the last mark that parts fields, and whether nothing came yet.
-    is_open: bool,
-    is_begun: bool,
-    /// Whether the line begins with a bar, and whether the last mark opens a bracket.
+    /// Whether the line begins with a bar.
     pub(crate) has_bar: bool,
-    is_opened: bool,
-    /// The empty fields that nothing came after yet, and the places without a card before the next
-    /// word, so far, before the first card, and before the last one.
-    empties: usize,
-    pub(crate) gaps_before: usize,
-    seen: usize,
+    /// The places without a card before the first card, and before the last one.
     pub(crate) lead: usize,
     pub(crate) gaps: usize,
     /// The marks for no card.
     pub(crate) marks: usize,
-    /// Whether a mark that parts fields came since the last word, and did between any two; and the
-    /// fewest and the most blanks between two words.
-    is_parted_here: bool,
+    /// Whether a mark that parts fields came between any two words, and the fewest and the most
+    /// blanks between two.
     pub(crate) is_parted: bool,
     pub(crate) least_run: usize,
     pub(crate) most_run: usize,
@@ -55,29 +38,16 @@ pub(crate) struct Shape {
 }
 
 impl Shape {
-    /// A line before its first word.
-    pub(crate) fn new(text: &[u8]) -> Self {
-        let label = label_of(text);
-        let label_end = label_end(text, label);
+    /// A line with this label and without cards.
+    pub(crate) fn new(label: LabelKind) -> Self {
         Shape {
             label,
-            label_end,
             indent: 0,
             tabs: 0,
-            end: 0,
-            at: 0,
-            group: 0,
-            is_open: true,
-            is_begun: false,
             has_bar: false,
-            is_opened: false,
-            empties: 0,
-            gaps_before: 0,
-            seen: 0,
             lead: 0,
             gaps: 0,
             marks: 0,
-            is_parted_here: false,
             is_parted: true,
             least_run: usize::MAX,
             most_run: 0,
@@ -86,6 +56,69 @@ impl Shape {
             other: 0,
             aces: 0,
             bits: 0,
+        }
+    }
+
+    /// Sees a word or a mark that names no card.
+    pub(crate) fn see_other(&mut self, at: usize) {
+        if self.others == 0 {
+            self.other = at;
+        }
+        self.others = self.others.saturating_add(1);
+    }
+
+    // Sees a card that this word names.
+    fn see_card(&mut self, word: &[u8], card: Card) {
+        self.cards = self.cards.saturating_add(1);
+        let is_one = matches!(word, [b'1', _]);
+        self.aces = self.aces.saturating_add(usize::from(is_one));
+        self.bits |= 1 << card.number();
+    }
+}
+
+/// The part of a line before a word, and how the line looks so far.
+#[derive(Clone, Copy, Debug)]
+pub(crate) struct Front {
+    pub(crate) shape: Shape,
+    /// Where the label ends, with its mark.
+    label_end: usize,
+    /// The place after the last word, and that of the next one.
+    end: usize,
+    at: usize,
+    /// How many marks that part groups were there.
+    group: usize,
+    /// Whether nothing came after the last mark that parts fields, and whether nothing came yet.
+    is_open: bool,
+    is_begun: bool,
+    /// Whether the last mark opens a bracket, and whether a mark that parts fields came since the
+    /// last word.
+    is_opened: bool,
+    is_parted_here: bool,
+    /// The empty fields that nothing came after yet, and the places without a card before the next
+    /// word, and so far.
+    empties: usize,
+    pub(crate) gaps_before: usize,
+    seen: usize,
+}
+
+impl Front {
+    /// A line before its first word.
+    pub(crate) fn new(text: &[u8]) -> Self {
+        let front = before_mark(b':', text);
+        let label = label_of(text, front);
+        Front {
+            shape: Shape::new(label),
+            label_end: label_end(text, front, label),
+            end: 0,
+            at: 0,
+            group: 0,
+            is_open: true,
+            is_begun: false,
+            is_opened: false,
+            is_parted_here: false,
+            empties: 0,
+            gaps_before: 0,
+            seen: 0,
         }
     }
 
@@ -131,30 +164,25 @@ impl Shape {
 
     // Sees so many blanks between two words or marks for no card.
     fn see_run(&mut self, run: usize) {
-        if self
-            .cards
-            .saturating_add(self.others)
-            .saturating_add(self.seen)
-            > 0
-        {
-            self.least_run = self.least_run.min(run);
-            self.most_run = self.most_run.max(run);
-            self.is_parted = self.is_parted && self.is_parted_here;
+        if self.shape.cards > 0 || self.shape.others > 0 || self.seen > 0 {
+            self.shape.least_run = self.shape.least_run.min(run);
+            self.shape.most_run = self.shape.most_run.max(run);
+            self.shape.is_parted = self.shape.is_parted && self.is_parted_here;
         }
     }
 
     // Passes a mark that parts fields. With nothing before it, a tab is an indent and a bar begins a
     // table; after a label another one would leave out a field.
     fn pass_separator(&mut self, byte: u8, at: usize) {
-        let is_after_label = self.label_end > 0 && self.label != LabelKind::Bare;
+        let is_after_label = self.label_end > 0 && self.shape.label != LabelKind::Bare;
         match (byte, self.is_begun) {
-            (b'\t', false) if !is_after_label || at == self.label_end || self.tabs > 0 => {
-                self.tabs = self.tabs.saturating_add(1);
+            (b'\t', false) if !is_after_label || at == self.label_end || self.shape.tabs > 0 => {
+                self.shape.tabs = self.shape.tabs.saturating_add(1);
             }
-            (_, false) if is_after_label => self.see_other(at),
+            (_, false) if is_after_label => self.shape.see_other(at),
             (b'|', false) => {
                 self.is_begun = true;
-                self.has_bar = true;
+                self.shape.has_bar = true;
             }
             _ => {
                 self.empties = self.empties.saturating_add(usize::from(self.is_open));
@@ -181,7 +209,7 @@ impl Shape {
         if is_after_word || is_before_word {
             let is_between = is_after_word && is_before_word && mark == b"-".as_slice();
             if !is_between && !is_all(mark, b"\"'`[](){}<>*.") {
-                self.see_other(start);
+                self.shape.see_other(start);
             }
             return;
         }
@@ -190,13 +218,13 @@ impl Shape {
             self.see_run(run);
             self.see_mark();
         } else if is_opened || !(self.is_opened || is_all(mark, b"])}>") || is_quote) {
-            self.see_other(start);
+            self.shape.see_other(start);
         }
     }
 
     // Sees a mark for no card.
     fn see_mark(&mut self) {
-        self.marks = self.marks.saturating_add(1);
+        self.shape.marks = self.shape.marks.saturating_add(1);
         self.empties = self.empties.saturating_add(1);
         self.fill();
     }
@@ -210,36 +238,43 @@ impl Shape {
         self.empties = 0;
     }
 
-    /// Sees a word or a mark that names no card.
-    pub(crate) fn see_other(&mut self, at: usize) {
-        if self.others == 0 {
-            self.other = at;
+    /// Passes a card that comes one blank after a word of the line, of which one is a card, as most
+    /// do. Returns whether it does.
+    pub(crate) fn goes_on(&mut self, text: &[u8], word: &Word<'_>, card: Card) -> bool {
+        let is_next = word.start.saturating_sub(self.end) == 1
+            && text.get(self.end) == Some(&b' ')
+            && self.shape.cards > 0;
+        if is_next {
+            self.at = word.start;
+            self.end = word.end;
+            self.shape.is_parted = false;
+            self.shape.least_run = self.shape.least_run.min(1);
+            self.shape.most_run = self.shape.most_run.max(1);
+            self.shape.gaps = self.seen;
+            self.shape.see_card(word.text, card);
         }
-        self.others = self.others.saturating_add(1);
+        is_next
     }
 
     /// Passes a word, which is the label's or the line's.
-    pub(crate) fn count(&mut self, word: &[u8], start: usize, end: usize, card: Option<Card>) {
-        self.end = end;
-        if start < self.label_end {
+    pub(crate) fn count(&mut self, word: &Word<'_>, card: &Option<Card>) {
+        self.end = word.end;
+        if word.start < self.label_end {
             return;
         }
         self.is_open = false;
         self.is_begun = true;
         self.is_opened = false;
         let Some(card) = card else {
-            self.see_other(start);
+            self.shape.see_other(word.start);
             return;
         };
-        if self.cards == 0 {
-            self.lead = self.seen;
-            self.indent = start.saturating_sub(self.label_end);
+        if self.shape.cards == 0 {
+            self.shape.lead = self.seen;
+            self.shape.indent = word.start.saturating_sub(self.label_end);
         }
-        self.gaps = self.seen;
-        self.cards = self.cards.saturating_add(1);
-        let is_one = matches!(word, [b'1', _]);
-        self.aces = self.aces.saturating_add(usize::from(is_one));
-        self.bits |= 1 << card.number();
+        self.shape.gaps = self.seen;
+        self.shape.see_card(word.text, *card);
     }
 
     /// A card or a gap that is here.
@@ -252,15 +287,17 @@ impl Shape {
     }
 }
 
-// Where the label of this kind ends, with its mark.
-fn label_end(text: &[u8], label: LabelKind) -> usize {
-    match memchr(b':', text) {
-        Some(place) => place.saturating_add(1),
-        None if label == LabelKind::Bare => 0,
-        None => match Words::new(text).next() {
-            Some(word) => word.end.saturating_add(1),
-            None => 0,
-        },
+// Where the label of this kind ends, with its mark, of a line that has this before its first colon.
+fn label_end(text: &[u8], front: &[u8], label: LabelKind) -> usize {
+    if front.len() < text.len() {
+        return front.len().saturating_add(1);
+    }
+    if label == LabelKind::Bare {
+        return 0;
+    }
+    match Words::new(text).next() {
+        Some(word) => word.end.saturating_add(1),
+        None => 0,
     }
 }
 

@@ -256,7 +256,7 @@ fn is_card_move(word: &[u8], next: &[u8]) -> bool
         && (is_pointed(next) || matches!(next, [b't', b'o', b' ', ..]))
 }
 
-fn has_small_letters(word: &[u8]) -> bool
+pub(crate) fn has_small_letters(word: &[u8]) -> bool
     ensures { result ≡ list_any is_ascii_lowercase word.now }
 {
     word.iter().any(|byte| byte.is_ascii_lowercase())

@@ -1,6 +1,8 @@
 //! The lines of one piece of a text, scanned once each, up to where the piece ends. Nothing is
 //! promised of where that is.
-use crate::hearing::{LineHeard, is_list};
+ghost use Rattle.fc_import.specs.Seen.{IsSeen};
+
+use crate::hearing::{LineHeard, is_drawn, is_in_words, is_list};
 use crate::labels::LabelKind;
 use crate::marks::Shape;
 use crate::scan::{LineSeen, Placed, named_card};
@@ -62,8 +64,6 @@ pub(crate) struct PieceLine {
     pub(crate) end: usize,
     /// How many of its cards were there before, in the line or above it.
     repeats: usize,
-    is_list: bool,
-    names_none_home: bool,
 }
 
 impl Default for PieceLine {
@@ -72,12 +72,10 @@ impl Default for PieceLine {
             start: 0,
             len: 0,
             kind: LineKind::Blank,
-            shape: Shape::new(b""),
+            shape: Shape::new(LabelKind::Bare),
             first: 0,
             end: 0,
             repeats: 0,
-            is_list: false,
-            names_none_home: false,
         }
     }
 }
@@ -173,9 +171,9 @@ impl Piece {
             }
             LineKind::Blank | LineKind::Comment | LineKind::Other => Ok(PieceKind::Prose),
             LineKind::Foundations | LineKind::Cells | LineKind::Cards => {
-                self.add(line, first.text);
+                self.add(&line, first.text);
                 self.go_on::<R>(lines)?;
-                if line.is_list && !self.is_whole() {
+                if !self.is_whole() && self.is_list::<R>(first.text)? {
                     self.go_on_with_moves::<R>(text)?;
                     return Ok(PieceKind::Moves);
                 }
@@ -191,10 +189,10 @@ impl Piece {
                 break;
             }
             let seen = self.look_at::<R>(line)?;
-            if !self.takes(&seen) {
+            if !self.takes::<R>(&seen, line.text)? {
                 break;
             }
-            self.add(seen, line.text);
+            self.add(&seen, line.text);
         }
         self.drop_blanks();
         self.len = match self.lines.as_slice().last() {
@@ -210,17 +208,17 @@ impl Piece {
     /// blank lines between them.
     pub(crate) fn go_on_with_moves<R: Rule>(&mut self, text: &[u8]) -> Result<(), AllocError> {
         self.clear();
-        let is_said = begins_said(text);
-        let most = if is_said {
+        let in_words = is_in_words(text);
+        let most = if in_words {
             solution_len(text)
         } else {
             text.len()
         };
         for line in Lines::new(text) {
-            if line.start >= most || line.start > 0 && self.ends_moves::<R>(line.text, is_said)? {
+            if line.start >= most || line.start > 0 && self.ends_moves::<R>(line.text, in_words)? {
                 break;
             }
-            self.take_moves::<R>(line, is_said)?;
+            self.take_moves::<R>(line, in_words)?;
             self.len = line.start.saturating_add(line.text.len());
             if text.starts_with(b">") {
                 break;
@@ -230,34 +228,36 @@ impl Piece {
     }
 
     // Whether the solution ends before the line.
-    fn ends_moves<R: Rule>(&mut self, line: &[u8], is_said: bool) -> Result<bool, AllocError> {
+    fn ends_moves<R: Rule>(&mut self, line: &[u8], in_words: bool) -> Result<bool, AllocError> {
         if line.starts_with(b"@") || line.starts_with(b">") || line.starts_with(FIRST_RULE) {
             return Ok(true);
         }
-        if is_said {
+        if in_words {
             return Ok(false);
         }
         if line.trim_ascii().is_empty() {
             return Ok(true);
         }
         let seen = LineSeen::of(line, &mut self.placed)?;
-        let is_list = is_list::<R>(line, &seen, &mut self.line_moves)?;
-        Ok(!is_list && begins_board(self.kind_of::<R>(line, &seen, is_list)?))
+        Ok(begins_board(self.kind_of::<R>(line, &seen)?) && !self.is_list::<R>(line)?)
     }
 
     // Takes the moves of a line.
-    fn take_moves<R: Rule>(&mut self, line: Line<'_>, is_said: bool) -> Result<(), AllocError> {
+    fn take_moves<R: Rule>(&mut self, line: Line<'_>, in_words: bool) -> Result<(), AllocError> {
         let text = line.text;
         let seen = LineSeen::of(text, &mut self.placed)?;
         let LineHeard { heard, other } = LineHeard::of::<R>(text, &mut self.line_moves)?;
+        let is_between = in_words && (text.starts_with(SOLVED) || is_drawn(text));
+        if seen.words == 0 || is_between {
+            return Ok(());
+        }
         let is_alone = seen.words == 1 && seen.numbers;
         let is_list = text.starts_with(b">") || !self.line_moves.is_empty() && !is_alone;
         if is_list && heard.all && heard.from.is_none() {
             self.moves.extend_from_slice(self.line_moves.as_slice())?;
             return Ok(());
         }
-        let is_between = is_said && (text.starts_with(SOLVED) || is_drawn(text));
-        if seen.words == 0 || is_between || self.foreign.is_some() {
+        if self.foreign.is_some() {
             return Ok(());
         }
         if line.start == 0 && is_alone {
@@ -288,20 +288,28 @@ impl Piece {
         Ok(heard.has_few_moves::<R>(line, &seen, self.line_moves.as_slice()))
     }
 
-    fn kind_of<R: Rule>(
-        &mut self,
-        line: &[u8],
-        seen: &LineSeen,
-        is_list: bool,
-    ) -> Result<LineKind, AllocError> {
+    // Whether the line is a list.
+    fn is_list<R: Rule>(&mut self, line: &[u8]) -> Result<bool, AllocError> {
+        let seen = LineSeen::of(line, &mut self.placed)?;
+        is_list::<R>(line, &seen, &mut self.line_moves)
+    }
+
+    fn kind_of<R: Rule>(&mut self, line: &[u8], seen: &LineSeen) -> Result<LineKind, AllocError>
+        requires { IsSeen line.now seen.now }
+    {
         let front = line.trim_ascii_start();
         Ok(match front {
             [] => LineKind::Blank,
             [b'#', ..] => LineKind::Comment,
             [b'>', ..] if self.is_marked_list::<R>(line, seen)? => LineKind::Moves,
-            _ if begins_said(front) => LineKind::Moves,
+            [b'M', ..] if is_in_words(front) => LineKind::Moves,
             [b'=', b'=', ..] | [b'-', b'=', ..] => LineKind::Other,
-            _ => kind_by_label(line, seen, is_list),
+            _ => match kind_by_label(front, seen) {
+                LineKind::Other if is_list::<R>(line, seen, &mut self.line_moves)? => {
+                    LineKind::Moves
+                }
+                kind => kind,
+            },
         })
     }
 
@@ -320,50 +328,55 @@ impl Piece {
         let text = line.text;
         let first = self.placed.len();
         let seen = LineSeen::of(text, &mut self.placed)?;
-        let is_list = is_list::<R>(text, &seen, &mut self.line_moves)?;
-        let is_number = seen.words == 1 && seen.numbers && self.line_moves.len() == 3;
-        let kind = self.kind_of::<R>(text, &seen, is_list)?;
+        let end = self.placed.len();
+        let kind = self.kind_of::<R>(text, &seen)?;
+        self.is_number = seen.words == 1 && seen.numbers && self.is_move::<R>(text)?;
         let mut shape = seen.shape;
-        if let (LineKind::Cells, Some(place)) = (kind, bold_after_name(text)) {
-            shape.see_other(place);
+        if kind == LineKind::Cells {
+            if let Some(place) = bold_after_name(text) {
+                shape.see_other(place);
+            }
         }
-        self.is_number = is_number;
         Ok(PieceLine {
             start: line.start,
             len: text.len(),
             kind,
             shape,
             first,
-            end: self.placed.len(),
+            end,
             repeats: shape
                 .cards
                 .saturating_sub(count_of(shape.bits & !self.bits)),
-            is_list,
-            names_none_home: kind == LineKind::Foundations && heights_of(text).0 == [0; 4],
         })
     }
 
+    // Whether the line names one move of two letters.
+    fn is_move<R: Rule>(&mut self, line: &[u8]) -> Result<bool, AllocError> {
+        let _ = LineHeard::of::<R>(line, &mut self.line_moves)?;
+        Ok(self.line_moves.len() == 3)
+    }
+
     // Whether the line may be the board's.
-    fn takes(&mut self, line: &PieceLine) -> bool {
+    fn takes<R: Rule>(&mut self, line: &PieceLine, text: &[u8]) -> Result<bool, AllocError> {
         let is_whole = self.is_whole();
         let is_after_blank = self.up_to_blank == self.lines.len() && self.up_to_blank > 0;
-        match line.kind {
+        Ok(match line.kind {
             LineKind::Moves | LineKind::Other => false,
             LineKind::Comment => !is_whole && self.rows < 8,
             LineKind::Blank => !is_whole && self.rows < 8 && !self.is_damaged,
             LineKind::Foundations => {
-                let fits = !is_whole || line.names_none_home;
+                let fits = !is_whole || heights_of(text).0 == [0; 4];
                 !self.has_heights && fits && !(is_after_blank && self.rows > 0)
             }
             LineKind::Cells => !self.has_cells && (!is_whole || line.shape.bits == 0),
             LineKind::Cards if is_whole => self.rows < 8 && line.shape.bits == 0,
-            LineKind::Cards if line.repeats > 0 && line.is_list => false,
+            LineKind::Cards if line.repeats > 0 && self.is_list::<R>(text)? => false,
             LineKind::Cards if self.begins_other(line) => {
                 self.cut_at_blank();
                 false
             }
             LineKind::Cards => true,
-        }
+        })
     }
 
     // Whether another board seems to begin above the line: its cards come again after a blank line,
@@ -392,7 +405,7 @@ impl Piece {
         }
     }
 
-    fn add(&mut self, line: PieceLine, text: &[u8]) {
+    fn add(&mut self, line: &PieceLine, text: &[u8]) {
         match line.kind {
             LineKind::Foundations => self.add_heights(line.start, text),
             LineKind::Cells => self.has_cells = true,
@@ -407,7 +420,7 @@ impl Piece {
                 .saturating_add(count_of(line.shape.bits & !self.bits));
             self.bits |= line.shape.bits;
         }
-        let _ = self.lines.try_push(line);
+        let _ = self.lines.try_push(*line);
     }
 
     fn add_heights(&mut self, start: usize, text: &[u8]) {
@@ -438,30 +451,11 @@ fn solution_len(text: &[u8]) -> usize {
         if line.text.starts_with(SOLVED) {
             return line.start.saturating_add(1);
         }
-        if begins_said(line.text) {
+        if is_in_words(line.text) {
             len = line.start.saturating_add(1);
         }
     }
     len
-}
-
-// Whether the text begins with a move that Freecell Solver says, in words or before its letters.
-fn begins_said(text: &[u8]) -> bool {
-    text.starts_with(b"Move ") || text.starts_with(b"Move:")
-}
-
-// Whether each word of the line may be in a drawing of a board: a card, one sign, a ten, or the name
-// of a line.
-fn is_drawn(line: &[u8]) -> bool {
-    for word in Words::new(line) {
-        let is_name = word.text == b"Foundations".as_slice()
-            || word.text == b"Freecells".as_slice();
-        let is_part = word.text.len() == 1 || word.text == b"10".as_slice();
-        if !is_name && !is_part && named_card(word.text).is_none() {
-            return false;
-        }
-    }
-    true
 }
 
 fn begins_board(kind: LineKind) -> bool {
@@ -471,20 +465,20 @@ fn begins_board(kind: LineKind) -> bool {
     )
 }
 
-fn kind_by_label(line: &[u8], seen: &LineSeen, is_list: bool) -> LineKind {
+// What a line that begins with this after blanks is by its name and its words, if that tells.
+fn kind_by_label(front: &[u8], seen: &LineSeen) -> LineKind {
     let shape = &seen.shape;
     match shape.label {
         LabelKind::Foundations => LineKind::Foundations,
         LabelKind::Cells => LineKind::Cells,
         LabelKind::Columns if shape.cards == 0 && shape.others == 0 => LineKind::Comment,
-        _ => kind_by_words(line, seen, is_list),
+        _ => kind_by_words(front, seen),
     }
 }
 
-// What a line without a name is by its words.
-fn kind_by_words(line: &[u8], seen: &LineSeen, is_list: bool) -> LineKind {
+fn kind_by_words(front: &[u8], seen: &LineSeen) -> LineKind {
     let (cards, others) = (seen.shape.cards, seen.shape.others);
-    let has_colon = line.trim_ascii_start().starts_with(b":");
+    let has_colon = front.starts_with(b":");
     let sure = if has_colon {
         cards
     } else {
@@ -499,8 +493,6 @@ fn kind_by_words(line: &[u8], seen: &LineSeen, is_list: bool) -> LineKind {
     }
     if others == 0 && sure > 0 || sure > others && sure.saturating_add(others) >= 3 {
         LineKind::Cards
-    } else if is_list {
-        LineKind::Moves
     } else {
         LineKind::Other
     }

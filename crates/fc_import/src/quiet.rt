@@ -2,10 +2,10 @@
 ghost use Rattle.std.specs.Prelude.{◌++◌, ◌↔◌, ◌≡◌, ◌⊎◌, All, IfOk, IsTrue, length, OnOk, true};
 ghost use Rattle.fc_text.specs.Lines.{lines_from};
 ghost use Rattle.fc_import.specs.Import.{AreLists, IsNoBoard, moves_of, moves_of_line};
-ghost use Rattle.fc_import.specs.Scan.{cards_in, HasFewMoves, is_list, IsProse, IsQuiet, words_of};
-ghost use Rattle.fc_import.specs.Seen.{cards_of, IsHeard, IsSeen};
+ghost use Rattle.fc_import.specs.Scan.{cards_in, HasFewMoves, is_list, IsProse, IsQuiet};
+ghost use Rattle.fc_import.specs.{Scan.{lists_moves, words_of}, Seen.{cards_of, IsHeard, IsSeen}};
 
-use crate::hearing::LineHeard;
+use crate::hearing::{LineHeard, is_drawn, is_in_words};
 use crate::scan::{LineSeen, Placed};
 use fc_board::Rule;
 use fc_text::Lines;
@@ -49,6 +49,15 @@ impl Scanned {
     {
         self.heard
             .is_list::<R>(line, &self.seen, self.moves.as_slice())
+    }
+
+    // Whether the line, which is this one, lists moves of a solution that may be in words.
+    fn lists_moves<R: Rule>(&self, in_words: bool, line: &[u8]) -> bool
+        requires seen { IsSeen line.now self.now.seen }
+        requires heard { IsHeard R.game line.now self.now.moves.items self.now.heard }
+        ensures { result ≡ lists_moves R.game in_words line.now }
+    {
+        self.is_list::<R>(line) && !(in_words && is_drawn(line))
     }
 
     // Whether the line, which is this one, names few moves.
@@ -143,20 +152,21 @@ fn is_no_board<R: Rule>(alloc: Global, line: &[u8]) -> Result<bool, AllocError>
 pub(crate) fn are_lists<R: Rule>(alloc: Global, lines: &[u8]) -> Result<bool, AllocError>
     ensures { IfOk result (λ are. IsTrue are ↔ AreLists R.game lines.now) }
 {
+    let in_words = is_in_words(lines);
     for line in Lines::new(lines) {
-        if !is_list_or_empty::<R>(alloc, line.text)? {
+        if !is_list_or_empty::<R>(alloc, in_words, line.text)? {
             return Ok(false);
         }
     }
     Ok(true)
 }
 
-fn is_list_or_empty<R: Rule>(alloc: Global, line: &[u8]) -> Result<bool, AllocError>
-    ensures { IfOk result (λ is. IsTrue is ↔ ((is_list R.game line.now ≡ true)
+fn is_list_or_empty<R: Rule>(alloc: Global, in_words: bool, line: &[u8]) -> Result<bool, AllocError>
+    ensures { IfOk result (λ is. IsTrue is ↔ ((lists_moves R.game in_words line.now ≡ true)
         ⊎ (length (words_of line.now) ≡ 0))) }
 {
     let scanned = scan_line::<R>(alloc, line)?;
-    Ok(scanned.seen.words == 0 || scanned.is_list::<R>(line))
+    Ok(scanned.seen.words == 0 || scanned.lists_moves::<R>(in_words, line))
 }
 
 /// Puts the moves that the lists among the lines name, each after a blank.
@@ -167,17 +177,24 @@ pub(crate) fn push_moves<R: Rule>(
 ) -> Result<(), AllocError>
     ensures { OnOk result (moves.new.items ≡ moves.old.items ++ moves_of R.game lines.now) }
 {
+    let in_words = is_in_words(lines);
     for line in Lines::new(lines) {
-        push_moves_of::<R>(alloc, line.text, moves)?;
+        push_moves_of::<R>(alloc, in_words, line.text, moves)?;
     }
     Ok(())
 }
 
-fn push_moves_of<R: Rule>(alloc: Global, line: &[u8], moves: &mut Vec<u8>) -> Result<(), AllocError>
-    ensures { OnOk result (moves.new.items ≡ moves.old.items ++ moves_of_line R.game line.now) }
+fn push_moves_of<R: Rule>(
+    alloc: Global,
+    in_words: bool,
+    line: &[u8],
+    moves: &mut Vec<u8>,
+) -> Result<(), AllocError>
+    ensures { OnOk result
+        (moves.new.items ≡ moves.old.items ++ moves_of_line R.game in_words line.now) }
 {
     let scanned = scan_line::<R>(alloc, line)?;
-    if scanned.is_list::<R>(line) || scanned.seen.is_number_alone(line) {
+    if scanned.lists_moves::<R>(in_words, line) || scanned.seen.is_number_alone(line) {
         moves.extend_from_slice(scanned.moves.as_slice())?;
     }
     Ok(())

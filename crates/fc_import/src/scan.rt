@@ -5,9 +5,9 @@ ghost use Rattle.fc_text.specs.Spelling.{card_spelled};
 ghost use Rattle.fc_import.specs.Scan.{cards_in, is_number, is_number_alone, named_card, words_of};
 ghost use Rattle.fc_import.specs.Seen.{cards_of, IsSeen};
 
-use crate::marks::Shape;
+use crate::marks::{Front, Shape};
 use crate::moves::is_number;
-use crate::words::{Words, uncommented};
+use crate::words::{Word, Words, uncommented};
 use fc_card::Card;
 use fc_text::card_spelled;
 use std::alloc::AllocError;
@@ -40,21 +40,18 @@ impl LineSeen {
         let text = uncommented(line);
         let mut words: usize = 0;
         let mut numbers = true;
-        let mut shape = Shape::new(text);
+        let mut front = Front::new(text);
         for word in Words::new(text) {
-            shape.pass(text, word.start);
-            push_gaps(placed, &shape)?;
-            let card = push_named(placed, word.text, &shape)?;
-            shape.count(word.text, word.start, word.end, card);
+            push_word(placed, &mut front, text, &word)?;
             words = words.saturating_add(1);
-            numbers = both(numbers, is_number(word.text));
+            numbers = is_number_too(numbers, word.text);
         }
-        shape.pass(text, text.len());
-        push_gaps(placed, &shape)?;
+        front.pass(text, text.len());
+        push_gaps(placed, &front)?;
         Ok(LineSeen {
             words,
             numbers,
-            shape,
+            shape: front.shape,
         })
     }
 
@@ -67,36 +64,69 @@ impl LineSeen {
     }
 }
 
-fn both(first: bool, second: bool) -> bool
-    ensures { result ≡ (first && second) }
+// Whether this was so before, and the word is a number.
+fn is_number_too(before: bool, word: &[u8]) -> bool
+    ensures { result ≡ (before && is_number word.now) }
 {
-    first && second
+    before && is_number(word)
+}
+
+// Passes the next word: puts the gaps before it, and the card that it names, if it names one.
+fn push_word(
+    placed: &mut Vec<Placed>,
+    front: &mut Front,
+    text: &[u8],
+    word: &Word<'_>,
+) -> Result<(), AllocError>
+    ensures { OnOk result (cards_of placed.new.items
+        ≡ cards_of placed.old.items ++ option_to_list (named_card word.now.text.now)) }
+{
+    let card = named_card(word.text);
+    pass_to(placed, front, text, word, &card)?;
+    let place = front.place(card);
+    push_card(placed, &place)
+}
+
+// Passes the next word, which names this card, and puts the gaps before it.
+fn pass_to(
+    placed: &mut Vec<Placed>,
+    front: &mut Front,
+    text: &[u8],
+    word: &Word<'_>,
+    card: &Option<Card>,
+) -> Result<(), AllocError>
+    ensures { OnOk result (cards_of placed.new.items ≡ cards_of placed.old.items) }
+{
+    if let Some(card) = card {
+        if front.goes_on(text, word, *card) {
+            return Ok(());
+        }
+    }
+    front.pass(text, word.start);
+    push_gaps(placed, front)?;
+    front.count(word, card);
+    Ok(())
 }
 
 // Puts the gaps before the next word.
-fn push_gaps(placed: &mut Vec<Placed>, shape: &Shape) -> Result<(), AllocError>
+fn push_gaps(placed: &mut Vec<Placed>, front: &Front) -> Result<(), AllocError>
     ensures { OnOk result (cards_of placed.new.items ≡ cards_of placed.old.items) }
 {
-    for _gap in 0..shape.gaps_before {
-        placed.push(shape.place(None))?;
+    for _gap in 0..front.gaps_before {
+        placed.push(front.place(None))?;
     }
     Ok(())
 }
 
-// Puts the card that a word names, if it names one, and returns it.
-fn push_named(
-    placed: &mut Vec<Placed>,
-    word: &[u8],
-    shape: &Shape,
-) -> Result<Option<Card>, AllocError>
-    ensures { OnOk result (cards_of placed.new.items
-        ≡ cards_of placed.old.items ++ option_to_list (named_card word.now)) }
+// Puts a place that has a card, and no other.
+fn push_card(placed: &mut Vec<Placed>, place: &Placed) -> Result<(), AllocError>
+    ensures { OnOk result
+        (cards_of placed.new.items ≡ cards_of placed.old.items ++ option_to_list place.now.card) }
 {
-    let card = named_card(word);
-    if card.is_some() {
-        placed.push(shape.place(card))?;
+    if place.card.is_some() {
+        placed.push(*place)?;
     }
-    Ok(card)
+    Ok(())
 }
 
 /// The card that a word names: as a board's text spells it, or with its suit first.

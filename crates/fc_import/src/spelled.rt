@@ -1,8 +1,8 @@
 //! Whether lines spell out a board, and whether that is noted.
 ghost use Rattle.std.specs.Prelude.{◌↔◌, ◌≡◌, IfOk, IsTrue};
-ghost use Rattle.{fc_board.specs.Boards.{IsWellFormed}, fc_text.specs.Printed.{text_of}};
+ghost use Rattle.fc_board.specs.Boards.{IsWellFormed};
+ghost use Rattle.fc_text.specs.{Printed.{text_of}, Spelling.{Spells}};
 ghost use Rattle.fc_import.specs.Import.{BoardNeedsNoNote, by_columns, IsPacked, SpellsOut};
-ghost use Rattle.fc_import.specs.Words.{named_lines};
 
 use crate::cards::{Named, by_columns, is_packed};
 use crate::changes::Noted;
@@ -10,9 +10,13 @@ use fc_board::{Board, Rule};
 use fc_text::{BoardView, read_board, write_board};
 use std::alloc::{AllocError, Global};
 
-// Whether each line that names cards names those of the cells or of the next column of the board,
-// and none of these is empty.
-fn has_columns<R: Rule>(alloc: Global, named: &Named, board: &Board<R>) -> Result<bool, AllocError>
+/// Whether each line that names cards names those of the cells or of the next column of the board,
+/// and none of these is empty.
+pub(crate) fn has_columns<R: Rule>(
+    alloc: Global,
+    named: &Named,
+    board: &Board<R>,
+) -> Result<bool, AllocError>
     ensures has { IfOk result (λ has. IsTrue has
         ↔ ((named.now.lines.items ≡ by_columns board.now) × IsPacked board.now)) }
     ensures well_formed { IsWellFormed R.game board.now }
@@ -25,19 +29,25 @@ fn has_columns<R: Rule>(alloc: Global, named: &Named, board: &Board<R>) -> Resul
 pub(crate) fn spells_out<R: Rule>(
     alloc: Global,
     lines: &[u8],
-    named: &Named,
     board: &Board<R>,
 ) -> Result<bool, AllocError>
-    requires { named.now.lines.items ≡ named_lines lines.now }
-    ensures spells { IfOk result (λ is. IsTrue is ↔ SpellsOut R.game lines.now board.now) }
-    ensures well_formed { IsWellFormed R.game board.now }
+    ensures { IfOk result (λ is. IsTrue is ↔ SpellsOut R.game lines.now board.now) }
 {
-    if has_columns(alloc, named, board)? {
+    if is_read_as(lines, board) {
         return Ok(true);
     }
+    let named = Named::by(alloc, lines)?;
+    let has_columns = has_columns(alloc, &named, board)?;
+    Ok(has_columns)
+}
+
+/// Whether `show` reads the lines as the board.
+pub(crate) fn is_read_as<R: Rule>(lines: &[u8], board: &Board<R>) -> bool
+    ensures { IsTrue result ↔ Spells R.game lines.now board.now }
+{
     match read_board::<R>(lines) {
-        Ok(read) => Ok(is_same(&read, board)),
-        Err(_) => Ok(false),
+        Ok(read) => is_same(&read, board),
+        Err(_) => false,
     }
 }
 
@@ -63,10 +73,7 @@ pub(crate) fn board_needs_no_note<R: Rule>(
         ↔ BoardNeedsNoNote noted R.game lines.now board.now) }
 {
     match noted {
-        Noted::Doubts => {
-            let named = Named::by(alloc, lines)?;
-            spells_out(alloc, lines, &named, board)
-        }
+        Noted::Doubts => spells_out(alloc, lines, board),
         Noted::Changes | Noted::Strict => Ok(is_printed(lines, board)),
     }
 }

@@ -5,5 +5,5 @@ use Rattle.fc_import.proofs.quiet.push_moves.Given as goal
 
 abbrev pub invariant-loop-line : goal.invariant-loop-line
 invariant-loop-line g l =
-    l.moves.items ++ flat_map (λ line. moves_of_line g.R.Rule.game line.bytes) (lines_left l.line-iterator)
+    l.moves.items ++ flat_map (λ line. moves_of_line g.R.Rule.game l.in_words line.bytes) (lines_left l.line-iterator)
     ≡ l.fn.moves.items ++ moves_of g.R.Rule.game l.lines

@@ -10,7 +10,7 @@ loop-word-preserved c =
     let small = c.loop-word.invariant.small in
     let more = c.saturating_add-words.ensures in
     record {
-      cards = cards_more _ _ _ steps _ _ _ _ _ c.loop-word.invariant.cards c.in_ok-push_gaps.ensures c.in_ok-card.ensures;
+      cards = cards_more _ _ _ steps _ _ _ _ c.loop-word.invariant.cards c.in_ok-push_word.ensures;
       words = omega (arith, long, kept, small, more);
       small = omega (arith, more);
       numbers = search rules;
