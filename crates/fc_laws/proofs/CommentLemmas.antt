@@ -1,12 +1,12 @@
 -- A comment after an accepted record changes nothing of what it says.
 use Rattle.std.proofs.Common.{◌++◌, ◌+◌, ◌-◌, ◌==◌, ◌∙◌, ◌∷◌, ◌≡◌, ◌≤◌, [], All, ap, append_assoc}
-use Rattle.std.proofs.Common.{arith, Bool, cond, drop, false, if◌then◌else◌, length, length-append}
-use Rattle.std.proofs.Common.{List, map, None, not, Ok, Option, refl, Result, Some, suc, take, true}
-use Rattle.std.proofs.{Common.{zero, ℕ}, lemmas.List.{drop-append-le}}
+use Rattle.std.proofs.Common.{arith, Bool, cond, drop, false, length, length-append}
+use Rattle.std.proofs.Common.{List, None, not, Ok, Option, refl, Result, Some, take, true}
+use Rattle.std.proofs.{Common.{ℕ}, lemmas.List.{drop-append-le}}
 use Rattle.std.proofs.lemmas.List.{Elements.{All-cons, All-head, All-tail}, Folds.{find-append}}
-use Rattle.std.proofs.lemmas.{List.{length-map, map-append, take-append-le}, Option.{same_Some}}
+use Rattle.std.proofs.lemmas.{List.{take-append-le}, Option.{same_Some}}
 use Rattle.std.proofs.Math.Seq.{drop-length, take-length}
-use Rattle.std.specs.List.{after_first, find, flat_map, position_or_len, prefix_len}
+use Rattle.std.specs.List.{after_first, find, position_or_len}
 use Rattle.std.specs.Option.{option_map, option_or, unwrap_or}
 use Rattle.fc_board.specs.{Boards.{Board}, Games.{Game, game_of}, Moves.{MoveList}}
 use Rattle.fc_board.specs.declared.rule.Variant.{Variant}

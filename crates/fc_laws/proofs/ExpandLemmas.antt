@@ -1,11 +1,11 @@
 -- What expand prints for a list.
 use Rattle.std.proofs.Common.{◌++◌, ◌+◌, ◌<◌, ◌↔◌, ◌∙◌, ◌∷◌, ◌≡◌, ◌≤◌, ◌⊎◌, [], All, ap, append-nil}
-use Rattle.std.proofs.Common.{append_assoc, arith, Bool, codes, cond, Contains, false, filter}
-use Rattle.std.proofs.Common.{if◌then◌else◌, inl, inr, length, List, map, nat_le, refl, slice_index}
-use Rattle.std.proofs.Common.{subst, sym, true, true≢false, ℕ}
+use Rattle.std.proofs.Common.{append_assoc, arith, Bool, codes, Contains, false}
+use Rattle.std.proofs.Common.{if◌then◌else◌, inl, inr, length, List, nat_le, refl, slice_index}
+use Rattle.std.proofs.Common.{sym, true, true≢false, ℕ}
 use Rattle.std.proofs.lemmas.{Bool.{le-leb, leb-false, leb-true, lt-leb}, List.{append_cancel_left}}
-use Rattle.std.proofs.lemmas.List.Elements.{All-append, All-cons, All-head, All-nil, All-tail}
-use Rattle.std.{proofs.lemmas.List.Elements.{All-weaker}, specs.{Fmt.{decimal}, List.{flat_map}}}
+use Rattle.std.proofs.lemmas.List.Elements.{All-append, All-cons}
+use Rattle.std.{specs.{Fmt.{decimal}}}
 use Rattle.fc_board.proofs.ListLemmas.{verdict-OnlyLegal, verdict-Wins}
 use Rattle.fc_board.proofs.MoveListLemmas.{list_allowed-exactly, list_refused-exactly}
 use Rattle.fc_board.proofs.MoveListLemmas.{list_won-exactly}

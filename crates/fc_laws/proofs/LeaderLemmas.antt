@@ -1,12 +1,11 @@
 -- The members that lead the groups, and that `unique` prints them.
-use Rattle.std.proofs.Common.{◌&&◌, ◌++◌, ◌||◌, ◌∙◌, ◌∷◌, ◌≡◌, ◌≤◌, [], All, ap, append-nil}
-use Rattle.std.proofs.Common.{append_assoc, ap₂, arith, Bool, cond, Contains, drop, false, filter}
-use Rattle.std.proofs.Common.{get_or, if◌then◌else◌, length, List, map, refl, slice_get, suc, sym}
-use Rattle.std.proofs.{Common.{take, true, true≢false, zero, ℕ}, lemmas.Grind.{flat_map-append}}
-use Rattle.std.proofs.lemmas.List.Elements.{All-cons, All-contains_itself, All-head, All-nil}
-use Rattle.std.proofs.lemmas.List.Elements.{All-tail, All-weaker, filter-append}
-use Rattle.std.proofs.lemmas.List.{Folds.{list_any-append}, map-append}
-use Rattle.std.specs.{List.{cons_option, flat_map, list_any}, Str.{bytes_eq}}
+use Rattle.std.proofs.Common.{◌++◌, ◌∷◌, ◌≡◌, [], All, append-nil}
+use Rattle.std.proofs.Common.{append_assoc, Bool, cond, false, filter}
+use Rattle.std.proofs.Common.{if◌then◌else◌, List, map, refl, sym}
+use Rattle.std.proofs.{Common.{take, true, true≢false, ℕ}, lemmas.Grind.{flat_map-append}}
+use Rattle.std.proofs.lemmas.List.Elements.{All-head}
+use Rattle.std.proofs.lemmas.List.Elements.{All-tail, filter-append}
+use Rattle.std.specs.{List.{flat_map}}
 use Rattle.fc_board.specs.declared.rule.Variant.{Variant}
 use Rattle.fc_record.specs.Grammar.{Accepted, Reading, reading_of, Refused}
 use Rattle.fc_record.specs.Printing.{is_refused, printed, printed_by, refuses, show_lines}

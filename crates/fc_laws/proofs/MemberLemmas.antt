@@ -1,8 +1,8 @@
 -- The accepted records of a collection: what each says, that its lists can be printed, and that their numbers differ.
 use Rattle.std.proofs.Common.{◌+◌, ◌∙◌, ◌∷◌, ◌≡◌, ◌≤◌, ◌⊎◌, [], All, arith, Contains, drop, inl}
 use Rattle.std.proofs.Common.{inr, List, refl, suc, sym, zero, ℕ}
-use Rattle.std.proofs.lemmas.List.Elements.{All-append, All-cons, All-contains, All-head, All-nil}
-use Rattle.std.proofs.lemmas.List.Elements.{All-tail, All-weaker, Contains-append_cases}
+use Rattle.std.proofs.lemmas.List.Elements.{All-append, All-cons, All-contains, All-nil}
+use Rattle.std.proofs.lemmas.List.Elements.{All-weaker, Contains-append_cases}
 use Rattle.fc_board.specs.{Boards.{IsWellFormed}, Games.{Game, game_of}}
 use Rattle.fc_board.specs.Moves.{ListFits, move_count, MoveList, OneCard, Runs}
 use Rattle.fc_board.specs.declared.rule.Variant.{Variant}

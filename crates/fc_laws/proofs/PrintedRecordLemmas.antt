@@ -2,22 +2,21 @@
 use Rattle.std.proofs.Common.{◌++◌, ◌+◌, ◌-◌, ◌∙◌, ◌∷◌, ◌≡◌, ◌≤◌, [], All, ap, append-nil}
 use Rattle.std.proofs.Common.{append_assoc, arith, Bool, codes, cond, Contains, drop, false}
 use Rattle.std.proofs.Common.{if◌then◌else◌, length, List, map, None, Option, refl, Some, subst}
-use Rattle.std.proofs.{Common.{sym, true, ℕ}, lemmas.List.Elements.{All-append, All-cons}}
-use Rattle.std.proofs.lemmas.List.Elements.{All-contains_itself, All-head, All-nil, All-tail}
+use Rattle.std.proofs.{Common.{sym, true, ℕ}}
+use Rattle.std.proofs.lemmas.List.Elements.{All-contains_itself, All-head, All-tail}
 use Rattle.std.proofs.lemmas.List.{Elements.{All-weaker}, Folds.{find-append}}
 use Rattle.std.{proofs.Math.Seq.{drop-append_seam, take-append_seam}, specs.Fmt.{decimal}}
-use Rattle.std.specs.{List.{find, flat_map, join_with_byte}, Option.{option_map, unwrap_or}}
+use Rattle.std.specs.{List.{find, flat_map}, Option.{option_map, unwrap_or}}
 use Rattle.fc_board.specs.{Boards.{Board, IsWellFormed}, Games.{Game, game_of, variant_word}}
-use Rattle.fc_board.specs.Moves.{Fits, MoveList, OneCard, RunFits, Runs}
+use Rattle.fc_board.specs.Moves.{MoveList, OneCard, Runs}
 use Rattle.fc_board.specs.declared.rule.Variant.{Variant}
 use Rattle.fc_text.proofs.{LineLemmas.{first_line, InLine}, PrintedTextLemmas.{bytes_in_lines}}
 use Rattle.fc_text.proofs.PrintedTextLemmas.{cells_bytes, heights_bytes, text_lines, text_spells}
 use Rattle.fc_text.proofs.PrintLemmas.{print-Listed, print_runs-Listed}
-use Rattle.fc_text.proofs.{RunTokenLemmas.{run_solid}, TokenLemmas.{token-IsSolid}}
 use Rattle.fc_text.proofs.WordLemmas.{after_separator, words_from-moved}
 use Rattle.fc_text.specs.{Bytes.{blank, line_feed}, Lines.{lines_from, moved, Piece, words_from}}
-use Rattle.fc_text.specs.Notation.{IsRunToken, IsToken, Listed, print, run_token, separates_tokens}
-use Rattle.fc_text.specs.{Notation.{token}, Printed.{column_line, text_of}}
+use Rattle.fc_text.specs.Notation.{IsRunToken, IsToken, Listed, print, separates_tokens}
+use Rattle.fc_text.specs.{Printed.{column_line, text_of}}
 use Rattle.fc_text.specs.{Rows.{is_empty, line_of}, Spelling.{Spells}}
 use Rattle.fc_record.proofs.{ContentsLemmas.{begins_list}, HeadingLemmas.{given_name, header_gone}}
 use Rattle.fc_record.proofs.HeadingLemmas.{header_read, heading_said, in_line, IsGiven, IsHeading}
@@ -30,7 +29,7 @@ use Rattle.fc_record.specs.Grammar.{Accepted, after_header, AreLists, begins_wit
 use Rattle.fc_record.specs.Grammar.{Contents, Heading, IsList, list_lines, list_mark, lists_start}
 use Rattle.fc_record.specs.Grammar.{next_list, no_header, no_lines, Reading, reading_of}
 use Rattle.fc_record.specs.{Grammar.{with_header, without_header}, Printing.{after_blank}}
-use Rattle.fc_record.specs.Printing.{header_text, heading_line, list_line, marks_of, name_of}
+use Rattle.fc_record.specs.Printing.{header_text, heading_line, list_line, name_of}
 use Rattle.fc_record.specs.{Printing.{printed, show_lines}, RecordTexts.{header_mark, RecordText}}
 use Rattle.fc_collect.proofs.ShareLemmas.{few_cells}
 use Rattle.fc_collect.specs.{Groups.{Member, members_among, name_of_member}, inside.{member_of}}

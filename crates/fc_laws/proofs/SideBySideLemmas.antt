@@ -1,7 +1,7 @@
 -- The lines of a printed board side by side are ordered as the texts of the boards are.
-use Rattle.std.proofs.Common.{◌++◌, ◌-◌, ◌<◌, ◌==◌, ◌∙◌, ◌∷◌, ◌≡◌, ◌≢◌, ◌≤◌, ◌⊎◌, [], All, ap}
-use Rattle.std.proofs.Common.{arith, codes, drop, get_or, if◌then◌else◌, inl, inr, leb, length}
-use Rattle.std.proofs.Common.{length-append, List, Option, refl, subst, suc, sym, take, true, ℕ}
+use Rattle.std.proofs.Common.{◌++◌, ◌-◌, ◌<◌, ◌==◌, ◌∙◌, ◌∷◌, ◌≡◌, ◌≤◌, ◌⊎◌, [], All, ap}
+use Rattle.std.proofs.Common.{arith, codes, get_or, if◌then◌else◌, inl, inr, leb, length}
+use Rattle.std.proofs.Common.{List, Option, refl, subst, suc, sym, take, true, ℕ}
 use Rattle.std.proofs.lemmas.Bool.{Decides.{leb_tells}, eqb-true, leb-true, ne_eqb}
 use Rattle.std.proofs.lemmas.Cmp.{nat_list_cmp_total, tied_itself}
 use Rattle.std.proofs.lemmas.List.Elements.{All-cons, All-head, All-nil, All-tail, All-weaker}

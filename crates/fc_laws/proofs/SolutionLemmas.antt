@@ -1,10 +1,10 @@
 -- What the members of a group share: one variant, equivalent boards, and the first list that wins.
-use Rattle.std.proofs.Common.{◌++◌, ◌<◌, ◌==◌, ◌||◌, ◌↔◌, ◌∙◌, ◌∷◌, ◌≡◌, [], All, ap, arith, Bool}
+use Rattle.std.proofs.Common.{◌++◌, ◌<◌, ◌==◌, ◌||◌, ◌↔◌, ◌∙◌, ◌∷◌, ◌≡◌, [], ap, arith, Bool}
 use Rattle.std.proofs.Common.{cond, Contains, false, filter, get_or, if◌then◌else◌, is_some, length}
 use Rattle.std.proofs.Common.{List, map, None, Option, refl, slice_get, Some, subst, suc, sym, true}
 use Rattle.std.proofs.{Common.{true≢false, zero, ℕ}, lemmas.Bool.{both_ways, eq-eqb, eqb-true}}
-use Rattle.std.proofs.lemmas.List.{append-nil, Elements.{All-cons, All-nil}, Folds.{list_any_at}}
-use Rattle.std.{proofs.lemmas.Option.{same_Some}, specs.List.{find, flat_map, list_any}}
+use Rattle.std.proofs.lemmas.List.{append-nil, Folds.{list_any_at}}
+use Rattle.std.{proofs.lemmas.Option.{same_Some}, specs.List.{find, list_any}}
 use Rattle.fc_board.proofs.MoveListLemmas.{list_wins-carried, list_won-exactly}
 use Rattle.fc_board.specs.Boards.{Board, IsWellFormed}
 use Rattle.fc_board.specs.Games.{Game, game_of, renamings_of, RuleLaws}

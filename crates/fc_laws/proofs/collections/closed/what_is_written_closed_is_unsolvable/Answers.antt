@@ -1,10 +1,10 @@
 -- What is written says what was found.
-use Rattle.std.proofs.Common.{◌++◌, ◌∙◌, ◌∷◌, ap, ap₂, codes, decimal, length, sym}
+use Rattle.std.proofs.Common.{◌++◌, ◌∙◌, ap₂, sym}
 use Rattle.std.proofs.lemmas.List.Elements.{All-contains_itself, All-weaker}
 use Rattle.std.specs.List.{Contains}
 use Rattle.{fc_board.specs.Games.{game_of}, fc_closed.specs.{IsUnsolvable}}
-use Rattle.fc_collect.specs.Closed.{finding_line, finding_of}
-use Rattle.fc_collect.specs.Groups.{groups_of, Member, members_among, summary_of}
+use Rattle.fc_collect.specs.Closed.{finding_line}
+use Rattle.fc_collect.specs.Groups.{Member, members_among}
 use Rattle.fc_collect.specs.Records.{records_from}
 use Rattle.fc_laws.proofs.ClosedFindingLemmas.{counted_none, found_where, member_unsolvable}
 use Rattle.fc_laws.proofs.ClosedFindingLemmas.{no_refusals, none_counted, written_closed}
