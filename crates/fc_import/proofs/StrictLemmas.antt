@@ -1,12 +1,12 @@
 -- Lemmas on imports in which each change is noted, and on those that are strict.
-use Rattle.std.proofs.Common.{◌++◌, ◌+◌, ◌-◌, ◌<◌, ◌==◌, ◌∙◌, ◌∷◌, ◌≡◌, ◌≢◌, [], ap, ap₂, arith}
+use Rattle.std.proofs.Common.{◌++◌, ◌+◌, ◌<◌, ◌==◌, ◌∙◌, ◌∷◌, ◌≡◌, ◌≢◌, [], ap, ap₂, arith}
 use Rattle.std.proofs.Common.{inl, inr, length, length-append, List, None, Option, refl, Some}
 use Rattle.std.proofs.{Common.{subst, sym, true, ℕ}, lemmas.List.Sums.{count_by_more_yes}}
 use Rattle.std.{proofs.lemmas.List.{take_all}, specs.Prelude.{codes, slice_index}}
 use Rattle.fc_board.specs.{Boards.{Board, IsWellFormed}, Games.{Game}, Moves.{MoveList}}
 use Rattle.{fc_board.specs.declared.rule.Variant.{Variant}, fc_text.specs.Bytes.{line_feed}}
 use Rattle.fc_record.proofs.TextLineLemmas.{ends-after, ends-line_feed, last_byte}
-use Rattle.fc_record.specs.{Printing.{list_line}, RecordTexts.{ends_line}}
+use Rattle.fc_record.specs.{RecordTexts.{ends_line}}
 use Rattle.fc_collect.specs.declared.streams.faults.Summary.{Summary}
 use Rattle.fc_import.proofs.SilenceLemmas.{all_taken, both_empty, note_said}
 use Rattle.fc_import.{proofs.TakingLemmas.{put_five, spelled_out}, specs.Import.{a_board, a_list}}

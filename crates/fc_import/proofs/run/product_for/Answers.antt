@@ -1,4 +1,4 @@
-use Rattle.std.proofs.Common.{◌++◌, ◌∙◌, ap, None, refl, subst, subst₂, sym}
+use Rattle.std.proofs.Common.{◌++◌, ◌∙◌, ap, None, refl, subst, subst₂}
 use Rattle.fc_import.proofs.RunLemmas.{collection_made, imported_as, nothing_made, unshown_made}
 use Rattle.fc_import.specs.{Import.{IsShown, no_board_line, refused_by}, inside.{ShownAs, state_of}}
 use Rattle.fc_import.proofs.run.product_for.Goals as goal
