@@ -106,7 +106,12 @@ class Solver:
         """What is found of each position. Where not each has its record, since what was printed of one is too much, they are looked
         at in two halves."""
         given = "".join(f"@ {GAMES[it.position.game]} {number}\n{it.board}{it.text or ''}\n" for number, it in enumerate(batch))
-        made = printed(["import"], given.encode()).encode()
+        try:
+            made = printed(["import"], given.encode()).encode()
+        except Fault:
+            if len(batch) == 1:
+                raise
+            made = b""
         rows: Dict[str, List[Row]] = {str(number): [] for number in range(len(batch))}
         for row in self.reader.read(Piece(made, 1, 0, 1, GAMES[0])).rows:
             rows.setdefault(row.name, []).append(row)
