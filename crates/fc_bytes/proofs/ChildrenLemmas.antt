@@ -1,13 +1,13 @@
 -- Moves that a board allows, found one by one, and the canonical boards after them.
-use Rattle.std.proofs.Common.{◌++◌, ◌+◌, ◌<◌, ◌∙◌, ◌∷◌, ◌≡◌, ◌≤◌, [], ap, ap₂, arith, Bool, cond, drop}
-use Rattle.std.proofs.Common.{false, get_or, inl, inr, length, List, map, None, Option, refl, set}
-use Rattle.std.proofs.{Common.{Some, subst, suc, sym, take, true, zero, ℕ}, lemmas.Bool.{cases_lt}}
-use Rattle.std.proofs.{lemmas.Grind.{flat_map-append, take-set_at}, Math.Seq.{take-suc}}
-use Rattle.std.proofs.lemmas.List.{append-nil, append_assoc, drop-drop, drop-set-lt, map-append}
+use Rattle.std.proofs.Common.{◌++◌, ◌+◌, ◌<◌, ◌∙◌, ◌∷◌, ◌≡◌, ◌≤◌, [], ap, ap₂, arith, Bool, cond}
+use Rattle.std.proofs.Common.{drop, false, get_or, inl, inr, length, List, map, None, Option, refl}
+use Rattle.std.proofs.Common.{set, Some, subst, suc, sym, take, true, zero, ℕ}
+use Rattle.std.proofs.lemmas.{Bool.{cases_lt}, Grind.{flat_map-append, take-set_at}}
+use Rattle.std.proofs.lemmas.List.{append-nil, append_assoc, drop-drop, drop-set-lt}
 use Rattle.std.proofs.lemmas.List.{Elements.{filter-append}, FromFn.{map-range_with_len_more}}
 use Rattle.std.proofs.lemmas.List.{get_or-set_other, get_or-set_same, get_or-take, length-set}
-use Rattle.std.{proofs.lemmas.List.{length-take-le}, specs.List.{filter, flat_map}}
-use Rattle.std.specs.Option.{is_none}
+use Rattle.std.proofs.{lemmas.List.{length-take-le, map-append}, Math.Seq.{take-suc}}
+use Rattle.std.specs.{List.{filter, flat_map}, Option.{is_none}}
 use Rattle.fc_card.{proofs.OrderLemmas.{places-more}, specs.{places}}
 use Rattle.fc_board.specs.{Boards.{Board}, Games.{Game}, Moves.{move_between}}
 use Rattle.fc_board.specs.Steps.{card_at, found_refusal, is_same_pile, refusal}
@@ -57,6 +57,14 @@ rest_fails p f count (suc more) fails =
 pub source_more : {X : Type 0} (f : ℕ → List X) (count : ℕ) → flat_map f (places (count + 1)) ≡ flat_map f (places count) ++ f count
 source_more f count =
     ap (flat_map f) (places-more count) ∙ flat_map-append f (places count) (count ∷ []) ∙ ap (λ back. flat_map f (places count) ++ back) (append-nil (f count))
+
+-- the moves from one source more are pushed
+pub source_pushed : {X Y : Type 0} (bytes : X → Y) (f : ℕ → List X) (items more : List Y) (count : ℕ) →
+    items ≡ map bytes (flat_map f (places count)) → more ≡ items ++ map bytes (f count) →
+    more ≡ map bytes (flat_map f (places (count + 1)))
+source_pushed bytes f items more count is pushed =
+    pushed ∙ ap (λ front. front ++ map bytes (f count)) is
+    ∙ sym (ap (map bytes) (source_more f count) ∙ map-append bytes (flat_map f (places count)) (f count))
 
 pub none_of : {X : Type 0} (found : Option X) → is_none found ≡ true → found ≡ None
 none_of None says = refl

@@ -4,7 +4,6 @@ use Rattle.std.proofs.Common.{length, length-append, List, map, None, Option, re
 use Rattle.std.proofs.Common.{suc, sym, zero, ℕ}
 use Rattle.std.proofs.lemmas.List.{length-map}
 use Rattle.std.proofs.lemmas.List.Elements.{All-cons, All-head, All-nil, All-tail}
-use Rattle.std.proofs.lemmas.Option.{same_Some}
 use Rattle.std.proofs.lemmas.Slice.Zip.{AllZip-long}
 use Rattle.std.specs.List.{AllZip}
 use Rattle.fc_board.specs.{Games.{Game}, Moves.{Fits, RunFits}}
@@ -171,9 +170,6 @@ module _ {Item : Type 0} (Names : List ℕ → Item → Type 0) where
 
   -- ---- words that are read
   module _ (named : List ℕ → Option Item) (reads : Reads Names named) where
-    pub one_item : (word : List ℕ) (item other : Item) → Names word item → Names word other → item ≡ other
-    one_item word item other is is' = same_Some item other (sym ((reads word item).0 is) ∙ (reads word other).0 is')
-
     has_token : (word : Piece) → HasToken Names word ⊎ ¬ HasToken Names word
     has_token word = by_answer (named word.bytes) refl
       where

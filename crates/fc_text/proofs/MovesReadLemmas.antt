@@ -150,9 +150,6 @@ module _ {Item : Type 0} (Names : List ℕ → Item → Type 0) (named : List �
     read_too_many-exactly place = (answers_truly.too_many place, read-TooManyAt place)
 
 -- ---- moves of one card
-pub moves_read-Listed : (game : Game) (text : List ℕ) (moves : List Move) → game.cells ≤ 8 → Listed (IsToken game) text moves → moves_read game text ≡ Ok moves
-moves_read-Listed game text moves few = read-Listed (IsToken game) (move_named game) (moves-Reads game few) text moves
-
 pub moves_read-BadTokenAt : (game : Game) (text : List ℕ) (place : ℕ) → game.cells ≤ 8 → BadTokenAt (IsToken game) text place
     → moves_read game text ≡ Err (BadToken place)
 moves_read-BadTokenAt game text place few = read-BadTokenAt (IsToken game) (move_named game) (moves-Reads game few) text place
@@ -165,9 +162,6 @@ pub listed-exactly : (game : Game) (text : List ℕ) (moves : List Move) → gam
 listed-exactly game text moves few = read_listed-exactly (IsToken game) (move_named game) (moves-Reads game few) text moves
 
 -- ---- moves of several cards
-pub runs_read-Listed : (game : Game) (text : List ℕ) (moves : List RunMove) → game.cells ≤ 8 → Listed (IsRunToken game) text moves → runs_read game text ≡ Ok moves
-runs_read-Listed game text moves few = read-Listed (IsRunToken game) (run_named game) (runs-Reads game few) text moves
-
 pub runs_read-BadTokenAt : (game : Game) (text : List ℕ) (place : ℕ) → game.cells ≤ 8 → BadTokenAt (IsRunToken game) text place
     → runs_read game text ≡ Err (BadToken place)
 runs_read-BadTokenAt game text place few = read-BadTokenAt (IsRunToken game) (run_named game) (runs-Reads game few) text place

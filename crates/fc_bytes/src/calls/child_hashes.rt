@@ -1,11 +1,13 @@
 //! The moves of one card that a board allows, and the hashes of the classes of the boards after them.
-ghost use Rattle.std.specs.Prelude.{◌++◌, ◌<◌, ◌≡◌, ◌≤◌, ◌⊎◌, drop, length, map};
-ghost use Rattle.fc_board.specs.Boards.{Board as Layout};
+ghost use Rattle.std.specs.Prelude.{◌++◌, ◌-◌, ◌<◌, ◌≡◌, ◌≤◌, ◌⊎◌, drop, length, map};
+ghost use Rattle.std.specs.Prelude.{slice_index_or};
+ghost use Rattle.fc_board.specs.{Boards.{Board as Layout}, declared.moves.Move.{Move as OneCard}};
 ghost use Rattle.fc_bytes.specs.class_hash.{AreChildHashes, child_hash, HasChildHashes};
 ghost use Rattle.fc_bytes.specs.{HoldsBoard, HoldsNone, legal_moves, move_bytes, OfLegalMoves};
+ghost use Rattle.fc_bytes.specs.declared.child_hash.ChildHash.{ChildHash as Child};
 
 use crate::calls::answers::{DONE, NO_BOARD, NO_ROOM};
-use crate::calls::children::push_legal_moves;
+use crate::calls::children::{are_alike, push_legal_moves};
 use crate::{BoardBytes, ChildHash, ClassSums, MoveBytes};
 use arrayvec::ArrayVec;
 use fc_board::{Board, Rule};
@@ -92,6 +94,34 @@ fn put_hashes<R: Rule>(
         ++ drop (length (legal_moves R.game board.now)) children.old }
 {
     for place in 0..moves.len() {
-        children[place] = ChildHash::after(board, sums, moves[place]);
+        children[place] = next_child(board, sums, moves, children, place);
     }
+}
+
+/// The move at this place with the hash after it, where the one before is written: its hash, if
+/// both take a card to empty piles of one kind.
+#[inline(always)]
+fn next_child<R: Rule>(
+    board: &Board<R>,
+    sums: &ClassSums,
+    moves: &[MoveBytes],
+    children: &[ChildHash],
+    place: usize,
+) -> ChildHash
+    requires inside { (place < length moves.now) × (length moves.now ≤ length children.now) }
+    requires moves { moves.now ≡ map move_bytes (legal_moves R.game board.now) }
+    requires before { (mv : OneCard) (child : Child) → 0 < place
+        → slice_index_or children.now (place - 1) child ≡ child_hash R.renamings board.now sums.now
+        (slice_index_or (legal_moves R.game board.now) (place - 1) mv) }
+    ensures { (mv : OneCard) → result ≡ child_hash R.renamings board.now sums.now
+        (slice_index_or (legal_moves R.game board.now) place mv) }
+{
+    let mv = moves[place];
+    if place > 0 && are_alike(board, moves[place - 1], mv) {
+        return ChildHash {
+            mv,
+            hash: children[place - 1].hash,
+        };
+    }
+    ChildHash::after(board, sums, mv)
 }

@@ -1,22 +1,29 @@
-use Rattle.std.proofs.Common.{◌++◌, ◌+◌, ◌<◌, ◌∙◌, ◌≡◌, ap, ap₂, arith, drop, get_or, length, List, map, sym, ℕ}
-use Rattle.std.proofs.lemmas.List.{drop-drop, drop-set-lt, length-map, length-set, take-append-drop, take_all}
+use Rattle.std.proofs.Common.{◌++◌, ◌+◌, ◌-◌, ◌<◌, ◌∙◌, ◌≡◌, ap, ap₂, arith, drop, get_or, length}
+use Rattle.std.proofs.{Common.{List, map, sym, take, ℕ}, lemmas.List.{drop-drop, drop-set-lt}}
+use Rattle.std.proofs.lemmas.List.{get_or-map, get_or-take, length-map, length-set, length-take-le}
+use Rattle.std.proofs.lemmas.List.{take-append-drop, take_all}
 use Rattle.fc_board.specs.Moves.{move_between}
 use Rattle.fc_board.specs.declared.moves.{Move.{Move}, Place.TheVariants.{Home}}
 use Rattle.fc_board.specs.declared.moves.Source.TheVariants.{Column}
-use Rattle.fc_bytes.proofs.{ChildrenLemmas.{written_more}, LegalMoves.{listed_there}}
-use Rattle.fc_bytes.specs.{class_hash.{child_hash}, declared.child_hash.ChildHash.{ChildHash}}
+use Rattle.fc_bytes.{proofs.ChildrenLemmas.{written_more}, specs.class_hash.{child_hash}}
 use Rattle.fc_bytes.specs.{legal_moves, move_bytes}
+use Rattle.fc_bytes.specs.declared.child_hash.ChildHash.{ChildHash}
 use Rattle.fc_bytes.proofs.calls.child_hashes.put_hashes.Goals as goal
 
--- the move at this place is listed, and so allowed
-pub after-requires : goal.after-requires
-after-requires g c =
-    let any = move_between (Column 0) Home in
+-- the move before is written with its hash
+pub next_child-requires-clause-before : goal.next_child-requires-clause-before
+next_child-requires-clause-before g c = λ move child some.
     let place = c.loop-place.place in
-    let moves = c.args.moves.now in
-    let inside : place < length moves = omega (arith, c.loop-place-test.true, c.loop-place.auto.place-end) in
-    let (holds, allowed) = listed_there g.R.Rule.game c.args.board.now moves place _ any c.requires.moves inside in
-    (get_or (legal_moves g.R.Rule.game c.args.board.now) place any, holds, allowed)
+    let at = place - 1 in
+    let legal = legal_moves g.R.Rule.game c.args.board.now in
+    let hashed = child_hash g.R.Rule.renamings c.args.board.now c.args.sums.now in
+    let inside : place < length c.args.moves.now = omega (arith, c.loop-place-test.true, c.loop-place.auto.place-end) in
+    let as_many : length c.args.moves.now ≡ length legal = ap length c.requires.moves ∙ length-map legal move_bytes in
+    let before : length (take place legal) ≡ place = length-take-le place legal (omega (arith, inside, as_many)) in
+    sym (get_or-take place c.loop-place.children at child (omega (arith, some)))
+    ∙ ap (λ children. get_or children at child) c.loop-place.invariant.written
+    ∙ get_or-map hashed (take place legal) at move child (omega (arith, some, before))
+    ∙ ap hashed (get_or-take place legal at move (omega (arith, some)))
 
 -- one move more is written with its hash
 pub loop-place-preserved : goal.loop-place-preserved
@@ -31,12 +38,12 @@ loop-place-preserved g c =
     let hashed = child_hash g.R.Rule.renamings c.args.board.now c.args.sums.now in
     let inside : place < length moves = omega (arith, c.loop-place-test.true, c.loop-place.auto.place-end) in
     let as_many : length moves ≡ length legal = ap length c.requires.moves ∙ length-map legal move_bytes in
-    let holds = (listed_there g.R.Rule.game c.args.board.now moves place _ any c.requires.moves inside).0 in
     record {
-      long = length-set now place c.after.result ∙ kept.long;
-      written = written_more hashed legal now place any c.after.result kept.written (omega (arith, inside, as_many))
-          (omega (arith, inside, c.requires.room, kept.long)) (c.after.ensures (get_or legal place any) holds);
-      left = drop-set-lt (place + 1) now place c.after.result (omega arith)
+      long = length-set now place c.next_child.result ∙ kept.long;
+      written = written_more hashed legal now place any c.next_child.result kept.written
+          (omega (arith, inside, as_many))
+          (omega (arith, inside, c.requires.room, kept.long)) (c.next_child.ensures any);
+      left = drop-set-lt (place + 1) now place c.next_child.result (omega arith)
           ∙ sym (drop-drop 1 place now) ∙ ap (drop 1) kept.left ∙ drop-drop 1 place old;
     }
 
