@@ -129,9 +129,6 @@ three-pushed old a b new t1 t2 t3 p q r = r ∙ ap (λ l. l ++ t3) (q ∙ ap (λ
 pub two-named : (old a b new n1 v1 n2 v2 end : List ℕ) → a ≡ old ++ (n1 ++ v1) → b ≡ a ++ (n2 ++ v2) → new ≡ b ++ end → new ≡ old ++ (n1 ++ ((v1 ++ (n2 ++ v2)) ++ end))
 two-named old a b new n1 v1 n2 v2 end p q r = r ∙ ap (λ l. l ++ end) (q ∙ ap (λ l. l ++ (n2 ++ v2)) p) ∙ simp append_assoc
 
-pub one-named : (old a new n v end : List ℕ) → a ≡ old ++ (n ++ v) → new ≡ a ++ end → new ≡ old ++ (n ++ (v ++ end))
-one-named old a new n v end p q = q ∙ ap (λ l. l ++ end) p ∙ simp append_assoc
-
 pub five-pushed : (old a b c d new t1 t2 t3 t4 t5 : List ℕ) → a ≡ old ++ t1 → b ≡ a ++ t2 → c ≡ b ++ t3 → d ≡ c ++ t4 → new ≡ d ++ t5
     → new ≡ old ++ (t1 ++ ((t2 ++ (t3 ++ t4)) ++ t5))
 five-pushed old a b c d new t1 t2 t3 t4 t5 p q r s t =

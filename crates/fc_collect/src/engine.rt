@@ -4,12 +4,12 @@ ghost use Rattle.std.specs.Prelude.{if◌then◌else◌, IsTrue, length, List};
 ghost use Rattle.fc_record.specs.{Printing.{is_refused}, RecordTexts.{RecordText}};
 ghost use Rattle.fc_collect.specs.{Closed.{refused_with}, inside.{ConsumesRead, ended, Finishes}};
 ghost use Rattle.fc_collect.specs.inside.{IsAllowed, last_output, output_counts, printed_after};
-ghost use Rattle.fc_collect.specs.{inside.{Remembers, text_at}, Limits.{AreCountable}};
-ghost use Rattle.fc_collect.specs.Promises.{ReadsAsCounted, ResultFits, Transfers, WritesAsCounted};
-ghost use Rattle.fc_collect.specs.Records.{if_record, outputs_after};
+ghost use Rattle.fc_collect.specs.{inside.{Remembers, text_at}, Limits.{AreCountable, standard}};
+ghost use Rattle.fc_collect.specs.Promises.{IsWithinLimits, ReadsAsCounted, ResultFits, Transfers};
+ghost use Rattle.fc_collect.specs.{Promises.{WritesAsCounted}, Records.{if_record, outputs_after}};
 ghost use Rattle.fc_collect.specs.Streams.{bytes_of, GrowsBy, HasRoom, inner_of};
 
-use crate::{Counted, Limits, MOST_RECORD_BYTES, RunConfig, RunFault, Summary};
+use crate::{Counted, Limits, MOST_BYTES, MOST_RECORD_BYTES, RunConfig, RunFault, Summary};
 use std::alloc::Global;
 use std::io::{Read, Write};
 
@@ -28,6 +28,21 @@ pub use writing::{write_bytes, write_full, write_text};
 /// How many bytes of output have room from the start: twice as many as are pending before they are
 /// written, and the lines of one short record.
 const PENDING_ROOM: usize = 2 * FULL + 1_024;
+
+/// Whether a run that is given no other limits takes a collection of these bytes.
+pub fn is_within_limits(collection: &[u8]) -> bool
+    ensures { IsTrue result ↔ IsWithinLimits standard collection.now }
+{
+    if collection.len() > MOST_BYTES {
+        return false;
+    }
+    let progress = Progress {
+        number: 1,
+        start: 0,
+        refused: 0,
+    };
+    are_small(Limits::STANDARD, progress, collection, 0)
+}
 
 /// Reads a collection to its end, and writes what is printed for its records before it reads on.
 ///

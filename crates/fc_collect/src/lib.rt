@@ -11,7 +11,7 @@ pub use commands::{
     run_table, run_unique, run_within,
 };
 pub(crate) use engine::{Command, run_records, write_full};
-pub use engine::{write_bytes, write_text};
+pub use engine::{is_within_limits, write_bytes, write_text};
 pub use fc_board::Variant;
 pub(crate) use groups::{
     AnyBoard, AnyCanon, AnyGame, EachGroup, Gathered, Gathering, GroupKey, ShareLines,

@@ -118,9 +118,6 @@ module _ (variant : Variant) (game : Game) (text left name : List ℕ) (start : 
   fronts = in_front (line ++ text_of board) left text end parts (end_is
       ∙ ap (λ n. n + length (text_of board)) (sym long) ∙ sym (length-append line (text_of board)))
 
-  pub left_is : drop end text ≡ left
-  left_is = fronts.1
-
   pub piece_is : piece ≡ text_of board
   piece_is = (in_front (text_of board) left (drop start text) (end - start) after_line (omega (arith, end_is))).0
 

@@ -1,3 +1,4 @@
+pub mod CollectionLemmas
 pub mod FrontLemmas
 pub mod NameLemmas
 pub mod PieceLemmas

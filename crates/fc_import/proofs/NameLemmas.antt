@@ -13,7 +13,7 @@ use Rattle.fc_record.specs.RecordTexts.{ends_line, header_mark}
 use Rattle.fc_import.specs.Import.{a_board, a_list, headed, Imported, left_out, none_yet, once_more}
 use Rattle.fc_import.specs.Import.{one_more, passed, Reading, refused_board, refused_list}
 use Rattle.fc_import.specs.Notes.{name_by, State}
-use Rattle.fc_import.specs.declared.changes.Noted.{Noted}
+use Rattle.fc_import.specs.declared.options.ImportOptions.{ImportOptions}
 
 -- ---- the first line of a text
 
@@ -102,7 +102,7 @@ module _ (variant : Variant) where
   same_name (refused_board said note) = refl
   same_name (refused_list last said apart stays note) = refl
 
-  pub names : {noted : Noted} {game : Game} {text : List ℕ} {state : State} {written said : List ℕ} → Imported variant noted game text state written said
+  pub names : {options : ImportOptions} {game : Game} {text : List ℕ} {state : State} {written said : List ℕ} → Imported variant options game text state written said
       → state.place.name ≡ fold name_after [] (lines_from 0 text)
   names none_yet = refl
   names (headed text state written said so_far ends line heading) =

@@ -21,11 +21,11 @@ use Rattle.fc_record.specs.Grammar.{begins_with, heading_of, is_name, list_mark}
 use Rattle.fc_record.specs.{Printing.{header_text, list_line}, RecordTexts.{ends_line, header_mark}}
 use Rattle.fc_import.proofs.TakingLemmas.{one_taken_more, taken}
 use Rattle.fc_import.specs.Import.{a_board, a_list, BoardNeedsNoNote, HasNoHeader, IsHeading, IsNamed}
-use Rattle.fc_import.specs.Import.{IsPrinted, list_next, ListNeedsNoNote, nothing, record_next}
+use Rattle.fc_import.specs.Import.{IsPrinted, list_next, ListNeedsNoNote, nothing, printed, record_next}
 use Rattle.fc_import.specs.Import.{Names}
 use Rattle.fc_import.specs.inside.{form_of, GoesOn, IsMade, state_of, Takes, TakesName}
 use Rattle.fc_import.specs.Notes.{after, name_by, names_game}
-use Rattle.fc_import.specs.declared.changes.Noted.{Noted, TheVariants.{Changes, Doubts, Strict}}
+use Rattle.fc_import.specs.declared.options.Noted.{Noted, TheVariants.{Changes, Doubts, Strict}}
 use Rattle.fc_import.specs.declared.made.Form.TheVariants as in_form
 use Rattle.fc_import.specs.declared.made.Made.{Made}
 use Rattle.fc_import.specs.declared.tally.Fate.TheVariants.{ABoard, AList}
@@ -160,17 +160,17 @@ module _ {R : Type 0} (variant : Variant) (game : Game) where
   pub goes_on : (piece : List ℕ) (old new : Made R) → (IsHeading piece × TakesName variant piece old new) ⊎
       (HasNoHeader piece × Takes variant game piece old new)
       → GoesOn variant game piece old new
-  goes_on piece old new taken = λ noted before ends made.
-      let more = one_taken_more variant noted game before piece old new in
+  goes_on piece old new taken = λ options before ends made.
+      let more = one_taken_more variant options game before piece old new in
       more ends made taken
 
   -- what is taken after whole lines
   pub goes_on_twice : (first next : List ℕ) (old between new : Made R) → ends_line first ≡ true
       → GoesOn variant game first old between
       → GoesOn variant game next between new → GoesOn variant game (first ++ next) old new
-  goes_on_twice first next old between new ends one two = λ noted before ended made.
-      subst (λ text. IsMade variant noted game text new) (append_assoc before first next)
-      (two noted (before ++ first) (ends-after before first ended ends) (one noted before ended made))
+  goes_on_twice first next old between new ends one two = λ options before ended made.
+      subst (λ text. IsMade variant options game text new) (append_assoc before first next)
+      (two options (before ++ first) (ends-after before first ended ends) (one options before ended made))
 
   -- a board as it is printed, after the header that names it
   pub board_kept : (line piece name : List ℕ) (board : Board) (old between new : Made R)
@@ -189,8 +189,8 @@ module _ {R : Type 0} (variant : Variant) (game : Game) where
         alone = λ none. absurd (some_name (name_is
             ∙ none));
       })) well (inr piece_is)
-      (inl (inl (subst (λ piece. Spells game piece board) (sym piece_is) (text_spells game board well))))
-      (inl (board_unnoted between.noted game piece board well piece_is, refl)))
+      (printed piece_is)
+      (inl (board_unnoted between.options.noted game piece board well piece_is, refl)))
       (written ∙ ap₂ (λ line piece. between.written.items ++ (line ++ piece)) line_is piece_is) (notes
       ∙ sym (append-nil between.notes.items))
 
@@ -201,7 +201,7 @@ module _ {R : Type 0} (variant : Variant) (game : Game) where
       → new.notes.items ≡ old.notes.items → Takes variant game piece old new
   list_kept piece board list old new last legal few piece_is state written notes =
       taken variant game piece old new (after (state_of old) piece old.last AList) state (list_line list) []
-      (a_list board list [] (inr (inl (ap (begins_with list_mark) piece_is ∙ marked list))) last legal few (inl piece_is) (inl (list_unnoted old.noted game piece list piece_is, refl)))
+      (a_list board list [] (inr (inl (ap (begins_with list_mark) piece_is ∙ marked list))) last legal few (inl piece_is) (inl (list_unnoted old.options.noted game piece list piece_is, refl)))
       (written ∙ ap (λ piece. old.written.items ++ piece) piece_is) (notes ∙ sym (append-nil old.notes.items))
 
 -- ---- a text that fcanon prints

@@ -1,19 +1,14 @@
 -- Lemmas on reading the input, and on how a run ends after it.
-use Rattle.std.proofs.Common.{◌++◌, ◌+◌, ◌<◌, ◌↔◌, ◌∙◌, ◌∷◌, ◌≡◌, ◌≢◌, ◌≤◌, ◌⊎◌, [], All, ap, append-nil}
+use Rattle.std.proofs.Common.{◌++◌, ◌+◌, ◌<◌, ◌↔◌, ◌∙◌, ◌≡◌, ◌≢◌, ◌≤◌, ◌⊎◌, [], ap, append-nil}
 use Rattle.std.proofs.Common.{arith, Bool, Err, false, length, length-append, List, None, Ok}
-use Rattle.std.proofs.Common.{Option, refl, Result, Some, subst, subst₂, sym, true, ℕ}
+use Rattle.std.proofs.Common.{Option, refl, Result, subst, subst₂, sym, true, ℕ}
 use Rattle.std.proofs.KnownBytes.{Consumes-trans}
-use Rattle.std.proofs.lemmas.List.Elements.{All-append, All-cons, All-head, All-nil}
 use Rattle.std.specs.{Io.KnownBytes.{Consumes}, Prelude.{⊤}}
-use Rattle.fc_board.{proofs.BoardLemmas.{All-left, All-right}, specs.Games.{Game, game_of}}
+use Rattle.fc_board.{specs.Games.{Game, game_of}}
 use Rattle.fc_board.specs.declared.rule.Variant.{Variant}
-use Rattle.fc_record.specs.RecordTexts.{RecordText}
-use Rattle.fc_collect.proofs.RecordLemmas.{cut-append, cut-induction}
 use Rattle.fc_collect.specs.Limits.{most_bytes, most_reads, standard}
-use Rattle.fc_collect.specs.Promises.{IsSmall, IsWithinLimits, ReadsAsCounted, ResultFits}
-use Rattle.fc_collect.specs.Records.{begun, cut, finished, first_of}
-use Rattle.fc_collect.specs.{Runs.{printing_of, TransfersWithin}, Streams.{CallCounts, GrowsBy}}
-use Rattle.fc_collect.specs.declared.commands.RunKind.TheVariants.{Show}
+use Rattle.fc_collect.specs.Promises.{ReadsAsCounted}
+use Rattle.fc_collect.specs.{Streams.{CallCounts, GrowsBy}}
 use Rattle.fc_collect.specs.declared.streams.{counted.Counted.{Counted}, faults.RunFault.{RunFault}}
 use Rattle.fc_collect.specs.declared.streams.faults.RunFault.TheVariants.{Memory, Read}
 use Rattle.fc_collect.specs.declared.streams.faults.RunFault.TheVariants.{ReaderNeverEnds, TooLarge}
@@ -24,7 +19,7 @@ use Rattle.fc_import.specs.Import.{no_board, no_board_line, refusals, refused_by
 use Rattle.fc_import.specs.Import.{too_much_line, with_tally}
 use Rattle.fc_import.specs.inside.{more_counts, MoreFits, ReadsMore, ReadsToEnd}
 use Rattle.fc_import.specs.{Notes.{counted, State}, Words.{text_read}}
-use Rattle.fc_import.specs.declared.changes.Noted.{Noted}
+use Rattle.fc_import.specs.declared.options.ImportOptions.{ImportOptions}
 
 -- ---- reading the input
 
@@ -114,85 +109,54 @@ never_ended input left bytes consumed few = record {
   fits = ((λ same. absurd (cc)), ((λ same. absurd (cc)), λ more. absurd (omega (arith, few, more))));
 }
 
--- ---- what is not shown
-
--- a text is small if it is with more bytes
-small_first : (y : List ℕ) (text : RecordText) → All (IsSmall standard) (cut text y) → IsSmall standard text
-small_first y text =
-    cut-induction (λ text bytes texts. All (IsSmall standard) texts → IsSmall standard text)
-    (λ text small. All-head (IsSmall standard) text [] small)
-    (λ text byte bytes e next small. All-head (IsSmall standard) text _ small)
-    (λ text byte bytes e next small. let one = next small in record { bytes = omega (arith, one.bytes, length-append text.bytes (byte ∷ [])); number = one.number })
-    text y
-
--- what begins a text is within the limits that the text is within
-front_within : (x y : List ℕ) → IsWithinLimits standard (x ++ y) → IsWithinLimits standard x
-front_within x y within =
-    let all = subst (All (IsSmall standard)) (cut-append (first_of standard) x y) within.texts in
-    let last = small_first y (begun (first_of standard) x) (All-right (IsSmall standard) (finished (first_of standard) x) _ all) in
-    record {
-      bytes = omega (arith, within.bytes, length-append x y);
-      texts = All-append (IsSmall standard) (finished (first_of standard) x) _ (All-left (IsSmall standard) (finished (first_of standard) x) _ all) (All-cons (IsSmall standard) _ [] last (All-nil (IsSmall standard)));
-    }
-
-module _ (variant : Variant) (text : List ℕ) (records : ℕ) (shown : IsShown variant text records) where
-  -- a run of `show` that reads a beginning of what is shown finds it within limits
-  pub within_limits : (left before after : Option (List ℕ)) (result : Result Summary RunFault)
-      → TransfersWithin standard Show variant (record { input = Some text; left = left; before = before; after = after }) result → result ≢ Err TooLarge
-  within_limits None before after result transfers is = transfers.consumed
-  within_limits (Some rest) before after result transfers is =
-      let fits = subst (ResultFits standard (printing_of Show variant) (record { read = transfers.read; left = Some rest; written = transfers.written })) is transfers.fits in
-      let whole : shown.read ≡ transfers.read ++ rest = sym (append-nil shown.read) ∙ sym shown.consumed ∙ transfers.consumed in
-      fits.0 (front_within transfers.read rest (subst (IsWithinLimits standard) whole shown.fits.1.within))
-
 -- ---- what is made
 
 -- what was made of a text, for the game of its variant
-pub imported_as : {game : Game} {text read : List ℕ} (variant : Variant) (noted : Noted) (state : State) (made notes : List ℕ)
-    → game ≡ game_of variant → text ≡ read → Imported variant noted game text state made notes
-    → (IsPrinted variant game None text → (made ≡ text) × (notes ≡ [])) → IsImportedAs variant noted read state made notes
-imported_as variant noted state made notes game_is text_is imported kept =
-    let both = subst₂ (λ game text. Imported variant noted game text state made notes
+pub imported_as : {game : Game} {text read : List ℕ} (variant : Variant) (options : ImportOptions) (state : State) (made notes : List ℕ)
+    → game ≡ game_of variant → text ≡ read → Imported variant options game text state made notes
+    → (IsPrinted variant game None text → (made ≡ text) × (notes ≡ [])) → IsImportedAs variant options read state made notes
+imported_as variant options state made notes game_is text_is imported kept =
+    let both = subst₂ (λ game text. Imported variant options game text state made notes
     × (IsPrinted variant game None text → (made ≡ text) × (notes ≡ []))) game_is text_is (imported, kept) in
     record { imported = both.0; kept = both.1 }
 
-module _ (variant : Variant) (noted : Noted) (bytes made said : List ℕ) (summary : Summary) where
+module _ (variant : Variant) (options : ImportOptions) (bytes made said : List ℕ) (summary : Summary) where
   -- the text has no board
   pub nothing_made : (state : State) (text notes : List ℕ)
-      → IsImportedAs variant noted (text_read bytes) state text notes → text ≡ []
+      → IsImportedAs variant options (text_read bytes) state text notes → text ≡ []
       → refusals state.tally ≡ 0
       → made ≡ [] → said ≡ with_tally state.tally notes ++ no_board_line → summary.records ≡ 1 → summary.refused ≡ 1
-      → Makes variant noted bytes made said summary
+      → Makes variant options bytes made said summary
   nothing_made state text notes imported nothing none made_is said_is records refused =
-      subst₂ (λ made said. Makes variant noted bytes made said summary) (sym made_is) (sym said_is)
-      (subst₂ (λ records refused. Makes variant noted bytes [] (with_tally state.tally notes ++ no_board_line)
+      subst₂ (λ made said. Makes variant options bytes made said summary) (sym made_is) (sym said_is)
+      (subst₂ (λ records refused. Makes variant options bytes [] (with_tally state.tally notes ++ no_board_line)
       (record { records = records; refused = refused })) (sym records) (sym refused)
       (no_board state notes
-      (subst (λ text. IsImportedAs variant noted (text_read bytes) state text notes) nothing
+      (subst (λ text. IsImportedAs variant options (text_read bytes) state text notes) nothing
       imported) none))
 
   -- more is made of it than `show` takes
   pub unshown_made : (state : State) (text notes : List ℕ)
-      → IsImportedAs variant noted (text_read bytes) state text notes
+      → IsImportedAs variant options (text_read bytes) state text notes
       → ((records : ℕ) → ¬ IsShown variant text records)
       → made ≡ [] → said ≡ notes ++ too_much_line → summary.records ≡ 1 → summary.refused ≡ 1
-      → Makes variant noted bytes made said summary
+      → Makes variant options bytes made said summary
   unshown_made state text notes imported unshown made_is said_is records refused =
-      subst₂ (λ made said. Makes variant noted bytes made said summary) (sym made_is) (sym said_is)
-      (subst₂ (λ records refused. Makes variant noted bytes [] (notes ++ too_much_line)
+      subst₂ (λ made said. Makes variant options bytes made said summary) (sym made_is) (sym said_is)
+      (subst₂ (λ records refused. Makes variant options bytes [] (notes ++ too_much_line)
       (record { records = records; refused = refused })) (sym records) (sym refused)
       (too_much state text notes imported unshown))
 
   -- a collection is made of it
   pub collection_made : (state : State) (notes : List ℕ) (records refused : ℕ)
-      → IsImportedAs variant noted (text_read bytes) state made notes → IsShown variant made records
+      → IsImportedAs variant options (text_read bytes) state made notes → IsShown variant made records
       → (made ≢ []) ⊎ (0 < refusals state.tally)
-      → refused ≡ refused_by noted state.tally notes → said ≡ with_tally state.tally notes
+      → refused ≡ refused_by options.noted state.tally notes → said ≡ with_tally state.tally notes
       → summary.records ≡ counted (records + refused) → summary.refused ≡ refused
-      → Makes variant noted bytes made said summary
+      → Makes variant options bytes made said summary
   collection_made state notes records refused imported shown some_made refused_is said_is records_are refused_are =
-      subst (λ said. Makes variant noted bytes made said summary) (sym said_is)
-      (subst₂ (λ records refused. Makes variant noted bytes made (with_tally state.tally notes)
+      subst (λ said. Makes variant options bytes made said summary) (sym said_is)
+      (subst₂ (λ records refused. Makes variant options bytes made (with_tally state.tally notes)
       (record { records = records; refused = refused }))
       (sym records_are) (sym refused_are)
       (collection state made notes records imported shown some_made refused refused_is))

@@ -3,7 +3,7 @@ use Rattle.std.proofs.Common.{◌++◌, ◌+◌, ◌∙◌, ◌∷◌, ◌≡◌
 use Rattle.std.proofs.{Common.{List, map, None, refl, subst, sym, true, ℕ}, lemmas.Bool.{eqb-true}}
 use Rattle.std.proofs.lemmas.{Grind.{flat_map-append}, List.Elements.{All-contains, All-head, All-tail}}
 use Rattle.std.specs.List.{Contains, flat_map}
-use Rattle.{fc_board.specs.Games.{Game}, fc_import.specs.declared.changes.Noted.{Noted}}
+use Rattle.{fc_board.specs.Games.{Game}, fc_import.specs.declared.options.ImportOptions.{ImportOptions}}
 use Rattle.fc_board.specs.declared.rule.Variant.TheVariants.{BakersGame, EightOff, FreeCell}
 use Rattle.fc_board.specs.declared.rule.Variant.{Variant}
 use Rattle.fc_text.proofs.LineLemmas.{lines_from-moved}
@@ -45,8 +45,8 @@ still_taken (a_list board list said apart last legal few names says) silent (boa
 still_taken (refused_board said note) silent before = absurd (note_said _ _ said note silent)
 still_taken (refused_list last said apart stays note) silent before = absurd (note_said _ _ said note silent)
 
-pub all_taken : {variant : Variant} {noted : Noted} {game : Game} {text : List ℕ} {state : State}
-    {written said : List ℕ} → Imported variant noted game text state written said → said ≡ [] → AllTaken state
+pub all_taken : {variant : Variant} {options : ImportOptions} {game : Game} {text : List ℕ} {state : State}
+    {written said : List ℕ} → Imported variant options game text state written said → said ≡ [] → AllTaken state
 all_taken none_yet silent = (refl, refl, refl)
 all_taken (headed text state written said so_far ends line heading) silent = all_taken so_far silent
 all_taken (one_more text state written said so_far ends piece none next more says reading) silent =
@@ -108,8 +108,8 @@ none_lost (a_list board list said apart last legal few names says) nothing silen
 none_lost (refused_board said note) nothing silent alone = absurd (note_said _ _ said note silent)
 none_lost (refused_list last said apart stays note) nothing silent alone = absurd (note_said _ _ said note silent)
 
-pub no_card_lost : {variant : Variant} {noted : Noted} {game : Game} {text : List ℕ} {state : State}
-    {written said : List ℕ} → Imported variant noted game text state written said → written ≡ [] → said ≡ []
+pub no_card_lost : {variant : Variant} {options : ImportOptions} {game : Game} {text : List ℕ} {state : State}
+    {written said : List ℕ} → Imported variant options game text state written said → written ≡ [] → said ≡ []
     → NoneLost state text
 no_card_lost none_yet nothing silent = (refl, refl)
 no_card_lost (headed text state written said so_far ends line heading) nothing silent =

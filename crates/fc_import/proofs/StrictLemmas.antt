@@ -15,7 +15,8 @@ use Rattle.fc_import.specs.Import.{no_board, no_board_line, none_yet, once_more,
 use Rattle.fc_import.specs.Import.{Reading, refusals, refused_board, refused_by, refused_list}
 use Rattle.fc_import.specs.Import.{too_much, too_much_line, with_tally}
 use Rattle.fc_import.specs.Notes.{counted, IsNote, line_feeds, Place, place_text, SaysUnless, State}
-use Rattle.fc_import.specs.declared.changes.Noted.{Noted, TheVariants.{Changes, Doubts, Strict}}
+use Rattle.fc_import.specs.declared.options.ImportOptions.{ImportOptions}
+use Rattle.fc_import.specs.declared.options.Noted.{Noted, TheVariants.{Changes, Doubts, Strict}}
 use Rattle.fc_import.specs.declared.tally.Tally.{Tally}
 
 -- ---- what is silent where changes are noted
@@ -23,7 +24,7 @@ use Rattle.fc_import.specs.declared.tally.Tally.{Tally}
 -- the same state, but that doubts alone are noted
 abbrev doubting : State → State
 doubting state = record {
-  noted = Doubts;
+  options = record state.options { noted = Doubts };
   last = state.last;
   place = state.place;
   begun = state.begun;
@@ -78,28 +79,28 @@ still_silent (passed apart quiet) silent well = passed apart quiet
 still_silent (left_out said apart names prose note) silent well = absurd (note_said _ _ said note silent)
 still_silent {game = game} {state = state} {piece = piece} (a_board name board said game_is named is can of says) silent well =
     a_board name board said game_is (record { by_header = named.by_header; alone = named.alone }) is can of
-    (silent_as state.place piece said (spelled_out state.noted game piece board is) says silent)
+    (silent_as state.place piece said (spelled_out state.options.noted game piece board is) says silent)
 still_silent {game = game} {state = state} {piece = piece} (once_more board said last begun of says) silent well =
     once_more board said last begun of
-    (silent_as state.place piece said (spelled_out state.noted game piece board (well board last)) says silent)
+    (silent_as state.place piece said (spelled_out state.options.noted game piece board (well board last)) says silent)
 still_silent {game = game} {state = state} {piece = piece} (a_list board list said apart last legal few names says) silent well =
     a_list board list said apart last legal few names
-    (silent_as state.place piece said (needs_none state.noted game piece list) says silent)
+    (silent_as state.place piece said (needs_none state.options.noted game piece list) says silent)
 still_silent (refused_board said note) silent well = absurd (note_said _ _ said note silent)
 still_silent (refused_list last said apart stays note) silent well = absurd (note_said _ _ said note silent)
 
 -- the last board of a text is well formed
-last_is_well : {variant : Variant} {noted : Noted} {game : Game} {text : List ℕ} {state : State}
-    {written said : List ℕ} → Imported variant noted game text state written said → LastIsWell game state.last
+last_is_well : {variant : Variant} {options : ImportOptions} {game : Game} {text : List ℕ} {state : State}
+    {written said : List ℕ} → Imported variant options game text state written said → LastIsWell game state.last
 last_is_well none_yet = no_last
 last_is_well (headed text state written said so_far ends line heading) = no_last
 last_is_well (one_more text state written said so_far ends piece none next more says reading) =
     well_next reading (last_is_well so_far)
 
 -- and so is a text
-silent_without : {variant : Variant} {noted : Noted} {game : Game} {text : List ℕ} {state : State}
-    {written said : List ℕ} → Imported variant noted game text state written said → said ≡ []
-    → Imported variant Doubts game text (doubting state) written said
+silent_without : {variant : Variant} {options : ImportOptions} {game : Game} {text : List ℕ} {state : State}
+    {written said : List ℕ} → Imported variant options game text state written said → said ≡ []
+    → Imported variant (record options { noted = Doubts }) game text (doubting state) written said
 silent_without none_yet silent = none_yet
 silent_without (headed text state written said so_far ends line heading) silent =
     headed text (doubting state) written said (silent_without so_far silent) ends line heading
@@ -135,8 +136,8 @@ says_end (refused_board said note) = note_ends _ _ said note
 says_end (refused_list last said apart stays note) = note_ends _ _ said note
 
 -- and the notes of a text are whole lines
-notes_end : {variant : Variant} {noted : Noted} {game : Game} {text : List ℕ} {state : State} {written said : List ℕ}
-    → Imported variant noted game text state written said → ends_line said ≡ true
+notes_end : {variant : Variant} {options : ImportOptions} {game : Game} {text : List ℕ} {state : State} {written said : List ℕ}
+    → Imported variant options game text state written said → ends_line said ≡ true
 notes_end none_yet = refl
 notes_end (headed text state written said so_far ends line heading) = notes_end so_far
 notes_end (one_more text state written said so_far ends piece none next more says reading) =
@@ -187,16 +188,16 @@ none_refused Changes tally notes silent none = none
 none_refused Strict tally notes silent none = ap (λ notes. counted (line_feeds notes)) silent ∙ ap counted no_lines
 
 -- where nothing is said, each board and list is taken
-none_missed : {variant : Variant} {noted : Noted} {game : Game} {text : List ℕ} {state : State} {written said : List ℕ}
-    → Imported variant noted game text state written said → said ≡ []
+none_missed : {variant : Variant} {options : ImportOptions} {game : Game} {text : List ℕ} {state : State} {written said : List ℕ}
+    → Imported variant options game text state written said → said ≡ []
     → refusals state.tally ≡ 0
 none_missed imported silent =
     let (boards, lists, lines) = all_taken imported silent in
     ap₂ (λ boards lists. counted (boards + lists)) boards lists
 
-pub silent_makes : {variant : Variant} {noted : Noted} {bytes made said : List ℕ} {summary : Summary}
-    → Makes variant noted bytes made said summary → said ≡ [] → Makes variant Doubts bytes made said summary
-silent_makes {noted = noted} (collection state made notes records imported shown some_made refused is) silent =
+pub silent_makes : {variant : Variant} {options : ImportOptions} {bytes made said : List ℕ} {summary : Summary}
+    → Makes variant options bytes made said summary → said ≡ [] → Makes variant (record options { noted = Doubts }) bytes made said summary
+silent_makes {options = options} (collection state made notes records imported shown some_made refused is) silent =
     let quiet = untallied state.tally notes silent in
     let none = none_missed imported.imported quiet in
     collection (doubting state) made notes records (record {
@@ -204,7 +205,7 @@ silent_makes {noted = noted} (collection state made notes records imported shown
       kept
           = imported.kept;
     }) shown some_made refused
-    (is ∙ none_refused noted state.tally notes quiet none ∙ sym none)
+    (is ∙ none_refused options.noted state.tally notes quiet none ∙ sym none)
 silent_makes (no_board state notes imported none) silent =
     absurd (said_last (with_tally state.tally notes) no_board_line no_board_said silent)
 silent_makes (too_much state made notes imported unshown) silent =
@@ -216,18 +217,20 @@ strict_some : (tally : Tally) (notes : List ℕ) → ends_line notes ≡ true �
 strict_some tally [] ends some = absurd (some refl)
 strict_some tally (byte ∷ rest) ends some = let lines = some_line byte rest ends in omega (arith, lines)
 
-pub strict_refuses : {variant : Variant} {bytes made said : List ℕ} {summary : Summary}
-    → Makes variant Strict bytes made said summary → said ≢ [] → 0 < summary.refused
-strict_refuses (collection state made notes records imported shown some_made refused is) some =
-    subst (λ count. 0 < count) (sym is) (strict_some state.tally notes (notes_end imported.imported) some)
-strict_refuses (no_board state notes imported none) some = omega arith
-strict_refuses (too_much state made notes imported unshown) some = omega arith
+pub strict_refuses : {variant : Variant} {options : ImportOptions} {bytes made said : List ℕ} {summary : Summary}
+    → options.noted ≡ Strict → Makes variant options bytes made said summary → said ≢ [] → 0 < summary.refused
+strict_refuses {options = options} strict (collection state made notes records imported shown some_made refused is) some =
+    subst (λ count. 0 < count)
+    (sym (is ∙ ap (λ noted. refused_by noted state.tally notes) strict))
+    (strict_some state.tally notes (notes_end imported.imported) some)
+strict_refuses strict (no_board state notes imported none) some = omega arith
+strict_refuses strict (too_much state made notes imported unshown) some = omega arith
 
-pub strict_silent : {variant : Variant} {noted : Noted} {bytes made said : List ℕ} {summary : Summary}
-    → Makes variant noted bytes made said summary → said ≡ [] → summary.refused ≡ 0
-strict_silent {noted = noted} (collection state made notes records imported shown some_made refused is) silent =
+pub strict_silent : {variant : Variant} {options : ImportOptions} {bytes made said : List ℕ} {summary : Summary}
+    → Makes variant options bytes made said summary → said ≡ [] → summary.refused ≡ 0
+strict_silent {options = options} (collection state made notes records imported shown some_made refused is) silent =
     let quiet = untallied state.tally notes silent in
-    is ∙ none_refused noted state.tally notes quiet (none_missed imported.imported quiet)
+    is ∙ none_refused options.noted state.tally notes quiet (none_missed imported.imported quiet)
 strict_silent (no_board state notes imported none) silent =
     absurd (said_last (with_tally state.tally notes) no_board_line no_board_said silent)
 strict_silent (too_much state made notes imported unshown) silent =

@@ -15,13 +15,15 @@ use Rattle.fc_text.specs.{Lines.{Piece, with_end}, Printed.{text_of}, Spelling.{
 use Rattle.fc_text.specs.declared.fault.BoardFault.{BoardFault}
 use Rattle.fc_board.specs.Moves.{MoveList}
 use Rattle.fc_record.specs.{Printing.{header_text, list_line}, RecordTexts.{ends_line}}
-use Rattle.fc_import.specs.Import.{a_board, AreLists, BoardNeedsNoNote, by_columns, CanBe, HasCards, ListNeedsNoNote}
+use Rattle.fc_import.proofs.SilenceLemmas.{both_empty}
+use Rattle.fc_import.specs.Import.{a_board, AreLists, BoardNeedsNoNote, by_columns, CanBe, IsReadAs, ListNeedsNoNote}
 use Rattle.fc_import.specs.Import.{HasNoHeader, headed, Imported, IsHeading, IsNamed, IsPacked}
 use Rattle.fc_import.specs.Import.{none_yet, once_more, one_more, Reading, SpellsOut}
-use Rattle.fc_import.specs.inside.{IsMade, printing, Says, state_of, Takes, TakesName}
+use Rattle.fc_import.specs.inside.{IsMade, part, printing, Says, state_of, Takes, TakesName}
 use Rattle.fc_import.specs.Notes.{after, first_state, State, tally_of}
-use Rattle.fc_import.specs.Words.{is_between, named_lines}
-use Rattle.fc_import.specs.declared.changes.Noted.{Noted, TheVariants.{Changes, Doubts, Strict}}
+use Rattle.fc_import.specs.{Scan.{named_cards}, Words.{ended, is_between, named_lines}}
+use Rattle.fc_import.specs.declared.options.ImportOptions.{ImportOptions}
+use Rattle.fc_import.specs.declared.options.Noted.{Noted, TheVariants.{Changes, Doubts, Strict}}
 use Rattle.fc_import.specs.declared.{made.Made.{Made}, tally.Fate.TheVariants.{ABoard, Again, Passed}}
 use Rattle.fc_import.specs.declared.tally.Tally.{Tally}
 
@@ -72,19 +74,31 @@ past_rows (column ∷ columns) row later after past =
     ap₂ (λ front rest. front ++ rest) (ap option_to_list (slice_get_past column later low))
     (past_rows columns row later after (λ place none inside. past (suc place) none (omega (arith, inside))))
 
+-- what has no card has no end
+pub no_part : (is_ended : Bool) → part is_ended [] ≡ []
+no_part true = refl
+no_part false = refl
+
+-- lines that name no card have no end
+pub no_ends : (lines : List Piece) → flat_map (λ line. named_cards line.bytes) lines ≡ [] → flat_map (λ line. ended (named_cards line.bytes)) lines ≡ []
+no_ends [] none = refl
+no_ends (line ∷ lines) none =
+    let parts = both_empty (named_cards line.bytes) (flat_map (λ line. named_cards line.bytes) lines) none in
+    ap₂ (λ first rest. first ++ rest) (ap ended parts.0) (no_ends lines parts.1)
+
 -- ---- taking pieces of a text
 
 -- nothing was taken yet
-abbrev state_begun : Noted → List ℕ → Tally → State
-state_begun asked name tally =
-    record { noted = asked; last = None; begun = false; goes_on = false; other_game = false; place = record { name = name; header = 0; line = 1 }; named = 0; tally = tally }
+abbrev state_begun : ImportOptions → List ℕ → Tally → State
+state_begun options name tally =
+    record { options = options; last = None; begun = false; goes_on = false; other_game = false; place = record { name = name; header = 0; line = 1 }; named = 0; tally = tally }
 
-pub begun : (variant : Variant) (asked : Noted) (game : Game) (name written notes : List ℕ) (tally : Tally) → name ≡ []
+pub begun : (variant : Variant) (options : ImportOptions) (game : Game) (name written notes : List ℕ) (tally : Tally) → name ≡ []
     → written ≡ [] → notes ≡ [] → tally ≡ tally_of Passed
-    → Imported variant asked game [] (state_begun asked name tally) written notes
-begun variant asked game name written notes tally no_name no_text silent none =
-    subst₂ (λ name tally. Imported variant asked game [] (state_begun asked name tally) written notes) (sym no_name) (sym none)
-    (subst₂ (Imported variant asked game [] (first_state asked)) (sym no_text) (sym silent) none_yet)
+    → Imported variant options game [] (state_begun options name tally) written notes
+begun variant options game name written notes tally no_name no_text silent none =
+    subst₂ (λ name tally. Imported variant options game [] (state_begun options name tally) written notes) (sym no_name) (sym none)
+    (subst₂ (Imported variant options game [] (first_state options)) (sym no_text) (sym silent) none_yet)
 
 module _ {R : Type 0} (variant : Variant) (game : Game) (piece : List ℕ) (old new : Made R) (next : State) (state : state_of new ≡ next) where
   -- this is written, and this said
@@ -128,7 +142,7 @@ spelled_out Changes game piece board well silent = inl (spelled game board piece
 spelled_out Strict game piece board well silent = inl (spelled game board piece well silent)
 
 module _ {R : Type 0} (variant : Variant) (game : Game) (piece : List ℕ) (board : Board) (old said new : Made R)
-    (of : SpellsOut game piece board ⊎ HasCards piece board) (says : Says game piece board old said) where
+    (of : IsReadAs old.options.lines_are game piece board) (says : Says game piece board old said) where
   -- what is to be said of a board was said, and the board was written
   pub board_taken : old.other_game ≡ false → IsWellFormed game board → CanBe game piece board
       → state_of new ≡ after (state_of said) piece (Some board) ABoard
@@ -152,16 +166,16 @@ module _ {R : Type 0} (variant : Variant) (game : Game) (piece : List ℕ) (boar
       says.said (once_more board says.said last begun of says.is) (written ∙ says.written) (notes ∙ says.notes)
 
 -- one header or one piece more was taken
-pub one_taken_more : {R : Type 0} (variant : Variant) (asked : Noted) (game : Game) (text piece : List ℕ)
-    (old new : Made R) → ends_line text ≡ true → IsMade variant asked game text old
+pub one_taken_more : {R : Type 0} (variant : Variant) (options : ImportOptions) (game : Game) (text piece : List ℕ)
+    (old new : Made R) → ends_line text ≡ true → IsMade variant options game text old
     → (IsHeading piece × TakesName variant piece old new) ⊎ (HasNoHeader piece × Takes variant game piece old new)
-    → IsMade variant asked game (text ++ piece) new
-one_taken_more variant asked game text line old new ends made (inl (heading, name)) =
-    subst₂ (Imported variant asked game (text ++ line) (state_of new)) (sym name.written) (sym name.notes)
-    (subst (λ state. Imported variant asked game (text ++ line) state old.written.items old.notes.items) (sym name.state)
+    → IsMade variant options game (text ++ piece) new
+one_taken_more variant options game text line old new ends made (inl (heading, name)) =
+    subst₂ (Imported variant options game (text ++ line) (state_of new)) (sym name.written) (sym name.notes)
+    (subst (λ state. Imported variant options game (text ++ line) state old.written.items old.notes.items) (sym name.state)
     (headed text (state_of old) old.written.items old.notes.items made ends line heading))
-one_taken_more variant asked game text piece old new ends made (inr (none, (more, says, reading, written, notes))) =
-    subst₂ (Imported variant asked game (text ++ piece) (state_of new)) (sym written) (sym notes)
+one_taken_more variant options game text piece old new ends made (inr (none, (more, says, reading, written, notes))) =
+    subst₂ (Imported variant options game (text ++ piece) (state_of new)) (sym written) (sym notes)
     (one_more text (state_of old) old.written.items old.notes.items made ends piece none (state_of new) more says reading)
 
 -- ---- lists

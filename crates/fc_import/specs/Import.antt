@@ -1,9 +1,10 @@
 -- What a text is imported as.
-use Rattle.std.specs.{Fmt.{decimal}, Io.KnownBytes.{IsAtEnd}, List.{before_first, flat_map}}
-use Rattle.std.specs.{Option.{option_to_list}, Prelude.{◌&&◌, ◌++◌, ◌+◌, ◌-◌, ◌<◌, ◌==◌, ◌||◌, ◌↔◌}}
-use Rattle.std.specs.Prelude.{◌∷◌, ◌≡◌, ◌≢◌, ◌≤◌, ◌⊎◌, [], All, Bool, codes, Err, false}
-use Rattle.std.specs.Prelude.{if◌then◌else◌, length, List, None, Ok, Option, Result, slice_get}
-use Rattle.std.specs.{Prelude.{slice_index, slice_index_or, Some, take, true, ℕ}, Str.{bytes_eq}}
+use Rattle.std.specs.{Fmt.{decimal}, Io.KnownBytes.{IsAtEnd}}
+use Rattle.std.specs.{List.{before_first, flat_map, list_any}, Option.{option_to_list}}
+use Rattle.std.specs.Prelude.{◌&&◌, ◌++◌, ◌+◌, ◌-◌, ◌<◌, ◌==◌, ◌||◌, ◌↔◌, ◌∷◌, ◌≡◌, ◌≢◌, ◌≤◌, ◌⊎◌}
+use Rattle.std.specs.Prelude.{[], All, Bool, codes, Err, false, if◌then◌else◌, length, List, None}
+use Rattle.std.specs.Prelude.{Ok, Option, Result, slice_get, slice_index, slice_index_or, Some}
+use Rattle.std.specs.{Prelude.{take, true, ℕ}, Str.{bytes_eq}}
 use Rattle.{fc_board.specs.declared.rule.Variant.{Variant}, fc_card.specs.{places}}
 use Rattle.fc_board.specs.{Boards.{Board, IsWellFormed}, Games.{Builds, Game, game_of}}
 use Rattle.fc_board.specs.{Moves.{move_count, MoveList, OneCard, Runs}, Play.{Legal}}
@@ -19,30 +20,39 @@ use Rattle.fc_collect.specs.declared.commands.RunKind.TheVariants.{Show}
 use Rattle.fc_collect.specs.declared.streams.faults.RunFault.{RunFault}
 use Rattle.fc_collect.specs.declared.streams.faults.RunFault.TheVariants.{TooLarge, Write}
 use Rattle.fc_collect.specs.declared.streams.faults.Summary.{Summary}
-use Rattle.fc_import.specs.Notes.{after, after_heading, counted, first_state, IsNote, line_feeds}
-use Rattle.fc_import.specs.{Notes.{SaysUnless, State}, Scan.{HasFewCards, is_in_words, is_list}}
-use Rattle.fc_import.specs.Scan.{is_number_alone, IsProse, IsQuiet, lists_moves, said_in, words_of}
+use Rattle.fc_import.specs.{Labels.{says_column}, Notes.{after, after_heading, counted}}
+use Rattle.fc_import.specs.Notes.{first_state, IsNote, line_feeds, SaysUnless, State}
+use Rattle.fc_import.specs.Scan.{HasFewCards, is_in_words, is_list, is_number_alone, IsProse}
+use Rattle.fc_import.specs.Scan.{IsQuiet, lists_moves, said_in, words_of}
 use Rattle.fc_import.specs.Words.{ended, named_in, named_lines, text_read}
-use Rattle.fc_import.specs.declared.changes.Noted.{Noted, TheVariants.{Doubts, Strict}}
-use Rattle.fc_import.specs.declared.tally.Fate.TheVariants.{ABoard, Again, AList, LeftOut, Passed}
-use Rattle.fc_import.specs.declared.tally.Fate.TheVariants.{RefusedBoard, RefusedList}
-use Rattle.fc_import.specs.declared.tally.Tally.{Tally}
+use Rattle.fc_import.specs.declared.{
+  layout.Layout.{Layout, TheVariants.{Columns, ColumnsInLine, Deal, Rows}},
+  options.{ImportOptions.{ImportOptions}, LinesAre.{LinesAre}},
+  options.{LinesAre.TheVariants.{Columns as AsColumns, Rows as AsRows}, Noted.{Noted}},
+  options.Noted.TheVariants.{Doubts, Strict},
+  tally.Fate.TheVariants.{ABoard, Again, AList, LeftOut, Passed, RefusedBoard, RefusedList},
+  tally.Tally.{Tally},
+}
 
 -- -------- When lines are a board. From: the layouts that people and programs write, and the rules of the games.
 
 abbrev pub in_cells : Board → List ℕ
 in_cells board = flat_map option_to_list board.cells
 
-abbrev pub in_columns : Board → List ℕ
-in_columns board = flat_map (λ column. column) board.columns
+-- the first card of each column, or the second, and so on
+abbrev pub in_row : Board → ℕ → List ℕ
+in_row board row = flat_map (λ column. option_to_list (slice_get column row)) board.columns
 
--- the first card of each column, then the second of each, and so on
-abbrev pub in_rows : Board → List ℕ
-in_rows board = flat_map (λ row. flat_map (λ column. option_to_list (slice_get column row)) board.columns) (places 52)
+-- the cards of the columns as lines name them in this layout, with an end after those of each line
+abbrev pub lines_in : Layout → Board → List ℕ
+lines_in Columns board = flat_map ended board.columns
+lines_in Rows board = flat_map (λ row. ended (in_row board row)) (places 52)
+lines_in ColumnsInLine board = ended (flat_map (λ column. column) board.columns)
+lines_in Deal board = ended (flat_map (in_row board) (places 52))
 
 -- the cards in the cells, and those of each column
 abbrev pub by_columns : Board → List ℕ
-by_columns board = ended (in_cells board) ++ flat_map ended board.columns
+by_columns board = ended (in_cells board) ++ lines_in Columns board
 
 -- no cell before a taken one is empty
 abbrev pub ArePacked : List (Option ℕ) → Type 0
@@ -95,11 +105,22 @@ abbrev pub ListNeedsNoNote : Noted → Game → (piece : List ℕ) → MoveList 
 ListNeedsNoNote Doubts game piece list = (piece ≡ list_line list) ⊎ AreLists game piece
 ListNeedsNoNote noted game piece list = piece ≡ list_line list
 
--- the lines name the cards of the board in order, those of the cells first or last: column by column, or row by row
-abbrev pub HasCards : (piece : List ℕ) → Board → Type 0
-HasCards piece board =
-    (named_in piece ≡ in_cells board ++ in_columns board) ⊎ (named_in piece ≡ in_columns board ++ in_cells board)
-    ⊎ (named_in piece ≡ in_cells board ++ in_rows board) ⊎ (named_in piece ≡ in_rows board ++ in_cells board)
+-- the lines name the cards of the board in this layout, and those of the cells in a line before or after them
+abbrev pub AreIn : Layout → (piece : List ℕ) → Board → Type 0
+AreIn layout piece board =
+    (named_lines piece ≡ ended (in_cells board) ++ lines_in layout board) ⊎ (named_lines piece ≡ lines_in layout board ++ ended (in_cells board))
+
+-- lines that are said to be columns are no rows; and of lines that are said to be rows one must say that it is a column's, if they are columns
+abbrev pub may_be : LinesAre → Layout → (piece : List ℕ) → Bool
+may_be AsColumns Rows piece = false
+may_be AsRows Columns piece = list_any (λ line. says_column line.bytes) (lines_from 0 piece)
+may_be lines_are layout piece = true
+
+-- the lines are the board as it is printed; or they spell it out, and may be columns; or they name its cards in a layout that they may have
+pub data IsReadAs (lines_are : LinesAre) (game : Game) (piece : List ℕ) (board : Board) : Type 0 where
+  printed : piece ≡ text_of board → IsReadAs lines_are game piece board
+  spelled : may_be lines_are Columns piece ≡ true → SpellsOut game piece board → IsReadAs lines_are game piece board
+  laid : (layout : Layout) → may_be lines_are layout piece ≡ true → AreIn layout piece board → IsReadAs lines_are game piece board
 
 -- how many cards a deal puts into a column at most
 abbrev pub most_dealt : ℕ
@@ -152,17 +173,17 @@ pub data Reading (variant : Variant) (game : Game) (state : State) (piece : List
   passed : IsApart state piece → All (λ line. IsQuiet game line.bytes) (lines_from 0 piece) → Reading variant game state piece (after state piece state.last Passed) [] []
   -- a line of prose that names cards
   left_out : (said : List ℕ) → IsApart state piece → named_in piece ≢ [] → All (λ line. IsProse game line.bytes) (lines_from 0 piece) → IsNote state.place piece said → Reading variant game state piece (after state piece state.last LeftOut) [] said
-  -- a board, which the lines spell out or have the cards of: nothing is said of one that needs no note
+  -- a board, as which the lines are read: nothing is said of one that needs no note
   a_board : (name : List ℕ) (board : Board) (said : List ℕ) → state.other_game ≡ false → IsNamed state name → IsWellFormed game board → CanBe game piece board
-      → SpellsOut game piece board ⊎ HasCards piece board → SaysUnless (BoardNeedsNoNote state.noted game piece board) state.place piece said
+      → IsReadAs state.options.lines_are game piece board → SaysUnless (BoardNeedsNoNote state.options.noted game piece board) state.place piece said
       → Reading variant game state piece (after state piece (Some board) ABoard) (header_text variant name ++ text_of board) said
   -- the last board once more, after the rule that begins a solution: nothing is said of one that needs no note
   once_more : (board : Board) (said : List ℕ) → state.last ≡ Some board → state.begun ≡ true
-      → SpellsOut game piece board ⊎ HasCards piece board → SaysUnless (BoardNeedsNoNote state.noted game piece board) state.place piece said
+      → IsReadAs state.options.lines_are game piece board → SaysUnless (BoardNeedsNoNote state.options.noted game piece board) state.place piece said
       → Reading variant game state piece (after state piece state.last Again) [] said
   -- a list that the lines name, and that is legal on the last board: nothing is said of one that needs no note
   a_list : (board : Board) (list : MoveList) (said : List ℕ) → IsApart state piece → state.last ≡ Some board → Legal game board list → move_count list ≤ most_moves
-      → (piece ≡ list_line list) ⊎ NamesList game piece list → SaysUnless (ListNeedsNoNote state.noted game piece list) state.place piece said
+      → (piece ≡ list_line list) ⊎ NamesList game piece list → SaysUnless (ListNeedsNoNote state.options.noted game piece list) state.place piece said
       → Reading variant game state piece (after state piece state.last AList) (list_line list) said
   -- a board that is not taken: no list may follow it
   refused_board : (said : List ℕ) → IsNote state.place piece said → Reading variant game state piece (after state piece None RefusedBoard) [] said
@@ -171,14 +192,14 @@ pub data Reading (variant : Variant) (game : Game) (state : State) (piece : List
       → Reading variant game state piece (after state piece last RefusedList) [] said
 
 -- a text by its headers and the pieces between them, each of which begins a line and has one fate
-pub data Imported (variant : Variant) (noted : Noted) (game : Game) : (text : List ℕ) → State → (written said : List ℕ) → Type 0 where
-  none_yet : Imported variant noted game [] (first_state noted) [] []
+pub data Imported (variant : Variant) (options : ImportOptions) (game : Game) : (text : List ℕ) → State → (written said : List ℕ) → Type 0 where
+  none_yet : Imported variant options game [] (first_state options) [] []
   -- a header: no list may follow it
-  headed : (text : List ℕ) (state : State) (written said : List ℕ) → Imported variant noted game text state written said → ends_lines text ≡ true
-      → (line : List ℕ) → IsHeading line → Imported variant noted game (text ++ line) (after_heading variant state line) written said
-  one_more : (text : List ℕ) (state : State) (written said : List ℕ) → Imported variant noted game text state written said → ends_lines text ≡ true
+  headed : (text : List ℕ) (state : State) (written said : List ℕ) → Imported variant options game text state written said → ends_lines text ≡ true
+      → (line : List ℕ) → IsHeading line → Imported variant options game (text ++ line) (after_heading variant state line) written said
+  one_more : (text : List ℕ) (state : State) (written said : List ℕ) → Imported variant options game text state written said → ends_lines text ≡ true
       → (piece : List ℕ) → HasNoHeader piece → (next : State) (more says : List ℕ) → Reading variant game state piece next more says
-      → Imported variant noted game (text ++ piece) next (written ++ more) (said ++ says)
+      → Imported variant options game (text ++ piece) next (written ++ more) (said ++ says)
 
 -- -------- What fcanon prints. From: this project's profile.
 
@@ -191,8 +212,8 @@ pub data IsPrinted (variant : Variant) (game : Game) : (last : Option Board) →
       → IsPrinted variant game (Some board) rest → IsPrinted variant game (Some board) (list_line list ++ rest)
 
 -- what is made of a text, and what is said of it: what fcanon prints is imported as it is, in silence
-pub record IsImportedAs (variant : Variant) (noted : Noted) (text : List ℕ) (state : State) (made notes : List ℕ) : Type 0 where
-  pub imported : Imported variant noted (game_of variant) text state made notes
+pub record IsImportedAs (variant : Variant) (options : ImportOptions) (text : List ℕ) (state : State) (made notes : List ℕ) : Type 0 where
+  pub imported : Imported variant options (game_of variant) text state made notes
   pub kept : IsPrinted variant (game_of variant) None text → (made ≡ text) × (notes ≡ [])
 
 -- -------- What a run promises that imports its input. From: this project's profile.
@@ -233,20 +254,20 @@ IsShown variant text records =
     TransfersWithin standard Show variant (record { input = Some text; left = Some []; before = Some []; after = Some text }) (Ok (record { records = records; refused = 0 }))
 
 -- what is made of the text that these bytes are read as, what is said of it, and the summary
-pub data Makes (variant : Variant) (noted : Noted) (bytes : List ℕ) : (made said : List ℕ) → Summary → Type 0 where
+pub data Makes (variant : Variant) (options : ImportOptions) (bytes : List ℕ) : (made said : List ℕ) → Summary → Type 0 where
   -- a collection that `show` takes
-  collection : (state : State) (made notes : List ℕ) (records : ℕ) → IsImportedAs variant noted (text_read bytes) state made notes → IsShown variant made records
-      → (made ≢ []) ⊎ (0 < refusals state.tally) → (refused : ℕ) → refused ≡ refused_by noted state.tally notes
-      → Makes variant noted bytes made (with_tally state.tally notes) (record { records = counted (records + refused); refused = refused })
+  collection : (state : State) (made notes : List ℕ) (records : ℕ) → IsImportedAs variant options (text_read bytes) state made notes → IsShown variant made records
+      → (made ≢ []) ⊎ (0 < refusals state.tally) → (refused : ℕ) → refused ≡ refused_by options.noted state.tally notes
+      → Makes variant options bytes made (with_tally state.tally notes) (record { records = counted (records + refused); refused = refused })
   -- nothing, since the text has no board
-  no_board : (state : State) (notes : List ℕ) → IsImportedAs variant noted (text_read bytes) state [] notes → refusals state.tally ≡ 0
-      → Makes variant noted bytes [] (with_tally state.tally notes ++ no_board_line) (record { records = 1; refused = 1 })
+  no_board : (state : State) (notes : List ℕ) → IsImportedAs variant options (text_read bytes) state [] notes → refusals state.tally ≡ 0
+      → Makes variant options bytes [] (with_tally state.tally notes ++ no_board_line) (record { records = 1; refused = 1 })
   -- nothing, since `show` does not take what is made of it
-  too_much : (state : State) (made notes : List ℕ) → IsImportedAs variant noted (text_read bytes) state made notes → ((records : ℕ) → ¬ IsShown variant made records)
-      → Makes variant noted bytes [] (notes ++ too_much_line) (record { records = 1; refused = 1 })
+  too_much : (state : State) (made notes : List ℕ) → IsImportedAs variant options (text_read bytes) state made notes → ((records : ℕ) → ¬ IsShown variant made records)
+      → Makes variant options bytes [] (notes ++ too_much_line) (record { records = 1; refused = 1 })
 
 -- how each result goes with what an import transferred, which said this: all was read, at most 16 MiB, and what is made of it was written or, where a write failed, a beginning of that; else nothing was written or said, and more than 16 MiB are `TooLarge`
-abbrev pub ImportFits : Variant → Noted → (said : List ℕ) → Transfer → Result Summary RunFault → Type 0
-ImportFits variant noted said bytes (Ok summary) = IsAtEnd bytes.left × (length bytes.read ≤ most_bytes) × Makes variant noted bytes.read bytes.written said summary
-ImportFits variant noted said bytes (Err Write) = IsAtEnd bytes.left × (length bytes.read ≤ most_bytes) × ((made : List ℕ) × (summary : Summary) × Makes variant noted bytes.read made said summary × Begins bytes.written made)
-ImportFits variant noted said bytes (Err fault) = (bytes.written ≡ []) × (said ≡ []) × ((fault ≡ TooLarge) ↔ (most_bytes < length bytes.read))
+abbrev pub ImportFits : Variant → ImportOptions → (said : List ℕ) → Transfer → Result Summary RunFault → Type 0
+ImportFits variant options said bytes (Ok summary) = IsAtEnd bytes.left × (length bytes.read ≤ most_bytes) × Makes variant options bytes.read bytes.written said summary
+ImportFits variant options said bytes (Err Write) = IsAtEnd bytes.left × (length bytes.read ≤ most_bytes) × ((made : List ℕ) × (summary : Summary) × Makes variant options bytes.read made said summary × Begins bytes.written made)
+ImportFits variant options said bytes (Err fault) = (bytes.written ≡ []) × (said ≡ []) × ((fault ≡ TooLarge) ↔ (most_bytes < length bytes.read))

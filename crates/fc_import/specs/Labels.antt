@@ -1,9 +1,9 @@
 -- What may stand before the cards of a line: the name of the line with a colon, or the number of its column. From: Freecell Solver's board text, and how sites and programs name the parts of a board.
 use Rattle.std.specs.{List.{before_first, list_any}, Prelude.{◌&&◌, ◌-◌, ◌==◌, ◌||◌, ◌∷◌, [], Bool}}
-use Rattle.std.specs.Prelude.{codes, if◌then◌else◌, length, List, map, nat_le, slice_index, ℕ}
-use Rattle.std.specs.Str.{str_eq_ignore_ascii_case}
+use Rattle.std.specs.Prelude.{codes, false, if◌then◌else◌, length, List, map, nat_le, nat_lt}
+use Rattle.std.specs.{Prelude.{slice_index, true, ℕ}, Str.{str_eq_ignore_ascii_case}}
 use Rattle.fc_text.specs.{Bytes.{colon}, Lines.{Piece, with_end, words_from}}
-use Rattle.fc_import.specs.Scan.{parts_words, word_at}
+use Rattle.fc_import.specs.Scan.{parts_words, uncommented, word_at}
 use Rattle.fc_import.specs.declared.labels.LabelKind.{LabelKind, TheVariants.{Bare, Cells, Column}}
 use Rattle.fc_import.specs.declared.labels.LabelKind.TheVariants.{Columns, Foundations, Unknown}
 
@@ -74,3 +74,14 @@ abbrev pub label_of : (text : List ℕ) → LabelKind
 label_of text =
     let front = before_first (λ byte. byte == colon) text in
     if length front == length text then said_by_front text (all_words text) else said_by_words (all_words front)
+
+-- a line says that it is a column's by its number, or by a colon alone
+abbrev pub says : LabelKind → (has_colon : Bool) → Bool
+says Bare has_colon = has_colon
+says (Column number) has_colon = true
+says kind has_colon = false
+
+abbrev pub says_column : List ℕ → Bool
+says_column line =
+    let text = uncommented line in
+    says (label_of text) (nat_lt (length (before_first (λ byte. byte == colon) text)) (length text))

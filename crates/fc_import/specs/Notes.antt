@@ -9,8 +9,8 @@ use Rattle.fc_text.specs.{Bytes.{line_feed}, Notation.{separates_tokens}}
 use Rattle.fc_record.specs.Grammar.{begins_with, Heading, heading_of, list_mark}
 use Rattle.fc_record.specs.declared.record.RecordFault.{RecordFault}
 use Rattle.fc_import.specs.{Scan.{is_in_words}, Words.{is_between}}
-use Rattle.fc_import.specs.declared.{changes.Noted.{Noted}, tally.Fate.{Fate, TheVariants.{ABoard}}}
-use Rattle.fc_import.specs.declared.tally.Fate.TheVariants.{Again, AList, LeftOut, Passed}
+use Rattle.fc_import.specs.declared.{options.ImportOptions.{ImportOptions}, tally.Fate.{Fate}}
+use Rattle.fc_import.specs.declared.tally.Fate.TheVariants.{ABoard, Again, AList, LeftOut, Passed}
 use Rattle.fc_import.specs.declared.tally.Fate.TheVariants.{RefusedBoard, RefusedList}
 use Rattle.fc_import.specs.declared.tally.Tally.{Tally}
 
@@ -45,9 +45,9 @@ pub record Place : Type 0 where
   pub header : ℕ
   pub line : ℕ
 
--- what is noted; the last board, if a list of moves may follow it; whether a rule that begins a solution came after it; whether the last lines are of a solution that only a blank line, a header, a board or a marked list ends; whether the last header names another game; the place of the next line; how many boards the last header names; and how much was taken and was not
+-- how the text is imported; the last board, if a list of moves may follow it; whether a rule that begins a solution came after it; whether the last lines are of a solution that only a blank line, a header, a board or a marked list ends; whether the last header names another game; the place of the next line; how many boards the last header names; and how much was taken and was not
 pub record State : Type 0 where
-  pub noted : Noted
+  pub options : ImportOptions
   pub last : Option Board
   pub begun : Bool
   pub goes_on : Bool
@@ -56,8 +56,8 @@ pub record State : Type 0 where
   pub named : ℕ
   pub tally : Tally
 
-abbrev pub first_state : Noted → State
-first_state noted = record { noted = noted; last = None; begun = false; goes_on = false; other_game = false; place = record { name = []; header = 0; line = 1 }; named = 0; tally = tally_of Passed }
+abbrev pub first_state : ImportOptions → State
+first_state options = record { options = options; last = None; begun = false; goes_on = false; other_game = false; place = record { name = []; header = 0; line = 1 }; named = 0; tally = tally_of Passed }
 
 abbrev pub line_feeds : List ℕ → ℕ
 line_feeds text = count_by (λ byte. byte == line_feed) text

@@ -1,7 +1,7 @@
 -- What the stages of an import promise one another.
 use Rattle.std.specs.{Io.KnownBytes.{Appends, Consumes, IsAtEnd}, Prelude.{◌++◌, ◌+◌, ◌<◌, ◌||◌}}
 use Rattle.std.specs.Prelude.{◌↔◌, ◌≡◌, ◌≢◌, ◌≤◌, [], ⊤, Bool, drop, Err, false, if◌then◌else◌}
-use Rattle.std.specs.Prelude.{length, List, map, None, Ok, Option, Result, Some, take, true, ℕ}
+use Rattle.std.specs.Prelude.{length, List, map, Ok, Option, Result, take, true, ℕ}
 use Rattle.fc_board.specs.{Boards.{Board}, Games.{Game}, Moves.{MoveList, OneCard, Runs}}
 use Rattle.{fc_board.specs.declared.rule.Variant.{Variant}, fc_record.specs.RecordTexts.{ends_line}}
 use Rattle.fc_collect.specs.{Limits.{most_bytes}, Promises.{Begins}, Streams.{CallCounts}}
@@ -9,12 +9,13 @@ use Rattle.fc_collect.specs.declared.streams.faults.RunFault.{RunFault, TheVaria
 use Rattle.fc_collect.specs.declared.streams.faults.RunFault.TheVariants.{ReaderNeverEnds, TooLarge}
 use Rattle.fc_collect.specs.declared.streams.faults.RunFault.TheVariants.{Write}
 use Rattle.fc_collect.specs.declared.streams.faults.Summary.{Summary}
-use Rattle.fc_import.specs.Import.{BoardNeedsNoNote, Imported, IsPrinted, IsShown, Makes, Reading}
+use Rattle.fc_import.specs.Import.{BoardNeedsNoNote, Imported, IsPrinted, Makes, Reading}
 use Rattle.fc_import.specs.Notes.{after_heading, IsNote, Place, SaysUnless, State}
-use Rattle.fc_import.specs.Words.{is_between}
-use Rattle.fc_import.specs.declared.{changes.Noted.{Noted}, made.Form.{Form}}
+use Rattle.fc_import.specs.Words.{ended, is_between}
+use Rattle.fc_import.specs.declared.made.Form.{Form}
 use Rattle.fc_import.specs.declared.made.Form.TheVariants.{OneCard as InOneCard, Runs as InRuns}
-use Rattle.fc_import.specs.declared.{made.Made.{Made}, walk.Walk.{Walk}}
+use Rattle.fc_import.specs.declared.{made.Made.{Made}, options.ImportOptions.{ImportOptions}}
+use Rattle.fc_import.specs.declared.walk.Walk.{Walk}
 
 -- -------- Signs that are read as they are.
 
@@ -22,17 +23,23 @@ use Rattle.fc_import.specs.declared.{made.Made.{Made}, walk.Walk.{Walk}}
 abbrev pub is_alone : ℕ → Bool
 is_alone byte = is_between 0 10 byte || is_between 14 127 byte
 
+-- -------- Cards of a line, a column or a row.
+
+-- with an end after them, if they are to have one
+abbrev pub part : (is_ended : Bool) → List ℕ → List ℕ
+part is_ended cards = if is_ended then ended cards else cards
+
 -- -------- What taking one piece of a text adds.
 
 abbrev pub place_of : Walk → Place
 place_of walk = record { name = walk.name.items; header = walk.header; line = walk.line }
 
 abbrev pub state_of : {R : Type 0} → Made R → State
-state_of made = record { noted = made.noted; last = made.last; begun = made.begun; goes_on = made.goes_on; other_game = made.other_game; place = place_of made.walk; named = made.named; tally = made.tally }
+state_of made = record { options = made.options; last = made.last; begun = made.begun; goes_on = made.goes_on; other_game = made.other_game; place = place_of made.walk; named = made.named; tally = made.tally }
 
 -- this was made of the text
-abbrev pub IsMade : {R : Type 0} → Variant → Noted → Game → List ℕ → Made R → Type 0
-IsMade variant noted game text made = Imported variant noted game text (state_of made) made.written.items made.notes.items
+abbrev pub IsMade : {R : Type 0} → Variant → ImportOptions → Game → List ℕ → Made R → Type 0
+IsMade variant options game text made = Imported variant options game text (state_of made) made.written.items made.notes.items
 
 -- the piece is read as what was written and said more
 abbrev pub Takes : {R : Type 0} → Variant → Game → (piece : List ℕ) → (old new : Made R) → Type 0
@@ -44,7 +51,7 @@ Takes variant game piece old new =
 pub record Says {R : Type 0} (game : Game) (piece : List ℕ) (board : Board) (old new : Made R) : Type 0 where
   pub said : List ℕ
   pub notes : new.notes.items ≡ old.notes.items ++ said
-  pub is : SaysUnless (BoardNeedsNoNote old.noted game piece board) (place_of old.walk) piece said
+  pub is : SaysUnless (BoardNeedsNoNote old.options.noted game piece board) (place_of old.walk) piece said
   pub state : state_of new ≡ state_of old
   pub written : new.written.items ≡ old.written.items
 
@@ -63,7 +70,7 @@ pub record AreWhole (text : List ℕ) (len : ℕ) : Type 0 where
 -- the bytes are taken after all that was taken before
 abbrev pub GoesOn : {R : Type 0} → Variant → Game → (bytes : List ℕ) → (old new : Made R) → Type 0
 GoesOn variant game bytes old new =
-    (noted : Noted) (before : List ℕ) → ends_line before ≡ true → IsMade variant noted game before old → IsMade variant noted game (before ++ bytes) new
+    (options : ImportOptions) (before : List ℕ) → ends_line before ≡ true → IsMade variant options game before old → IsMade variant options game (before ++ bytes) new
 
 -- so many bytes at the front of the text are taken, which are whole lines
 pub record TakesFirst {R : Type 0} (variant : Variant) (game : Game) (text : List ℕ) (len : ℕ) (old new : Made R) : Type 0 where
@@ -123,23 +130,18 @@ pub record ReadsToEnd (input left : Option (List ℕ)) (bytes : List ℕ) (resul
   pub consumed : Consumes input left read
   pub fits : ReadingFits read bytes left result
 
--- the text is shown as so many records, or it is not shown
-abbrev pub ShownAs : Variant → (text : List ℕ) → (records : Option ℕ) → Type 0
-ShownAs variant text (Some records) = IsShown variant text records
-ShownAs variant text None = (records : ℕ) → ¬ IsShown variant text records
-
 -- how what was written and said of these bytes goes with the result, once they were read: what was made of them or, where a write failed, a beginning of it; else nothing, as there was no memory
-abbrev pub MadeFits : Variant → Noted → (bytes written said : List ℕ) → Result Summary RunFault → Type 0
-MadeFits variant noted bytes written said (Ok summary) = Makes variant noted bytes written said summary
-MadeFits variant noted bytes written said (Err Write) = (made : List ℕ) × (summary : Summary) × Makes variant noted bytes made said summary × Begins written made
-MadeFits variant noted bytes written said (Err Memory) = (written ≡ []) × (said ≡ [])
-MadeFits variant noted bytes written said (Err fault) = ⊥
+abbrev pub MadeFits : Variant → ImportOptions → (bytes written said : List ℕ) → Result Summary RunFault → Type 0
+MadeFits variant options bytes written said (Ok summary) = Makes variant options bytes written said summary
+MadeFits variant options bytes written said (Err Write) = (made : List ℕ) × (summary : Summary) × Makes variant options bytes made said summary × Begins written made
+MadeFits variant options bytes written said (Err Memory) = (written ≡ []) × (said ≡ [])
+MadeFits variant options bytes written said (Err fault) = ⊥
 
 -- what was made of these bytes went out
-pub record WritesMade (variant : Variant) (noted : Noted) (bytes : List ℕ) (before after : Option (List ℕ)) (said : List ℕ) (result : Result Summary RunFault) : Type 0 where
+pub record WritesMade (variant : Variant) (options : ImportOptions) (bytes : List ℕ) (before after : Option (List ℕ)) (said : List ℕ) (result : Result Summary RunFault) : Type 0 where
   pub written : List ℕ
   pub appended : Appends before after written
-  pub fits : MadeFits variant noted bytes written said result
+  pub fits : MadeFits variant options bytes written said result
 
 -- the bytes, with a question mark for each that does not print
 abbrev pub printing : List ℕ → List ℕ

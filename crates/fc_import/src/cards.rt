@@ -1,14 +1,16 @@
 //! The cards and the moves that words name, and those of a board in the orders in which lines name
 //! them.
 ghost use Rattle.std.specs.{List.{flat_map}, Option.{option_to_list}, Prelude.{◌++◌, ◌↔◌, ◌≡◌}};
-ghost use Rattle.std.specs.Prelude.{◌≢◌, ◌≤◌, ◌⊎◌, [], All, IfOk, IsTrue, length, List, map, OnOk};
+ghost use Rattle.std.specs.Prelude.{◌≢◌, ◌≤◌, [], All, IfOk, IsTrue, length, List, map, OnOk};
 ghost use Rattle.std.specs.Prelude.{slice_get, ℕ};
-ghost use Rattle.{fc_board.specs.Boards.{IsWellFormed}, fc_text.specs.Lines.{with_end, words_from}};
-ghost use Rattle.fc_import.specs.Import.{ArePacked, by_columns, HasCards, in_cells, in_columns};
-ghost use Rattle.fc_import.specs.Import.{in_rows, IsPacked};
+ghost use Rattle.{fc_board.specs.Boards.{IsWellFormed}, fc_card.specs.{places}};
+ghost use Rattle.fc_text.specs.Lines.{with_end, words_from};
+ghost use Rattle.fc_import.specs.Import.{AreIn, ArePacked, by_columns, in_cells, in_row, IsPacked};
+ghost use Rattle.fc_import.specs.{Import.{lines_in}, inside.{part}};
 ghost use Rattle.fc_import.specs.Scan.{named_card, named_cards, parts_words};
-ghost use Rattle.fc_import.specs.Words.{ended, named_in, named_lines};
+ghost use Rattle.fc_import.specs.Words.{ended, named_lines};
 
+use crate::layout::Layout;
 use crate::scan::named_card;
 use crate::words::{Words, uncommented};
 use fc_board::{Board, Rule};
@@ -22,48 +24,28 @@ const END: u8 = 52;
 /// The most cards of a board and ends of its columns and cells. A text may name more.
 const MOST: usize = 61;
 
-/// The cards that the lines of a text name, in their order, and the same with an end after those of
-/// each line.
-#[derive(Drop)]
-pub(crate) struct Named {
-    pub(crate) cards: Vec<u8>,
-    pub(crate) lines: Vec<u8>,
-}
-
-impl Named {
-    pub(crate) fn by(alloc: Global, text: &[u8]) -> Result<Self, AllocError>
-        ensures cards { IfOk result (λ named. named.cards.items ≡ named_in text.now) }
-        ensures lines { IfOk result (λ named. named.lines.items ≡ named_lines text.now) }
-    {
-        let mut cards = Vec::with_capacity(alloc, MOST)?;
-        let mut lines = Vec::with_capacity(alloc, MOST)?;
-        let mut named = Vec::with_capacity(alloc, 8)?;
-        for line in Lines::new(text) {
-            name_cards(line.text, &mut named)?;
-            push_numbers(&mut cards, named.as_slice())?;
-            push_ended(&mut lines, named.as_slice())?;
-        }
-        Ok(Named { cards, lines })
-    }
-}
-
-// Appends the numbers of cards, and then an end if there are any.
-fn push_ended(all: &mut Vec<u8>, cards: &[Card]) -> Result<(), AllocError>
-    ensures { OnOk result (all.new.items ≡ all.old.items ++ ended cards.now) }
+/// The cards that the lines of a text name, in their order, with an end after those of each line.
+pub(crate) fn named_lines(alloc: Global, text: &[u8]) -> Result<Vec<u8>, AllocError>
+    ensures { IfOk result (λ cards. cards.items ≡ named_lines text.now) }
 {
-    if cards.is_empty() {
-        return Ok(());
+    let mut cards = Vec::with_capacity(alloc, MOST)?;
+    let mut named = Vec::with_capacity(alloc, 8)?;
+    for line in Lines::new(text) {
+        name_cards(line.text, &mut named)?;
+        push_part(&mut cards, named.as_slice(), true)?;
     }
-    push_numbers(all, cards)?;
-    all.push(END)?;
-    Ok(())
+    Ok(cards)
 }
 
-fn push_numbers(all: &mut Vec<u8>, cards: &[Card]) -> Result<(), AllocError>
-    ensures { OnOk result (all.new.items ≡ all.old.items ++ cards.now) }
+// Appends the numbers of these cards, and then an end if they are to have one and there are any.
+fn push_part(all: &mut Vec<u8>, cards: &[Card], is_ended: bool) -> Result<(), AllocError>
+    ensures { OnOk result (all.new.items ≡ all.old.items ++ part is_ended cards.now) }
 {
     for card in cards {
         all.push(card.number())?;
+    }
+    if is_ended && !cards.is_empty() {
+        all.push(END)?;
     }
     Ok(())
 }
@@ -103,32 +85,21 @@ fn push_named(cards: &mut Vec<Card>, word: &[u8]) -> Result<(), AllocError>
     Ok(())
 }
 
-/// Whether the lines name the cards of the board in an order in which they may: column by column or
-/// row by row, and those of the cells first or last.
-pub(crate) fn has_cards<R: Rule>(
+/// Whether lines that name these cards name those of the board in this layout, and those of the
+/// cells in a line before or after them.
+pub(crate) fn are_in<R: Rule>(
     alloc: Global,
-    named: &Named,
+    layout: Layout,
+    named: &[u8],
     board: &Board<R>,
 ) -> Result<bool, AllocError>
-    ensures { IfOk result (λ has. IsTrue has
-        → (lines : List ℕ) → named.now.cards.items ≡ named_in lines → HasCards lines board.now) }
+    ensures { IfOk result (λ are. IsTrue are → (piece : List ℕ) → named.now ≡ named_lines piece
+        → AreIn layout piece board.now) }
 {
-    let named = named.cards.as_slice();
-    let cells = in_cells(alloc, board)?;
-    let columns = in_columns(alloc, board)?;
-    if is_around(named, cells.as_slice(), columns.as_slice()) {
-        return Ok(true);
-    }
-    let rows = in_rows(alloc, board)?;
-    Ok(is_around(named, cells.as_slice(), rows.as_slice()))
-}
-
-// Whether the whole is one part after the other, in either order.
-fn is_around(whole: &[u8], first: &[u8], second: &[u8]) -> bool
-    ensures { IsTrue result → (whole.now ≡ first.now ++ second.now)
-        ⊎ (whole.now ≡ second.now ++ first.now) }
-{
-    is_joined(whole, first, second) || is_joined(whole, second, first)
+    let cells = line_of_cells(alloc, board)?;
+    let lines = lines_in(alloc, layout, board)?;
+    let (cells, lines) = (cells.as_slice(), lines.as_slice());
+    Ok(is_joined(named, cells, lines) || is_joined(named, lines, cells))
 }
 
 fn is_joined(whole: &[u8], first: &[u8], second: &[u8]) -> bool
@@ -146,50 +117,90 @@ pub(crate) fn by_columns<R: Rule>(alloc: Global, board: &Board<R>) -> Result<Vec
     ensures cards { IfOk result (λ cards. cards.items ≡ by_columns board.now) }
     ensures well_formed { IsWellFormed R.game board.now }
 {
+    let mut cards = line_of_cells(alloc, board)?;
+    push_columns(&mut cards, board, true)?;
+    Ok(cards)
+}
+
+// The cards in the cells as a line names them, with an end after them.
+fn line_of_cells<R: Rule>(alloc: Global, board: &Board<R>) -> Result<Vec<u8>, AllocError>
+    ensures cards { IfOk result (λ cards. cards.items ≡ ended (in_cells board.now)) }
+    ensures well_formed { IsWellFormed R.game board.now }
+{
     let in_cells = cards_in_cells(alloc, board.cells())?;
     let mut cards = Vec::with_capacity(alloc, MOST)?;
-    push_ended(&mut cards, in_cells.as_slice())?;
-    for index in 0..8 {
-        push_ended(&mut cards, board.column(index))?;
+    push_part(&mut cards, in_cells.as_slice(), true)?;
+    Ok(cards)
+}
+
+// The cards of the columns as lines name them in this layout, with an end after those of each line.
+fn lines_in<R: Rule>(alloc: Global, layout: Layout, board: &Board<R>) -> Result<Vec<u8>, AllocError>
+    ensures { IfOk result (λ cards. cards.items ≡ lines_in layout board.now) }
+{
+    let mut cards = Vec::with_capacity(alloc, MOST)?;
+    match layout {
+        Layout::Columns => push_columns(&mut cards, board, true)?,
+        Layout::Rows => push_rows(alloc, &mut cards, board, true)?,
+        Layout::ColumnsInLine => {
+            push_columns(&mut cards, board, false)?;
+            push_end(&mut cards)?;
+        }
+        Layout::Deal => {
+            push_rows(alloc, &mut cards, board, false)?;
+            push_end(&mut cards)?;
+        }
     }
     Ok(cards)
 }
 
-// The cards in the cells.
-fn in_cells<R: Rule>(alloc: Global, board: &Board<R>) -> Result<Vec<u8>, AllocError>
-    ensures { IfOk result (λ cards. cards.items ≡ in_cells board.now) }
+// Appends an end if there are cards.
+fn push_end(cards: &mut Vec<u8>) -> Result<(), AllocError>
+    ensures { OnOk result (cards.new.items ≡ ended cards.old.items) }
 {
-    let mut cards = Vec::new(alloc);
-    let in_cells = cards_in_cells(alloc, board.cells())?;
-    push_numbers(&mut cards, in_cells.as_slice())?;
-    Ok(cards)
+    if !cards.is_empty() {
+        cards.push(END)?;
+    }
+    Ok(())
 }
 
-// The cards of the columns, one column after another.
-fn in_columns<R: Rule>(alloc: Global, board: &Board<R>) -> Result<Vec<u8>, AllocError>
-    ensures { IfOk result (λ cards. cards.items ≡ in_columns board.now) }
+// Appends the cards of the columns, one column after another, each with an end if they are to have
+// one.
+fn push_columns<R: Rule>(
+    cards: &mut Vec<u8>,
+    board: &Board<R>,
+    are_ended: bool,
+) -> Result<(), AllocError>
+    ensures { OnOk result (cards.new.items
+        ≡ cards.old.items ++ flat_map (part are_ended) board.now.columns) }
 {
     // The board has eight columns.
     let _ = board.heights();
-    let mut cards = Vec::with_capacity(alloc, MOST)?;
     for index in 0..8 {
-        push_numbers(&mut cards, board.column(index))?;
+        push_part(cards, board.column(index), are_ended)?;
     }
-    Ok(cards)
+    Ok(())
 }
 
-// The first card of each column, then the second of each, and so on.
-fn in_rows<R: Rule>(alloc: Global, board: &Board<R>) -> Result<Vec<u8>, AllocError>
-    ensures { IfOk result (λ cards. cards.items ≡ in_rows board.now) }
+// Appends the first card of each column, then the second of each, and so on, each row with an end
+// if they are to have one.
+fn push_rows<R: Rule>(
+    alloc: Global,
+    cards: &mut Vec<u8>,
+    board: &Board<R>,
+    are_ended: bool,
+) -> Result<(), AllocError>
+    ensures { OnOk result (cards.new.items ≡ cards.old.items
+        ++ flat_map (λ row. part are_ended (in_row board.now row)) (places 52)) }
 {
-    let mut cards = Vec::with_capacity(alloc, MOST)?;
-    for row in 0..52 {
-        if are_past(board, row) {
-            return Ok(cards);
+    let mut row = Vec::with_capacity(alloc, 8)?;
+    for place in 0..52 {
+        if are_past(board, place) {
+            return Ok(());
         }
-        push_row(&mut cards, board, row)?;
+        put_row(&mut row, board, place)?;
+        push_part(cards, row.as_slice(), are_ended)?;
     }
-    Ok(cards)
+    Ok(())
 }
 
 // Whether no column has a card at this place.
@@ -206,15 +217,15 @@ fn are_past<R: Rule>(board: &Board<R>, row: usize) -> bool
     true
 }
 
-// Appends the card of each column at this place, where it has one.
-fn push_row<R: Rule>(cards: &mut Vec<u8>, board: &Board<R>, row: usize) -> Result<(), AllocError>
-    ensures { OnOk result (cards.new.items ≡ cards.old.items
-        ++ flat_map (λ column. option_to_list (slice_get column row)) board.now.columns) }
+// Puts the card of each column at this place, where it has one, in place of those that are there.
+fn put_row<R: Rule>(row: &mut Vec<Card>, board: &Board<R>, place: usize) -> Result<(), AllocError>
+    ensures { OnOk result (row.new.items ≡ in_row board.now place) }
 {
     // The board has eight columns.
     let _ = board.heights();
+    row.clear();
     for index in 0..8 {
-        push_some(cards, card_at(board.column(index), row))?;
+        push_some(row, card_at(board.column(index), place))?;
     }
     Ok(())
 }
@@ -240,11 +251,11 @@ fn cards_in_cells(alloc: Global, cells: &[Option<Card>]) -> Result<Vec<Card>, Al
     Ok(cards)
 }
 
-fn push_some(cards: &mut Vec<u8>, card: Option<Card>) -> Result<(), AllocError>
+fn push_some(cards: &mut Vec<Card>, card: Option<Card>) -> Result<(), AllocError>
     ensures { OnOk result (cards.new.items ≡ cards.old.items ++ option_to_list card) }
 {
     if let Some(card) = card {
-        cards.push(card.number())?;
+        cards.push(card)?;
     }
     Ok(())
 }

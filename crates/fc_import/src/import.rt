@@ -2,7 +2,7 @@
 //! promised; what is made of them is tested before it is written.
 ghost use Rattle.std.specs.Prelude.{◌++◌, ◌<◌, ◌≡◌, ◌≢◌, ◌≤◌, [], false, IfOk, IfSome, IsNone};
 ghost use Rattle.std.specs.Prelude.{IsTrue, length, List, None, OnOk, Some, take, true, ℕ};
-ghost use Rattle.fc_board.specs.Boards.{Board as Layout, IsWellFormed};
+ghost use Rattle.fc_board.specs.Boards.{Board as AnyBoard, IsWellFormed};
 ghost use Rattle.fc_board.specs.{Moves.{move_count, MoveList}, Play.{Legal}};
 ghost use Rattle.fc_text.specs.{Notation.{most_moves}, Printed.{text_of}, Spelling.{Spells}};
 ghost use Rattle.fc_record.specs.Grammar.{begins_with, is_name};
@@ -10,19 +10,17 @@ ghost use Rattle.fc_record.specs.{Printing.{header_text, list_line}, RecordTexts
 ghost use Rattle.fc_import.specs.{Import.{HasNoHeader, IsPrinted}, inside.{AreWhole, IsMade}};
 ghost use Rattle.fc_import.specs.inside.{KeepsFirst, Takes, TakesAsItIs, TakesFirst, TakesName};
 
-use crate::changes::Noted;
-use crate::labels::LabelKind;
-use crate::layout::{Drafted, LinesAre, draft_of, layout_words};
+use crate::layout::{Drafted, Layout, draft_of, read_rows};
 use crate::line::line_len;
 use crate::lists::{ListRead, moves_on};
 use crate::made::{Form, Made};
-use crate::piece::{FIRST_RULE, LineKind, Piece, PieceKind, SOLVED};
+use crate::options::{ImportOptions, LinesAre};
+use crate::piece::{FIRST_RULE, Piece, PieceKind, SOLVED};
 use crate::reasons::{board_reason, move_reason, word_reason};
 use crate::spelled::is_same;
 use crate::titles::{title_of, variant_titled};
 use fc_board::{Board, Rule};
-use fc_text::{BoardFault, BoardFaultKind, Lines, read_board, read_printed};
-use memchr::memchr;
+use fc_text::{BoardFault, BoardFaultKind, Lines, read_board};
 use std::alloc::{AllocError, Global};
 
 const LEFT_OUT: &[u8] = b"this line is left out, though a word of it names a card";
@@ -58,7 +56,8 @@ const OTHER_CARDS: &[u8] = b"not imported: a word outside the columns and the ce
 
 const REWRITTEN: &[u8] = b"these moves are rewritten in fcanon's notation";
 
-const ONCE_MORE: &[u8] = b"this is the board before once more, with which a solution begins";
+/// How many bytes a deal has in lines of cards: two for each card, and one after it.
+const DEAL_LEN: usize = 52 * 3;
 
 /// How much of a solution was there that has no move yet.
 #[derive(Clone, Copy)]
@@ -74,7 +73,6 @@ enum Solution {
 #[derive(Drop)]
 struct Importer<R: Rule> {
     alloc: Global,
-    lines_are: LinesAre,
     made: Made<R>,
     /// The words of the last title, as the name of the next board.
     title: Vec<u8>,
@@ -86,18 +84,16 @@ struct Importer<R: Rule> {
 /// What is written and said of a text.
 pub(crate) fn import_text<R: Rule>(
     alloc: Global,
-    lines_are: LinesAre,
-    noted: Noted,
+    options: ImportOptions,
     text: &[u8],
 ) -> Result<Made<R>, AllocError>
-    ensures made { IfOk result (IsMade R.VARIANT noted R.game text.now) }
+    ensures made { IfOk result (IsMade R.VARIANT options R.game text.now) }
     ensures kept { IsPrinted R.VARIANT R.game None text.now → IfOk result
         (λ made. (made.written.items ≡ text.now) × (made.notes.items ≡ [])) }
 {
     let mut importer = Importer {
         alloc,
-        lines_are,
-        made: Made::new(alloc, noted),
+        made: Made::new(alloc, options),
         title: Vec::new(alloc),
         solution: Solution::Nothing,
         is_titled_otherwise: false,
@@ -151,7 +147,7 @@ impl<R: Rule> Importer<R> {
         ensures taken { IfOk result (λ taken. IfSome taken (λ len.
             TakesAsItIs R.VARIANT R.game text.now len self.old.made self.new.made)) }
         ensures kept { IfOk result (λ taken. IsNone taken → self.new.made ≡ self.old.made) }
-        ensures found { (name : List ℕ) (board : Layout) (rest : List ℕ) → is_name name ≡ true
+        ensures found { (name : List ℕ) (board : AnyBoard) (rest : List ℕ) → is_name name ≡ true
             → name ≢ [] → IsWellFormed R.game board
             → text.now ≡ header_text R.VARIANT name ++ (text_of board ++ rest) → IfOk result
             (λ taken. (taken ≡ Some (length (header_text R.VARIANT name ++ text_of board)))
@@ -173,7 +169,7 @@ impl<R: Rule> Importer<R> {
         ensures taken { IfOk result (λ taken. IfSome taken (λ len.
             TakesAsItIs R.VARIANT R.game text.now len self.old.made self.new.made)) }
         ensures kept { IfOk result (λ taken. IsNone taken → self.new.made ≡ self.old.made) }
-        ensures found { (board : Layout) (list : MoveList) (rest : List ℕ)
+        ensures found { (board : AnyBoard) (list : MoveList) (rest : List ℕ)
             → self.old.made.last ≡ Some board → Legal R.game board list
             → move_count list ≤ most_moves → text.now ≡ list_line list ++ rest → IfOk result
             (λ taken. (taken ≡ Some (length (list_line list)))
@@ -209,9 +205,9 @@ impl<R: Rule> Importer<R> {
         ensures takes { IfOk result (λ len. Takes R.VARIANT R.game (take len text.now)
             self.old.made self.new.made) }
     {
-        if text[0] == b'F' && may_be_printed(text) {
-            let len = lines_len(text, ten_lines(text));
-            if self.take_printed(&text[..len])? {
+        if let Some(layout) = deal_layout(text) {
+            let len = lines_len(text, DEAL_LEN);
+            if self.take_deal(&text[..len], layout)? {
                 return Ok(len);
             }
         }
@@ -258,18 +254,47 @@ impl<R: Rule> Importer<R> {
         }
     }
 
-    // Takes a board that is as it is printed. Returns whether it is.
-    fn take_printed(&mut self, piece: &[u8]) -> Result<bool, AllocError>
+    // Takes a deal whose lines are in this layout and, by the rules, in no other. Returns whether
+    // they are.
+    fn take_deal(&mut self, lines: &[u8], layout: Layout) -> Result<bool, AllocError>
         ensures taken { IfOk result (λ taken. IsTrue taken
-            → Takes R.VARIANT R.game piece.now self.old.made self.new.made) }
+            → Takes R.VARIANT R.game lines.now self.old.made self.new.made) }
         ensures kept { IfOk result (λ taken. taken ≡ false → self.new.made ≡ self.old.made) }
     {
-        if self.is_titled_otherwise || self.made.other_game {
+        if self.goes_on_with_boards() || self.is_titled_otherwise || self.made.other_game {
             return Ok(false);
         }
-        match read_printed::<R>(piece) {
+        match (layout, self.made.options.lines_are) {
+            (Layout::Columns, LinesAre::Unsaid | LinesAre::Columns) => self.take_columns(lines),
+            (Layout::Rows, LinesAre::Unsaid | LinesAre::Rows) => self.take_rows(lines),
+            _ => Ok(false),
+        }
+    }
+
+    // Takes the columns of a deal, if their lines can be no rows. Returns whether they are that.
+    fn take_columns(&mut self, lines: &[u8]) -> Result<bool, AllocError>
+        ensures taken { IfOk result (λ taken. IsTrue taken
+            → Takes R.VARIANT R.game lines.now self.old.made self.new.made) }
+        ensures kept { IfOk result (λ taken. taken ≡ false → self.new.made ≡ self.old.made) }
+    {
+        match read_columns::<R>(lines) {
             Some(board) => {
-                self.take_shown(piece, board)?;
+                self.take_shown(lines, board)?;
+                Ok(true)
+            }
+            None => Ok(false),
+        }
+    }
+
+    // Takes the rows of a deal, if their lines can be no columns. Returns whether they are that.
+    fn take_rows(&mut self, lines: &[u8]) -> Result<bool, AllocError>
+        ensures taken { IfOk result (λ taken. IsTrue taken
+            → Takes R.VARIANT R.game lines.now self.old.made self.new.made) }
+        ensures kept { IfOk result (λ taken. taken ≡ false → self.new.made ≡ self.old.made) }
+    {
+        match read_rows::<R>(lines) {
+            Some(board) => {
+                self.take_read(lines, board, Layout::Rows)?;
                 Ok(true)
             }
             None => Ok(false),
@@ -338,8 +363,8 @@ impl<R: Rule> Importer<R> {
     fn take_board(&mut self, lines: &[u8], piece: &Piece) -> Result<(), AllocError>
         ensures { OnOk result (Takes R.VARIANT R.game lines.now self.old.made self.new.made) }
     {
-        match draft_of::<R>(lines, piece, self.lines_are) {
-            Drafted::Board(board, layout) => self.take_read(lines, board, layout_words(layout)),
+        match draft_of::<R>(lines, piece, self.made.options.lines_are) {
+            Drafted::Board(board, layout) => self.take_read(lines, board, layout),
             Drafted::Question => self.refuse(lines, QUESTION),
             Drafted::Unplayable => self.refuse(lines, UNPLAYABLE),
             Drafted::NoBoard => self.take_no_board(lines, piece),
@@ -351,9 +376,7 @@ impl<R: Rule> Importer<R> {
     fn take_no_board(&mut self, lines: &[u8], piece: &Piece) -> Result<(), AllocError>
         ensures { OnOk result (Takes R.VARIANT R.game lines.now self.old.made self.new.made) }
     {
-        if matches!(self.solution, Solution::Rule)
-            && self.made.see_again(self.alloc, lines, ONCE_MORE)?
-        {
+        if matches!(self.solution, Solution::Rule) && self.is_drawn_again(lines)? {
             self.solution = Solution::Board;
             return Ok(());
         }
@@ -372,6 +395,19 @@ impl<R: Rule> Importer<R> {
         }
     }
 
+    // Passes lines that are the last board once more, in rows or in columns, as a solver draws it.
+    // Returns whether they are.
+    fn is_drawn_again(&mut self, lines: &[u8]) -> Result<bool, AllocError>
+        ensures taken { IfOk result (λ taken. IsTrue taken
+            → Takes R.VARIANT R.game lines.now self.old.made self.new.made) }
+        ensures kept { IfOk result (λ taken. taken ≡ false → self.new.made ≡ self.old.made) }
+    {
+        if self.made.see_again(self.alloc, lines, Layout::Rows)? {
+            return Ok(true);
+        }
+        self.made.see_again(self.alloc, lines, Layout::Columns)
+    }
+
     // Refuses a board for the word at this place.
     fn refuse_word(&mut self, lines: &[u8], at: usize, words: &[u8]) -> Result<(), AllocError>
         ensures { OnOk result (Takes R.VARIANT R.game lines.now self.old.made self.new.made) }
@@ -387,7 +423,7 @@ impl<R: Rule> Importer<R> {
         requires { Spells R.game piece.now board }
         ensures { OnOk result (Takes R.VARIANT R.game piece.now self.old.made self.new.made) }
     {
-        if self.is_again(&board) && self.made.see_again(self.alloc, piece, ONCE_MORE)? {
+        if self.is_again(&board) && self.made.see_again(self.alloc, piece, Layout::Columns)? {
             return Ok(());
         }
         if self
@@ -400,17 +436,17 @@ impl<R: Rule> Importer<R> {
         self.refuse(piece, UNPLAYABLE)
     }
 
-    // Takes a board that the lines are read as, unless a solution begins with it that belongs to
-    // the last board.
-    fn take_read(&mut self, piece: &[u8], board: Board<R>, words: &[u8]) -> Result<(), AllocError>
+    // Takes a board that the lines are read as in this layout, unless a solution begins with it that
+    // belongs to the last board.
+    fn take_read(&mut self, piece: &[u8], board: Board<R>, layout: Layout) -> Result<(), AllocError>
         ensures { OnOk result (Takes R.VARIANT R.game piece.now self.old.made self.new.made) }
     {
-        if self.is_again(&board) && self.made.see_again(self.alloc, piece, ONCE_MORE)? {
+        if self.is_again(&board) && self.made.see_again(self.alloc, piece, layout)? {
             return Ok(());
         }
         if self
             .made
-            .put_read(self.alloc, piece, self.title.as_slice(), board, words)?
+            .put_read(self.alloc, piece, self.title.as_slice(), board, layout)?
         {
             self.title.clear();
             return Ok(());
@@ -534,26 +570,22 @@ enum Misplaced {
 
 // The first word of the lines that has no place in a board.
 fn first_misplaced(piece: &Piece) -> Misplaced {
-    let mut row: u8 = 0;
-    for line in piece.lines.as_slice() {
-        let has_label = match line.shape.label {
-            LabelKind::Unknown | LabelKind::Columns => false,
-            LabelKind::Column(number) => number == row.saturating_add(1),
-            _ => true,
-        };
-        if line.kind == LineKind::Cards {
-            row = row.saturating_add(1);
-            if !has_label {
-                return Misplaced::Label(line.start);
-            }
-        }
-        if line.shape.others > 0 && matches!(line.kind, LineKind::Cards | LineKind::Cells) {
-            return Misplaced::Word(line.start.saturating_add(line.shape.other));
+    let in_cells = match &piece.cells {
+        Some(line) => line.other_word(),
+        None => None,
+    };
+    for (row, line) in piece.rows.as_slice().iter().enumerate() {
+        match (in_cells, line.other_word()) {
+            (Some(at), _) if at < line.start => return Misplaced::Word(at),
+            _ if !line.may_be_column(row) => return Misplaced::Label(line.start),
+            (_, Some(at)) => return Misplaced::Word(at),
+            _ => {}
         }
     }
-    match piece.bad_height {
-        Some(at) => Misplaced::Height(at),
-        None => Misplaced::Nothing,
+    match (in_cells, piece.bad_height) {
+        (Some(at), _) => Misplaced::Word(at),
+        (None, Some(at)) => Misplaced::Height(at),
+        (None, None) => Misplaced::Nothing,
     }
 }
 
@@ -585,20 +617,48 @@ fn lines_len(text: &[u8], least: usize) -> usize
     len
 }
 
-// Whether the first line is as long as that of the foundations of a printed board.
-fn may_be_printed(text: &[u8]) -> bool {
-    matches!(text.get(28), Some(b'\n'))
+// The layout of a deal at the front of the text, in eight lines of columns or seven of rows, with one
+// blank between cards, and a header or nothing in the line after it.
+fn deal_layout(text: &[u8]) -> Option<Layout> {
+    let mut lines: usize = 0;
+    let mut are_rows = true;
+    for (at, byte) in text.iter().enumerate().take(DEAL_LEN) {
+        if matches!(byte, b' ' | b'\n') != (at % 3 == 2) {
+            return None;
+        }
+        if *byte == b'\n' {
+            lines = lines.saturating_add(1);
+            are_rows = are_rows && (at % 24 == 23 || at == DEAL_LEN - 1);
+        }
+    }
+    let is_cut = text.len().saturating_add(1) == DEAL_LEN;
+    let is_whole = is_cut || text.get(DEAL_LEN - 1) == Some(&b'\n');
+    let is_last = matches!(text.get(DEAL_LEN), None | Some(b'\n' | b'@'));
+    match lines.saturating_add(usize::from(is_cut)) {
+        8 if is_whole && is_last => Some(Layout::Columns),
+        7 if is_whole && is_last && are_rows => Some(Layout::Rows),
+        _ => None,
+    }
 }
 
-// How many bytes the first ten lines have.
-fn ten_lines(text: &[u8]) -> usize {
-    let mut len: usize = 0;
-    for _line in 0..10 {
-        let rest = text.get(len..).unwrap_or(b"");
-        len = match memchr(b'\n', rest) {
-            Some(place) => len.saturating_add(place).saturating_add(1),
-            None => return text.len(),
-        };
+// The board that `show` reads in lines of columns, if no play could have put the eighth line as a
+// row below the seventh.
+fn read_columns<R: Rule>(lines: &[u8]) -> Option<Board<R>>
+    ensures { IfSome result (Spells R.game lines.now) }
+{
+    match read_board::<R>(lines) {
+        Ok(board) if !builds_rows(&board) => Some(board),
+        _ => None,
     }
-    len
+}
+
+// Whether the first card of the last column goes on that of the column before it, or one of them has
+// no card.
+fn builds_rows<R: Rule>(board: &Board<R>) -> bool {
+    // The board has eight columns.
+    let _ = board.heights();
+    match (board.column(7).first(), board.column(6).first()) {
+        (Some(card), Some(above)) => R::builds(*card, *above),
+        _ => true,
+    }
 }

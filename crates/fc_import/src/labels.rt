@@ -4,10 +4,11 @@ ghost use Rattle.fc_text.specs.Bytes.{colon};
 ghost use Rattle.fc_import.specs.Labels.{all_words, cells_names, column_names, columns_names};
 ghost use Rattle.fc_import.specs.Labels.{foundations_names, is_among, is_column_number};
 ghost use Rattle.fc_import.specs.Labels.{is_numbered, label_of, said_by_front, said_by_one};
-ghost use Rattle.fc_import.specs.{Labels.{said_by_two, said_by_words}, Seen.{piece_of}};
+ghost use Rattle.fc_import.specs.Labels.{said_by_two, said_by_words, says_column};
+ghost use Rattle.fc_import.specs.Seen.{piece_of};
 
 use crate::solver::{count_words, word_at};
-use crate::words::{Word, Words};
+use crate::words::{Word, Words, before_mark, uncommented};
 
 /// What a label says that its line is.
 #[derive(Clone, Copy, PartialEq, Eq, Debug)]
@@ -33,6 +34,19 @@ pub(crate) fn label_of(text: &[u8], front: &[u8]) -> LabelKind
         said_by_front(text)
     } else {
         said_by_words(front)
+    }
+}
+
+/// Whether a line says that it is a column's: by its number, or by a colon alone.
+pub(crate) fn says_column(line: &[u8]) -> bool
+    ensures { result ≡ says_column line.now }
+{
+    let text = uncommented(line);
+    let front = before_mark(b':', text);
+    match label_of(text, front) {
+        LabelKind::Bare => front.len() < text.len(),
+        LabelKind::Column(_) => true,
+        _ => false,
     }
 }
 

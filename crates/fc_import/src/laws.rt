@@ -9,15 +9,20 @@ ghost use Rattle.fc_board.specs.declared.rule.Variant.{Variant};
 ghost use Rattle.fc_text.specs.{Bytes.{line_feed}, Lines.{lines_from, Piece}, Spelling.{board_of}};
 ghost use Rattle.fc_record.specs.{Grammar.{begins_with, heading_of}, RecordTexts.{header_mark}};
 ghost use Rattle.fc_collect.specs.declared.streams.faults.Summary.{Summary};
-ghost use Rattle.fc_import.specs.Import.{BoardNeedsNoNote, count_text, Imported, IsApart, IsBuilt};
-ghost use Rattle.fc_import.specs.Import.{IsNoBoard, IsPrinted, IsShown, ListNeedsNoNote, Makes};
-ghost use Rattle.fc_import.specs.Import.{most_dealt, numbered, Reading, refusals, StaysLast};
+ghost use Rattle.fc_import.specs.Import.{AreIn, BoardNeedsNoNote, count_text, Imported, IsApart};
+ghost use Rattle.fc_import.specs.Import.{IsBuilt, IsNoBoard, IsPrinted, IsShown, lines_in};
+ghost use Rattle.fc_import.specs.Import.{ListNeedsNoNote, Makes, may_be, most_dealt, numbered};
+ghost use Rattle.fc_import.specs.Import.{Reading, refusals, StaysLast};
 ghost use Rattle.fc_import.specs.Notes.{name_by, Place, place_text, SaysUnless, State};
 ghost use Rattle.fc_import.specs.Scan.{HasFewCards, is_list, IsQuiet, moves_in, named_card};
 ghost use Rattle.fc_import.specs.Scan.{named_cards, said_in};
 ghost use Rattle.fc_import.specs.Words.{decoded, named_in, named_lines, text_read};
-ghost use Rattle.fc_import.specs.declared.changes.Noted.{Noted};
-ghost use Rattle.fc_import.specs.declared.changes.Noted.TheVariants.{Changes, Doubts, Strict};
+ghost use Rattle.fc_import.specs.declared.layout.Layout.TheVariants.{Columns, ColumnsInLine, Deal};
+ghost use Rattle.fc_import.specs.declared.layout.Layout.TheVariants.{Rows};
+ghost use Rattle.fc_import.specs.declared.options.ImportOptions.{ImportOptions};
+ghost use Rattle.fc_import.specs.declared.options.LinesAre.TheVariants.{Columns as AsColumns};
+ghost use Rattle.fc_import.specs.declared.options.LinesAre.TheVariants.{Rows as AsRows};
+ghost use Rattle.fc_import.specs.declared.options.Noted.TheVariants.{Changes, Doubts, Strict};
 
 /// The two letters of each card name it, also in the other order. `10` is the ten, a word of
 /// another length or with another letter names nothing, and `1` is the ace. A board's name is no
@@ -102,6 +107,40 @@ pub fn solutions_are_whole()
         → (next.last ≡ None) ⊎ (written ≢ []) ⊎ (state.begun ≡ true) }
 {}
 
+/// A line of columns names the cards of one, and a line of rows one card of each column; one line has
+/// the columns one after another, or the rows. Lines that are said to be columns are no rows, and of
+/// those that are said to be rows one has a number or a colon before its cards, if they are columns.
+pub fn lines_are_in_layouts()
+    ensures columns { lines_in Columns (record {
+      heights = [];
+      cells = [];
+      columns = (51 ∷ 47 ∷ []) ∷ [] ∷ (50 ∷ []) ∷ [];
+    }) ≡ 51 ∷ 47 ∷ 52 ∷ 50 ∷ 52 ∷ [] }
+    ensures rows { lines_in Rows (record {
+      heights = [];
+      cells = [];
+      columns = (51 ∷ 47 ∷ []) ∷ [] ∷ (50 ∷ []) ∷ [];
+    }) ≡ 51 ∷ 50 ∷ 52 ∷ 47 ∷ 52 ∷ [] }
+    ensures columns_in_line { lines_in ColumnsInLine (record {
+      heights = [];
+      cells = [];
+      columns = (51 ∷ 47 ∷ []) ∷ [] ∷ (50 ∷ []) ∷ [];
+    }) ≡ 51 ∷ 47 ∷ 50 ∷ 52 ∷ [] }
+    ensures deal { lines_in Deal (record {
+      heights = [];
+      cells = [];
+      columns = (51 ∷ 47 ∷ []) ∷ [] ∷ (50 ∷ []) ∷ [];
+    }) ≡ 51 ∷ 50 ∷ 47 ∷ 52 ∷ [] }
+    ensures cut { ¬ AreIn Columns (codes "KH" ++ line_feed ∷ codes "KS")
+        (record { heights = []; cells = []; columns = (50 ∷ 51 ∷ []) ∷ [] }) }
+    ensures no_rows { (piece : List ℕ) → may_be AsColumns Rows piece ≡ false }
+    ensures no_columns { may_be AsRows Columns (codes "KH KS") ≡ false }
+    ensures cells_alone { may_be AsRows Columns (codes "Freecells: KH") ≡ false }
+    ensures numbered { may_be AsRows Columns (codes "1. KH KS") ≡ true }
+    ensures labelled { may_be AsRows Columns (codes "Column 1: KH KS") ≡ true }
+    ensures marked { may_be AsRows Columns (codes ": KH KS") ≡ true }
+{}
+
 /// Each sign of a suit, filled or outlined, is the letter of its suit, before the rank too; a
 /// playing card is its rank, its suit and a blank, and a letter as wide as a sign of Chinese is
 /// that letter; a no-break space and a wide one are blanks; a byte order mark, the mark after a
@@ -172,25 +211,26 @@ pub fn utf_16_is_decoded()
 
 /// Where nothing is said of a text, each board and list of it is taken, and no line is left out.
 pub fn refusals_are_said()
-    ensures refusals { (variant : Variant) (noted : Noted) (game : Game) (text : List ℕ) (state : State)
-        (written : List ℕ) → Imported variant noted game text state written []
+    ensures refusals { (variant : Variant) (options : ImportOptions) (game : Game)
+        (text : List ℕ) (state : State) (written : List ℕ) → Imported variant options game text state written []
         → refusals state.tally ≡ 0 }
-    ensures left_out { (variant : Variant) (noted : Noted) (game : Game) (text : List ℕ) (state : State)
-        (written : List ℕ) → Imported variant noted game text state written []
+    ensures left_out { (variant : Variant) (options : ImportOptions) (game : Game)
+        (text : List ℕ) (state : State) (written : List ℕ) → Imported variant options game text state written []
         → state.tally.left_out ≡ 0 }
 {}
 
 /// What is imported in silence where each change is noted is so where only doubts are.
 pub fn changes_are_noted_beside_doubts()
-    ensures { (variant : Variant) (noted : Noted) (bytes made : List ℕ) (summary : Summary)
-        → Makes variant noted bytes made [] summary → Makes variant Doubts bytes made [] summary }
+    ensures { (variant : Variant) (options : ImportOptions) (bytes made : List ℕ) (summary : Summary)
+        → Makes variant options bytes made [] summary
+        → Makes variant (record options { noted = Doubts }) bytes made [] summary }
 {}
 
 /// What fcanon prints of boards, and of lists that are legal on them, is imported as it is, in
 /// silence: if there is any, and `show` takes it.
 pub fn what_is_printed_is_imported_as_it_is()
-    ensures { (variant : Variant) (noted : Noted) (bytes made said : List ℕ) (summary : Summary)
-        (records : ℕ) → Makes variant noted bytes made said summary
+    ensures { (variant : Variant) (options : ImportOptions) (bytes made said : List ℕ) (summary : Summary)
+        (records : ℕ) → Makes variant options bytes made said summary
         → IsPrinted variant (game_of variant) None (text_read bytes) → text_read bytes ≢ []
         → IsShown variant (text_read bytes) records → (made ≡ text_read bytes) × (said ≡ []) }
 {}
@@ -198,21 +238,22 @@ pub fn what_is_printed_is_imported_as_it_is()
 /// What an import writes is what fcanon prints; so importing it once more, whatever is noted, gives
 /// that in silence.
 pub fn what_is_imported_is_printed()
-    ensures printed { (variant : Variant) (noted : Noted) (bytes made said : List ℕ)
-        (summary : Summary) → Makes variant noted bytes made said summary
+    ensures printed { (variant : Variant) (options : ImportOptions) (bytes made said : List ℕ)
+        (summary : Summary) → Makes variant options bytes made said summary
         → IsPrinted variant (game_of variant) None made }
-    ensures again { (variant : Variant) (noted other : Noted)
+    ensures again { (variant : Variant) (options other : ImportOptions)
         (bytes made said more again says : List ℕ) (summary next : Summary)
-        → Makes variant noted bytes made said summary → made ≢ [] → text_read more ≡ made
+        → Makes variant options bytes made said summary → made ≢ [] → text_read more ≡ made
         → Makes variant other more again says next → (again ≡ made) × (says ≡ []) }
 {}
 
 /// A strict import has refusals where anything is said, and no import has any where nothing is.
 pub fn strict_imports_refuse_what_is_noted()
-    ensures noted { (variant : Variant) (bytes made said : List ℕ) (summary : Summary)
-        → Makes variant Strict bytes made said summary → said ≢ [] → 0 < summary.refused }
-    ensures silent { (variant : Variant) (noted : Noted) (bytes made : List ℕ) (summary : Summary)
-        → Makes variant noted bytes made [] summary → summary.refused ≡ 0 }
+    ensures noted { (variant : Variant) (options : ImportOptions) (bytes made said : List ℕ)
+        (summary : Summary) → options.noted ≡ Strict → Makes variant options bytes made said summary
+        → said ≢ [] → 0 < summary.refused }
+    ensures silent { (variant : Variant) (options : ImportOptions) (bytes made : List ℕ) (summary : Summary)
+        → Makes variant options bytes made [] summary → summary.refused ≡ 0 }
 {}
 
 /// Of a board whose last ten is spelled `10H` nothing is said, but where each change is noted. Nor
@@ -236,8 +277,8 @@ pub fn a_ten_is_a_change()
 
 /// Where nothing is written for a text, and nothing said of it, its lines name no card.
 pub fn no_card_is_lost_in_silence()
-    ensures { (variant : Variant) (noted : Noted) (game : Game) (text : List ℕ) (state : State)
-        → Imported variant noted game text state [] [] → named_in text ≡ [] }
+    ensures { (variant : Variant) (options : ImportOptions) (game : Game) (text : List ℕ)
+        (state : State) → Imported variant options game text state [] [] → named_in text ≡ [] }
 {}
 
 /// A place is named by its line, or, after a header, by the header's name and the line counted from
@@ -255,8 +296,8 @@ pub fn notes_are_for_people()
 /// The boards after a header have its name: the name that a place has is that of the last line of
 /// the text that is a header.
 pub fn names_are_those_of_the_last_header()
-    ensures { (variant : Variant) (noted : Noted) (game : Game) (text : List ℕ) (state : State)
-        (written said : List ℕ) → Imported variant noted game text state written said
+    ensures { (variant : Variant) (options : ImportOptions) (game : Game) (text : List ℕ)
+        (state : State) (written said : List ℕ) → Imported variant options game text state written said
         → state.place.name ≡ fold (λ name line. if begins_with header_mark line.bytes
         then name_by (heading_of variant line.bytes) else name) [] (lines_from 0 text) }
 {}

@@ -1,23 +1,17 @@
 //! The layouts in which the lines of a piece may have its cards, and which of them play can make.
-//! Nothing is promised of them: what a board is read as is tested before it is written.
+//! Which one the lines have is a guess, of which nothing is promised: what they are read as is tested
+//! before it is written.
 ghost use Rattle.std.specs.Prelude.{All, drop, IsNone, IsTrue};
 
 use crate::labels::LabelKind;
-use crate::piece::{LineKind, Piece, PieceLine};
+use crate::options::LinesAre;
+use crate::piece::{Piece, PieceLine};
 use crate::playable::{MOST_DEALT, is_playable};
 use crate::scan::Placed;
 use arrayvec::ArrayVec;
 use fc_board::{Board, Height, Rule, no_cards};
 use fc_card::Card;
-
-/// What lines of cards are where they may be columns or rows.
-#[derive(Clone, Copy, PartialEq, Eq, Debug)]
-pub enum LinesAre {
-    /// It is not said, so that the board is refused with a question.
-    Unsaid,
-    Columns,
-    Rows,
-}
+use fc_text::read_board;
 
 /// How the lines of a piece have its cards.
 #[derive(Clone, Copy, PartialEq, Eq, Debug)]
@@ -56,28 +50,54 @@ pub(crate) enum Drafted<R: Rule> {
 
 /// The board that the lines are in one of the layouts that their shape allows.
 pub(crate) fn draft_of<R: Rule>(text: &[u8], piece: &Piece, lines_are: LinesAre) -> Drafted<R> {
-    if piece.rows > 1 && !may_be_rows(text, piece) && has_empty_fields(piece) {
+    let has_labels = has_labels(text, piece);
+    let are_lines = piece.rows.len() > 1 || lines_are == LinesAre::Rows;
+    let may_be_rows = !has_labels && are_lines && are_short(piece);
+    let grid = if may_be_rows { grid_of(piece) } else { None };
+    let loses_places = match (may_be_rows, lines_are) {
+        (true, LinesAre::Columns) => has_gaps(piece, grid),
+        (true, _) => false,
+        (false, _) => piece.rows.len() > 1 && has_empty_fields(piece),
+    };
+    if loses_places {
         return Drafted::NoBoard;
     }
-    let (first, second) = layouts_of(text, piece, lines_are);
-    let columns: Option<Board<R>> = board_in(piece, first);
+    let (first, second) = match (may_be_rows, lines_are) {
+        (false, _) if piece.rows.len() == 1 && !has_colon(text, piece) => {
+            layout_of_line(first_row(piece))
+        }
+        (false, _) | (_, LinesAre::Columns) => (Layout::Columns, None),
+        (true, _) => layouts_of_lines(piece, lines_are, grid),
+    };
+    if lines_are == LinesAre::Rows && first == Layout::Columns && !has_labels {
+        return Drafted::NoBoard;
+    }
+    draft_in::<R>(piece, grid, first, second)
+}
+
+// The board that the lines are in the first layout, or in the second one if there is one.
+fn draft_in<R: Rule>(
+    piece: &Piece,
+    grid: Option<Grid>,
+    first: Layout,
+    second: Option<Layout>,
+) -> Drafted<R> {
+    let columns: Option<Board<R>> = board_in(piece, first, grid);
     let rows: Option<Board<R>> = match second {
         Some(_) if columns.is_some() && has_unplayable_row::<R>(piece) => None,
-        Some(layout) => board_in(piece, layout),
+        Some(layout) => board_in(piece, layout, grid),
         None => None,
     };
     match (columns, rows, second) {
-        (Some(_), None, Some(_)) if lines_are != LinesAre::Columns && may_be_squeezed(piece) => {
-            Drafted::Question
-        }
+        (Some(_), None, Some(_)) if may_be_squeezed(piece) => Drafted::Question,
         (Some(board), None, _) => if_playable(board, first),
         (None, Some(board), Some(layout)) => if_playable(board, layout),
         (Some(columns), Some(rows), Some(layout)) => {
-            match (is_playable(&columns), is_playable(&rows), lines_are) {
-                (true, false, _) | (true, _, LinesAre::Columns) => Drafted::Board(columns, first),
-                (false, true, _) | (_, true, LinesAre::Rows) => Drafted::Board(rows, layout),
-                (true, true, LinesAre::Unsaid) => Drafted::Question,
-                (false, false, _) => Drafted::Unplayable,
+            match (is_playable(&columns), is_playable(&rows)) {
+                (true, false) => Drafted::Board(columns, first),
+                (false, true) => Drafted::Board(rows, layout),
+                (true, true) => Drafted::Question,
+                (false, false) => Drafted::Unplayable,
             }
         }
         _ => Drafted::NoBoard,
@@ -97,62 +117,57 @@ fn if_playable<R: Rule>(board: Board<R>, layout: Layout) -> Drafted<R> {
 fn may_be_squeezed(piece: &Piece) -> bool {
     let first = first_row(piece).len();
     let mut last = first;
-    for line in piece.lines.as_slice() {
-        if line.kind == LineKind::Cards {
-            let places = piece.placed(line).len();
-            if places > last {
-                return false;
-            }
-            last = places;
+    for line in piece.rows.as_slice() {
+        let places = piece.placed(line).len();
+        if places > last {
+            return false;
         }
+        last = places;
     }
-    piece.rows < 8 && last < first
+    piece.rows.len() < 8 && last < first
 }
 
 // Whether no play could have put the cards of an eighth row on those above them.
 fn has_unplayable_row<R: Rule>(piece: &Piece) -> bool {
     let mut above: Option<Card> = None;
-    let mut row: usize = 0;
-    for line in piece.lines.as_slice() {
-        if line.kind == LineKind::Cards {
-            let first = match piece.placed(line) {
-                [first, ..] => first.card,
-                [] => None,
-            };
-            if let (Some(card), Some(above)) = (first, above) {
-                if row >= MOST_DEALT && !R::builds(card, above) {
-                    return true;
-                }
+    for (row, line) in piece.rows.as_slice().iter().enumerate() {
+        let first = match piece.placed(line) {
+            [first, ..] => first.card,
+            [] => None,
+        };
+        if let (Some(card), Some(above)) = (first, above) {
+            if row >= MOST_DEALT && !R::builds(card, above) {
+                return true;
             }
-            above = first;
-            row = row.saturating_add(1);
         }
+        above = first;
     }
     false
 }
 
-// The one or two layouts that the shape of the lines allows.
-fn layouts_of(text: &[u8], piece: &Piece, lines_are: LinesAre) -> (Layout, Option<Layout>) {
-    if piece.rows == 1 && !has_colon(text, piece) {
-        return layout_of_line(first_row(piece));
-    }
-    if !may_be_rows(text, piece) {
-        (Layout::Columns, None)
-    } else if has_gaps(piece) || lines_are != LinesAre::Columns && !is_regular(piece) {
+// The one or two layouts that the shape of lines allows that may be rows.
+fn layouts_of_lines(
+    piece: &Piece,
+    lines_are: LinesAre,
+    grid: Option<Grid>,
+) -> (Layout, Option<Layout>) {
+    if lines_are == LinesAre::Rows || has_gaps(piece, grid) || !is_regular(piece) {
         (Layout::Rows, None)
     } else {
         (Layout::Columns, Some(Layout::Rows))
     }
 }
 
+// Whether a line of cards has a label, or begins with a colon.
+fn has_labels(text: &[u8], piece: &Piece) -> bool {
+    let rows = piece.rows.as_slice();
+    rows.iter().any(|line| line.shape.label != LabelKind::Bare) || has_colon(text, piece)
+}
+
 // Whether a line of cards begins with a colon.
 fn has_colon(text: &[u8], piece: &Piece) -> bool {
-    for line in piece.lines.as_slice() {
-        if line.kind == LineKind::Cards && begins_with_colon(text, line) {
-            return true;
-        }
-    }
-    false
+    let rows = piece.rows.as_slice();
+    rows.iter().any(|line| begins_with_colon(text, line))
 }
 
 fn begins_with_colon(text: &[u8], line: &PieceLine) -> bool {
@@ -171,36 +186,24 @@ fn layout_of_line(placed: &[Placed]) -> (Layout, Option<Layout>) {
 
 // The cards and gaps of the first line of cards.
 fn first_row(piece: &Piece) -> &[Placed] {
-    for line in piece.lines.as_slice() {
-        if line.kind == LineKind::Cards {
-            return piece.placed(line);
-        }
+    match piece.rows.as_slice() {
+        [first, ..] => piece.placed(first),
+        [] => &[],
     }
-    &[]
 }
 
-// Whether the lines may be rows: none has a label or more than eight places.
-fn may_be_rows(text: &[u8], piece: &Piece) -> bool {
-    for line in piece.lines.as_slice() {
-        if line.kind == LineKind::Cards
-            && (piece.placed(line).len() > 8 || line.shape.label != LabelKind::Bare)
-        {
-            return false;
-        }
-    }
-    piece.rows > 1 && !has_colon(text, piece)
+// Whether no line has more places than there are columns.
+fn are_short(piece: &Piece) -> bool {
+    let rows = piece.rows.as_slice();
+    rows.iter().all(|line| piece.placed(line).len() <= 8)
 }
 
 // Whether a line has a place without a card that is not in front of all lines, or a place of the
 // grid without a card before its last one: columns have no such gaps.
-fn has_gaps(piece: &Piece) -> bool {
+fn has_gaps(piece: &Piece, grid: Option<Grid>) -> bool {
     let lead = least_lead(piece);
     let tabs = least_tabs(piece);
-    let grid = grid_of(piece);
-    for line in piece.lines.as_slice() {
-        if line.kind != LineKind::Cards {
-            continue;
-        }
+    for line in piece.rows.as_slice() {
         let row = piece.placed(line);
         let has_marks = line.shape.marks > lead && row.len() > 1;
         let goes_beyond = match (grid, row.last()) {
@@ -217,45 +220,55 @@ fn has_gaps(piece: &Piece) -> bool {
 // Whether a line has an empty field that is not in front of all lines: columns have none.
 fn has_empty_fields(piece: &Piece) -> bool {
     let lead = least_lead(piece);
-    for line in piece.lines.as_slice() {
-        if line.kind == LineKind::Cards && line.shape.gaps > lead {
-            return true;
-        }
-    }
-    false
+    let rows = piece.rows.as_slice();
+    rows.iter().any(|line| line.shape.gaps > lead)
 }
 
 // How many places without a card all lines of cards begin with, as bullets.
 fn least_lead(piece: &Piece) -> usize {
-    let mut least = usize::MAX;
-    for line in piece.lines.as_slice() {
-        if line.kind == LineKind::Cards {
-            least = least.min(line.shape.lead);
-        }
-    }
-    least
+    let rows = piece.rows.as_slice();
+    rows.iter()
+        .fold(usize::MAX, |least, line| least.min(line.shape.lead))
 }
 
 // How many tabs all lines of cards begin with.
 fn least_tabs(piece: &Piece) -> usize {
-    let mut least = usize::MAX;
-    for line in piece.lines.as_slice() {
-        if line.kind == LineKind::Cards {
-            least = least.min(line.shape.tabs);
-        }
-    }
-    least
+    let rows = piece.rows.as_slice();
+    rows.iter()
+        .fold(usize::MAX, |least, line| least.min(line.shape.tabs))
 }
 
 // The board of the piece in this layout, if it is one.
-fn board_in<R: Rule>(piece: &Piece, layout: Layout) -> Option<Board<R>> {
+fn board_in<R: Rule>(piece: &Piece, layout: Layout, grid: Option<Grid>) -> Option<Board<R>> {
     if piece.bad_height.is_some() {
         return None;
     }
     let cells = cells_of::<R>(piece)?;
-    let columns = columns_of(piece, layout)?;
+    let columns = columns_of(piece, layout, grid)?;
     let heights = heights_of(piece)?;
     board_of::<R>(heights, cells, columns)
+}
+
+/// The board of the rows of a deal, if no play could have made columns of their lines.
+pub(crate) fn read_rows<R: Rule>(lines: &[u8]) -> Option<Board<R>> {
+    let read = read_board::<R>(lines).ok()?;
+    if is_playable(&read) {
+        return None;
+    }
+    // The board has eight columns.
+    let _ = read.heights();
+    let mut columns = no_cards();
+    for row in 0..7 {
+        put_row(read.column(row), &mut columns);
+    }
+    board_of::<R>(*read.heights(), [None; 8], columns)
+}
+
+// Puts each card of a row on its column.
+fn put_row(row: &[Card], columns: &mut [ArrayVec<Card, 52>; 8]) {
+    for (card, column) in row.iter().zip(columns.iter_mut()) {
+        let _ = column.try_push(*card);
+    }
 }
 
 // The board that has these parts, if its cells are the game's and each card is there once.
@@ -303,78 +316,58 @@ fn heights_of(piece: &Piece) -> Option<[Height; 4]> {
 // cell between.
 fn cells_of<R: Rule>(piece: &Piece) -> Option<[Option<Card>; 8]> {
     let mut cells = [None; 8];
-    for line in piece.lines.as_slice() {
-        if line.kind == LineKind::Cells {
-            let placed = piece.placed(line);
-            let first = line.shape.tabs.saturating_sub(1);
-            let places = placed.len().saturating_add(first);
-            let narrow = line.shape.lead.saturating_mul(2).saturating_add(1);
-            let is_wide = line.shape.indent > narrow || line.shape.most_run > 1;
-            if line.shape.others > 0 || places > R::CELLS {
-                return None;
-            }
-            if is_wide && places < R::CELLS && line.shape.bits != 0 && line.shape.tabs == 0 {
-                return None;
-            }
-            for (place, cell) in placed.iter().enumerate() {
-                cells[place.saturating_add(first) % 8] = cell.card;
-            }
-        }
+    let Some(line) = &piece.cells else {
+        return Some(cells);
+    };
+    let placed = piece.placed(line);
+    let first = line.shape.tabs.saturating_sub(1);
+    let places = placed.len().saturating_add(first);
+    let narrow = line.shape.lead.saturating_mul(2).saturating_add(1);
+    let is_wide = line.shape.indent > narrow || line.shape.most_run > 1;
+    if line.shape.others > 0 || places > R::CELLS {
+        return None;
+    }
+    if is_wide && places < R::CELLS && line.shape.bits != 0 && line.shape.tabs == 0 {
+        return None;
+    }
+    for (place, cell) in placed.iter().enumerate() {
+        cells[place.saturating_add(first) % 8] = cell.card;
     }
     Some(cells)
 }
 
-fn columns_of(piece: &Piece, layout: Layout) -> Option<[ArrayVec<Card, 52>; 8]> {
-    let grid = if layout == Layout::Rows {
-        grid_of(piece)
-    } else {
-        None
-    };
+// The columns that the lines are in the layout. A blank line between columns stands for an empty
+// one, if a board has room for all.
+fn columns_of(
+    piece: &Piece,
+    layout: Layout,
+    grid: Option<Grid>,
+) -> Option<[ArrayVec<Card, 52>; 8]> {
     if layout == Layout::Rows && !(has_columns(piece, grid) && have_equal_bars(piece)) {
         return None;
     }
-    let blanks = blanks_in(piece);
+    let rows = piece.rows.as_slice();
+    let blanks = match rows.last() {
+        Some(last) => last.blanks,
+        None => 0,
+    };
+    let has_blanks = layout == Layout::Columns && rows.len().saturating_add(blanks) <= 8;
     let tabs = least_tabs(piece);
     let mut columns = no_cards();
-    let mut row: usize = 0;
-    for line in piece.lines.as_slice() {
-        if line.kind == LineKind::Cards {
-            if !has_label_of(line, row) || line.shape.others > 0 {
-                return None;
-            }
-            let placed = piece.placed(line);
-            let first = line.shape.tabs.saturating_sub(tabs);
-            put_line(placed, layout, grid, row, first, &mut columns)?;
-            let is_more = layout != Layout::Rows || placed.iter().any(|one| one.card.is_some());
-            row = row.saturating_add(usize::from(is_more));
-        } else if line.kind == LineKind::Blank && row > 0 && layout == Layout::Columns {
-            row = row.saturating_add(blanks);
+    let mut rows_before: usize = 0;
+    for line in rows {
+        let blanks = if has_blanks { line.blanks } else { 0 };
+        let row = rows_before.saturating_add(blanks);
+        if !line.may_be_column(row) || line.shape.others > 0 {
+            return None;
         }
+        let placed = piece.placed(line);
+        let first = line.shape.tabs.saturating_sub(tabs);
+        put_line(placed, layout, grid, row, first, &mut columns)?;
+        let is_more = layout != Layout::Rows || placed.iter().any(|one| one.card.is_some());
+        rows_before = rows_before.saturating_add(usize::from(is_more));
     }
     Some(columns)
-}
-
-// Whether the label of the line, if it has one, is the number of this column, counted from 0.
-fn has_label_of(line: &PieceLine, column: usize) -> bool {
-    match line.shape.label {
-        LabelKind::Bare => true,
-        LabelKind::Column(number) => usize::from(number) == column.saturating_add(1),
-        _ => false,
-    }
-}
-
-// How many columns a blank line between columns stands for: one, if a board has room for all.
-fn blanks_in(piece: &Piece) -> usize {
-    let mut rows: usize = 0;
-    let mut blanks: usize = 0;
-    for line in piece.lines.as_slice() {
-        match line.kind {
-            LineKind::Cards => rows = rows.saturating_add(1),
-            LineKind::Blank if rows > 0 => blanks = blanks.saturating_add(1),
-            _ => {}
-        }
-    }
-    usize::from(rows.saturating_add(blanks) <= 8)
 }
 
 // Puts the cards of a line on their columns; a row begins with the column of this number.
@@ -417,6 +410,10 @@ struct Grid {
 }
 
 impl Grid {
+    fn has_all(self, row: &[Placed]) -> bool {
+        row.iter().all(|placed| self.has(*placed))
+    }
+
     fn has(self, placed: Placed) -> bool {
         let beyond = placed.at.saturating_sub(self.base) % self.unit.max(1);
         let is_near = beyond == 1 || beyond.saturating_add(1) == self.unit;
@@ -439,19 +436,18 @@ fn column_in(grid: Option<Grid>, placed: Placed, place: usize) -> usize {
 // any row on, as wide as the first row is close. There is none where a row marks a gap or has tabs.
 fn grid_of(piece: &Piece) -> Option<Grid> {
     let mut base = u16::MAX;
-    for line in piece.lines.as_slice() {
-        if line.kind == LineKind::Cards {
-            match (piece.placed(line), line.shape.gaps, line.shape.marks) {
-                ([first, ..], 0, 0) if line.shape.tabs == 0 && line.shape.least_run > 0 => {
-                    base = base.min(first.at);
-                }
-                _ => return None,
+    for line in piece.rows.as_slice() {
+        match (piece.placed(line), line.shape.gaps, line.shape.marks) {
+            ([first, ..], 0, 0) if line.shape.tabs == 0 && line.shape.least_run > 0 => {
+                base = base.min(first.at);
             }
+            _ => return None,
         }
     }
     let unit = least_step(first_row(piece));
     let grid = Grid { base, unit };
-    if unit >= 2 && has_all(grid, piece) {
+    let rows = piece.rows.as_slice();
+    if unit >= 2 && rows.iter().all(|line| grid.has_all(piece.placed(line))) {
         Some(grid)
     } else {
         None
@@ -471,23 +467,10 @@ fn least_step(row: &[Placed]) -> u16 {
     least
 }
 
-fn has_all(grid: Grid, piece: &Piece) -> bool {
-    for line in piece.lines.as_slice() {
-        if line.kind == LineKind::Cards {
-            for placed in piece.placed(line) {
-                if !grid.has(*placed) {
-                    return false;
-                }
-            }
-        }
-    }
-    true
-}
-
 // Whether it is known in which columns the cards of rows are: marks part them, or their places tell;
 // or the rows are even, and full but for the last row of a deal.
 fn has_columns(piece: &Piece, grid: Option<Grid>) -> bool {
-    if is_parted(piece) || grid.is_some() && has_gaps(piece) {
+    if is_parted(piece) || grid.is_some() && has_gaps(piece, grid) {
         return true;
     }
     let is_counted = grid.is_some() || is_regular(piece);
@@ -496,89 +479,60 @@ fn has_columns(piece: &Piece, grid: Option<Grid>) -> bool {
 
 // Whether marks part the cards of each line.
 fn is_parted(piece: &Piece) -> bool {
-    for line in piece.lines.as_slice() {
-        if line.kind == LineKind::Cards && !line.shape.is_parted {
-            return false;
-        }
-    }
-    true
+    let rows = piece.rows.as_slice();
+    rows.iter().all(|line| line.shape.is_parted)
 }
 
 // Whether a bar begins each line, or none.
 fn have_equal_bars(piece: &Piece) -> bool {
-    let mut has_bar: Option<bool> = None;
-    for line in piece.lines.as_slice() {
-        if line.kind == LineKind::Cards {
-            if has_bar == Some(!line.shape.has_bar) {
-                return false;
-            }
-            has_bar = Some(line.shape.has_bar);
-        }
+    match piece.rows.as_slice() {
+        [first, others @ ..] => others
+            .iter()
+            .all(|line| line.shape.has_bar == first.shape.has_bar),
+        [] => true,
     }
-    true
 }
 
 // Whether all rows have as many places as the first.
 fn are_full(piece: &Piece) -> bool {
     let most = first_row(piece).len();
-    for line in piece.lines.as_slice() {
-        if line.kind == LineKind::Cards && piece.placed(line).len() != most {
-            return false;
-        }
-    }
-    true
+    let rows = piece.rows.as_slice();
+    rows.iter().all(|line| piece.placed(line).len() == most)
 }
 
 // Whether the piece has 52 cards in rows of eight, and none in cells or home.
 fn is_deal(piece: &Piece) -> bool {
-    let mut cards: usize = 0;
-    for line in piece.lines.as_slice() {
-        let places = piece.placed(line).len();
-        match line.kind {
-            LineKind::Cards => cards = cards.saturating_add(places),
-            LineKind::Cells if line.shape.bits != 0 => return false,
-            _ => {}
-        }
-    }
-    first_row(piece).len() == 8 && cards == 52
+    let rows = piece.rows.as_slice();
+    let cards = rows.iter().fold(0, |cards: usize, line| {
+        cards.saturating_add(piece.placed(line).len())
+    });
+    let has_cells = matches!(&piece.cells, Some(line) if line.shape.bits != 0);
+    first_row(piece).len() == 8 && cards == 52 && !has_cells
 }
 
 // Whether all rows but the last have as many places as the first: without a grid, others could
 // leave out any column.
 fn are_even(piece: &Piece) -> bool {
     let most = first_row(piece).len();
-    let mut is_short = false;
-    for line in piece.lines.as_slice() {
-        if line.kind == LineKind::Cards {
-            let places = piece.placed(line).len();
-            if is_short || places > most {
-                return false;
-            }
-            is_short = places < most;
+    match piece.rows.as_slice() {
+        [full @ .., last] => {
+            full.iter().all(|line| piece.placed(line).len() == most)
+                && piece.placed(last).len() <= most
         }
+        [] => true,
     }
-    true
 }
 
 // Whether marks part the words of each line, or the lines begin at one place and have as many blanks
 // between any two words: but for one, since a ten may be longer. Else a column could be left out.
 fn is_regular(piece: &Piece) -> bool {
-    if is_parted(piece) {
-        return true;
-    }
     let mut indents = (usize::MAX, 0);
     let mut runs = (usize::MAX, 0);
-    for line in piece.lines.as_slice() {
-        if line.kind == LineKind::Cards {
-            indents = (
-                indents.0.min(line.shape.indent),
-                indents.1.max(line.shape.indent),
-            );
-            runs = (
-                runs.0.min(line.shape.least_run),
-                runs.1.max(line.shape.most_run),
-            );
-        }
+    for line in piece.rows.as_slice() {
+        let (indent, shape) = (line.shape.indent, &line.shape);
+        indents = (indents.0.min(indent), indents.1.max(indent));
+        runs = (runs.0.min(shape.least_run), runs.1.max(shape.most_run));
     }
-    indents.1 <= indents.0.saturating_add(1) && runs.1 <= runs.0.saturating_add(1)
+    let is_even = indents.1 <= indents.0.saturating_add(1) && runs.1 <= runs.0.saturating_add(1);
+    is_even || is_parted(piece)
 }

@@ -2,7 +2,6 @@
 #![tactic(auto)]
 
 mod cards;
-mod changes;
 mod decoding;
 mod hearing;
 mod import;
@@ -15,6 +14,7 @@ mod made;
 mod marks;
 mod moves;
 mod naming;
+mod options;
 mod piece;
 mod playable;
 mod printed;
@@ -30,6 +30,5 @@ mod titles;
 mod walk;
 mod words;
 
-pub use changes::Noted;
-pub use layout::LinesAre;
+pub use options::{ImportOptions, LinesAre, Noted};
 pub use run::run_import;

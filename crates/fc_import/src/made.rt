@@ -1,43 +1,50 @@
 //! What is made of a text, piece by piece. Each method that takes a piece tests that the piece is
 //! what it is taken for.
-ghost use Rattle.std.specs.{List.{before_first}, Prelude.{◌&&◌, ◌++◌, ◌<◌, ◌==◌, ◌||◌, ◌↔◌, ◌≡◌}};
-ghost use Rattle.std.specs.Prelude.{◌≢◌, ◌≤◌, ◌⊎◌, [], codes, false, IfErr, IfOk, IfSome, IsTrue};
-ghost use Rattle.std.specs.{Prelude.{length, List, None, OnOk, Some, true, ℕ}, Str.{bytes_eq}};
-ghost use Rattle.fc_board.specs.{Boards.{Board as Layout, IsWellFormed}, Games.{eight_off}};
+ghost use Rattle.std.specs.{List.{before_first, list_any}, Prelude.{◌&&◌, ◌++◌, ◌<◌, ◌==◌, ◌||◌}};
+ghost use Rattle.std.specs.Prelude.{◌↔◌, ◌≡◌, ◌≢◌, ◌≤◌, ◌⊎◌, [], codes, false, IfErr, IfOk, IfSome};
+ghost use Rattle.std.specs.Prelude.{IsTrue, length, List, None, OnOk, Some, true, ℕ};
+ghost use Rattle.std.specs.Str.{bytes_eq};
+ghost use Rattle.fc_board.specs.{Boards.{Board as AnyBoard, IsWellFormed}, Games.{eight_off}};
 ghost use Rattle.fc_board.specs.{Moves.{ListFits, move_count, MoveList as SaidList}, Play.{Legal}};
-ghost use Rattle.fc_text.specs.{Lines.{words}, Notation.{most_moves, separates_tokens}};
+ghost use Rattle.fc_text.specs.{Lines.{lines_from, words}, Notation.{most_moves, separates_tokens}};
 ghost use Rattle.fc_text.specs.{Printed.{text_of}, Spelling.{Spells}};
 ghost use Rattle.fc_text.specs.declared.fault.MovesFault.TheVariants.{Memory};
 ghost use Rattle.fc_record.specs.Grammar.{begins_with, heading_of, is_line_feed, list_mark};
 ghost use Rattle.fc_record.specs.Printing.{header_text, list_line};
-ghost use Rattle.fc_import.specs.Import.{agree, BoardNeedsNoNote, HasCards, IsApart, IsNamed};
-ghost use Rattle.fc_import.specs.Import.{ListNeedsNoNote, moves_of, Names, refusals, SpellsOut};
-ghost use Rattle.fc_import.specs.inside.{form_of, IsMade, place_of, Says, state_of, Takes};
-ghost use Rattle.fc_import.specs.{inside.{TakesName}, Notes.{after, begun_after, goes_on_after}};
-ghost use Rattle.fc_import.specs.{Notes.{is_unmarked, name_by, SaysUnless}, Scan.{words_of}};
+ghost use Rattle.fc_import.specs.Import.{agree, BoardNeedsNoNote, IsApart, IsNamed, IsReadAs};
+ghost use Rattle.fc_import.specs.Import.{ListNeedsNoNote, may_be, moves_of, Names, refusals};
+ghost use Rattle.fc_import.specs.{Import.{SpellsOut}, inside.{form_of, IsMade, place_of, Says}};
+ghost use Rattle.fc_import.specs.{inside.{state_of, Takes, TakesName}, Labels.{says_column}};
+ghost use Rattle.fc_import.specs.Notes.{after, begun_after, goes_on_after, is_unmarked, name_by};
+ghost use Rattle.fc_import.specs.{Notes.{SaysUnless}, Scan.{words_of}, Words.{named_lines}};
 ghost use Rattle.fc_import.specs.declared.tally.Fate.TheVariants.{ABoard};
 
-use crate::cards::{Named, has_cards};
-use crate::changes::{Noted, RESPELLED};
+use crate::cards::{are_in, named_lines};
 use crate::hearing::is_in_words;
+use crate::labels::says_column;
+use crate::layout::{Layout, layout_words};
 use crate::naming::{copied, name_given, names_game, numbered, title_or_number};
+use crate::options::{ImportOptions, LinesAre, Noted};
 use crate::playable::can_be;
 use crate::quiet::{are_lists, are_no_board, are_prose, are_quiet, push_moves};
-use crate::spelled::{
-    board_needs_no_note, has_columns, is_equal, is_read_as, spelled_needs_no_note, spells_out,
-};
+use crate::spelled::{is_equal, is_read_as, spelled_needs_no_note, spells_out};
 use crate::tally::{Fate, Tally, counted};
 use crate::walk::{Walk, line_after};
 use crate::words::{Words, before_mark, uncommented};
 use fc_board::{Board, Rule};
 use fc_record::{MoveList, push_header, push_list};
-use fc_text::{BoardView, MovesFault, Tokens, read_moves, read_runs};
+use fc_text::{BoardView, Lines, MovesFault, Tokens, read_moves, read_runs};
 use std::alloc::{AllocError, Global};
+
+/// What is said of a board that is written in another spelling.
+const RESPELLED: &[u8] = b"this board is written as show prints it";
+
+const ONCE_MORE: &[u8] = b"this is the board before once more, with which a solution begins";
 
 /// What was written and said so far, and the state that this left.
 #[derive(Drop)]
 pub(crate) struct Made<R: Rule> {
-    pub(crate) noted: Noted,
+    pub(crate) options: ImportOptions,
     pub(crate) written: Vec<u8>,
     pub(crate) notes: Vec<u8>,
     /// The last board, if a list of moves may follow it.
@@ -62,15 +69,15 @@ pub(crate) enum Form {
 
 impl<R: Rule> Made<R> {
     /// Nothing was made yet.
-    pub(crate) fn new(alloc: Global, noted: Noted) -> Self
-        ensures made { IsMade R.VARIANT noted R.game [] result }
-        ensures noted { result.noted ≡ noted }
+    pub(crate) fn new(alloc: Global, options: ImportOptions) -> Self
+        ensures made { IsMade R.VARIANT options R.game [] result }
+        ensures options { result.options ≡ options }
         ensures last { result.last ≡ None }
         ensures written { result.written.items ≡ [] }
         ensures notes { result.notes.items ≡ [] }
     {
         Made {
-            noted,
+            options,
             written: Vec::new(alloc),
             notes: Vec::new(alloc),
             last: None,
@@ -133,7 +140,7 @@ impl<R: Rule> Made<R> {
             → Takes R.VARIANT R.game piece.now self.old self.new) }
         ensures kept { IfOk result (λ taken. taken ≡ false → self.new ≡ self.old) }
     {
-        if Named::by(alloc, piece)?.cards.is_empty() {
+        if named_lines(alloc, piece)?.is_empty() {
             return Ok(false);
         }
         if !self.is_apart(piece) {
@@ -237,24 +244,26 @@ impl<R: Rule> Made<R> {
         if self.other_game {
             return Ok(false);
         }
+        if !may_be(self.options.lines_are, Layout::Columns, piece) {
+            return Ok(false);
+        }
         if !can_be(piece, &board) {
             return Ok(false);
         }
-        self.say_change(piece, &board)?;
+        self.say_change(piece, &board, RESPELLED)?;
         self.put_board(alloc, piece, title, board)?;
         Ok(true)
     }
 
-    /// Writes a board that the lines are read as, under its name or this title: with this note,
-    /// unless they spell it out. Returns whether play can make it, and the lines name its cards in
-    /// order.
+    /// Writes a board that the lines are read as in this layout, under its name or this title: with
+    /// a note, unless they spell it out. Returns whether play can make it, and the lines are that.
     pub(crate) fn put_read(
         &mut self,
         alloc: Global,
         piece: &[u8],
         title: &[u8],
         board: Board<R>,
-        words: &[u8],
+        layout: Layout,
     ) -> Result<bool, AllocError>
         ensures taken { IfOk result (λ taken. IsTrue taken
             → Takes R.VARIANT R.game piece.now self.old self.new) }
@@ -266,20 +275,20 @@ impl<R: Rule> Made<R> {
         if !can_be(piece, &board) {
             return Ok(false);
         }
-        if !self.say_read(alloc, piece, &board, words)? {
+        if !self.say_read(alloc, piece, &board, layout, Fate::ABoard)? {
             return Ok(false);
         }
         self.put_board(alloc, piece, title, board)?;
         Ok(true)
     }
 
-    /// Passes lines that are the last board once more: with this note, unless none is needed.
-    /// Returns whether they spell it out, or name its cards in order.
+    /// Passes lines that are the last board once more: with a note, unless none is needed. Returns
+    /// whether they spell it out, or are it in this layout.
     pub(crate) fn see_again(
         &mut self,
         alloc: Global,
         piece: &[u8],
-        words: &[u8],
+        layout: Layout,
     ) -> Result<bool, AllocError>
         ensures taken { IfOk result (λ taken. IsTrue taken
             → Takes R.VARIANT R.game piece.now self.old self.new) }
@@ -288,10 +297,13 @@ impl<R: Rule> Made<R> {
         if !self.begun {
             return Ok(false);
         }
-        if !self.is_last(alloc, piece)? {
+        let Some(last) = &self.last else {
+            return Ok(false);
+        };
+        let board = last.copy();
+        if !self.say_read(alloc, piece, &board, layout, Fate::Again)? {
             return Ok(false);
         }
-        self.say_again(alloc, piece, words)?;
         self.go_on(piece, Fate::Again);
         Ok(true)
     }
@@ -377,32 +389,61 @@ impl<R: Rule> Made<R> {
         numbered(alloc, header, counted(self.named, 1))
     }
 
-    // Whether there is a last board and nothing is to be noted of lines that are it.
-    fn last_needs_no_note(&self, alloc: Global, piece: &[u8]) -> Result<bool, AllocError>
-        ensures { IfOk result (λ silent. IsTrue silent ↔ ((board : Layout)
-            × (self.now.last ≡ Some board)
-            × BoardNeedsNoNote self.now.noted R.game piece.now board)) }
+    // Whether the lines may be columns, and `show` reads them as the board: most that programs write
+    // need no more.
+    fn is_shown(&self, piece: &[u8], board: &Board<R>) -> bool
+        ensures of { IsTrue result
+            → IsReadAs self.now.options.lines_are R.game piece.now board.now }
+        ensures spelled { IsTrue result → SpellsOut R.game piece.now board.now }
     {
-        match &self.last {
-            Some(board) => board_needs_no_note(alloc, self.noted, piece, board),
-            None => Ok(false),
+        if !may_be(self.options.lines_are, Layout::Columns, piece) {
+            return false;
         }
+        is_read_as(piece, board)
     }
 
-    // Whether the lines spell out the last board, or name its cards in order.
-    fn is_last(&self, alloc: Global, piece: &[u8]) -> Result<bool, AllocError>
-        ensures { IfOk result (λ is. IsTrue is → (board : Layout)
-            × (self.now.last ≡ Some board)
-            × (SpellsOut R.game piece.now board ⊎ HasCards piece.now board)) }
+    // Whether the lines, which name these cards, are read as the board: they are it in this layout, or
+    // spell it out.
+    fn is_read(
+        &self,
+        alloc: Global,
+        piece: &[u8],
+        named: &[u8],
+        board: &Board<R>,
+        layout: Layout,
+    ) -> Result<bool, AllocError>
+        requires { named.now ≡ named_lines piece.now }
+        ensures { IfOk result (λ is. IsTrue is
+            → IsReadAs self.now.options.lines_are R.game piece.now board.now) }
     {
-        let Some(board) = &self.last else {
-            return Ok(false);
-        };
-        if spells_out(alloc, piece, board)? {
+        if self.is_laid(alloc, piece, named, board, layout)? {
             return Ok(true);
         }
-        let named = Named::by(alloc, piece)?;
-        has_cards(alloc, &named, board)
+        if !may_be(self.options.lines_are, Layout::Columns, piece) {
+            return Ok(false);
+        }
+        let is_spelled = spells_out(alloc, piece, named, board)?;
+        Ok(is_spelled)
+    }
+
+    // Whether the lines, which name these cards, are the board in this layout, and may be.
+    fn is_laid(
+        &self,
+        alloc: Global,
+        piece: &[u8],
+        named: &[u8],
+        board: &Board<R>,
+        layout: Layout,
+    ) -> Result<bool, AllocError>
+        requires { named.now ≡ named_lines piece.now }
+        ensures { IfOk result (λ is. IsTrue is
+            → IsReadAs self.now.options.lines_are R.game piece.now board.now) }
+    {
+        if !may_be(self.options.lines_are, layout, piece) {
+            return Ok(false);
+        }
+        let are_in = are_in(alloc, layout, named, board)?;
+        Ok(are_in)
     }
 
     /// The list of these moves, if it is legal on the last board.
@@ -412,12 +453,12 @@ impl<R: Rule> Made<R> {
         form: Form,
         moves: &[u8],
     ) -> Result<Option<MoveList>, AllocError>
-        ensures legal { IfOk result (λ list. IfSome list (λ list. (board : Layout)
+        ensures legal { IfOk result (λ list. IfSome list (λ list. (board : AnyBoard)
             × (self.now.last ≡ Some board) × Legal R.game board list)) }
         ensures fits { IfOk result (λ list. IfSome list (ListFits eight_off)) }
         ensures names { IfOk result (λ list. IfSome list (Names R.game moves.now)) }
         ensures few { IfOk result (λ list. IfSome list (λ list. move_count list ≤ most_moves)) }
-        ensures found { (board : Layout) (list : SaidList) → self.now.last ≡ Some board
+        ensures found { (board : AnyBoard) (list : SaidList) → self.now.last ≡ Some board
             → Legal R.game board list → form ≡ form_of list → Names R.game moves.now list
             → IfOk result (λ found. found ≡ Some list) }
     {
@@ -431,59 +472,53 @@ impl<R: Rule> Made<R> {
         }
     }
 
-    // Says of lines that are the last board, with these words, that they are, if that is to be
-    // noted.
-    fn say_again(&mut self, alloc: Global, piece: &[u8], words: &[u8]) -> Result<(), AllocError>
-        ensures { OnOk result ((board : Layout) → self.old.last ≡ Some board
-            → Says R.game piece.now board self.old self.new) }
-    {
-        if self.last_needs_no_note(alloc, piece)? {
-            return Ok(());
-        }
-        self.walk.push_note(piece, 0, words, &mut self.notes)?;
-        Ok(())
-    }
-
-    // Says of a board that the lines are read as that they are turned, with these words, unless
-    // they spell it out. Returns whether they do, or name its cards in order.
+    // Says of a board that the lines are read as in this layout, and that has this fate, that they
+    // are, unless they spell it out. Returns whether they are read so.
     fn say_read(
         &mut self,
         alloc: Global,
         piece: &[u8],
         board: &Board<R>,
-        words: &[u8],
+        layout: Layout,
+        fate: Fate,
     ) -> Result<bool, AllocError>
         ensures said { IfOk result (λ is. IsTrue is → Says R.game piece.now board.now
             self.old self.new) }
         ensures of { IfOk result (λ is. IsTrue is
-            → SpellsOut R.game piece.now board.now ⊎ HasCards piece.now board.now) }
+            → IsReadAs self.old.options.lines_are R.game piece.now board.now) }
         ensures kept { IfOk result (λ is. is ≡ false → self.new ≡ self.old) }
     {
-        if is_read_as(piece, board) {
-            self.say_change(piece, board)?;
+        let (respelled, turned) = match fate {
+            Fate::Again => (ONCE_MORE, ONCE_MORE),
+            _ => (RESPELLED, layout_words(layout)),
+        };
+        if layout == Layout::Columns && self.is_shown(piece, board) {
+            self.say_change(piece, board, respelled)?;
             return Ok(true);
         }
-        let named = Named::by(alloc, piece)?;
-        if has_columns(alloc, &named, board)? {
-            self.say_change(piece, board)?;
-            return Ok(true);
-        }
-        if !has_cards(alloc, &named, board)? {
+        let named = named_lines(alloc, piece)?;
+        let named = named.as_slice();
+        if !self.is_read(alloc, piece, named, board, layout)? {
             return Ok(false);
         }
-        self.walk.push_note(piece, 0, words, &mut self.notes)?;
+        if spells_out(alloc, piece, named, board)? {
+            self.say_change(piece, board, respelled)?;
+            return Ok(true);
+        }
+        self.walk.push_note(piece, 0, turned, &mut self.notes)?;
         Ok(true)
     }
 
-    // Says of a board that the lines spell out how its spelling is changed, if that is to be noted.
-    fn say_change(&mut self, piece: &[u8], board: &Board<R>) -> Result<(), AllocError>
+    // Says of a board that the lines spell out, with these words, that its spelling is changed, if that
+    // is to be noted.
+    fn say_change(&mut self, piece: &[u8], board: &Board<R>, words: &[u8]) -> Result<(), AllocError>
         requires { SpellsOut R.game piece.now board.now }
         ensures { OnOk result (Says R.game piece.now board.now self.old self.new) }
     {
-        if spelled_needs_no_note(self.noted, piece, board) {
+        if spelled_needs_no_note(self.options.noted, piece, board) {
             return Ok(());
         }
-        self.walk.push_note(piece, 0, RESPELLED, &mut self.notes)
+        self.walk.push_note(piece, 0, words, &mut self.notes)
     }
 
     // Puts a note with these words, unless the lines need none of the list.
@@ -497,17 +532,41 @@ impl<R: Rule> Made<R> {
         requires { ListFits eight_off list.now }
         ensures said { OnOk result ((says : List ℕ)
             × (self.new.notes.items ≡ self.old.notes.items ++ says)
-            × SaysUnless (ListNeedsNoNote self.old.noted R.game piece.now list.now)
+            × SaysUnless (ListNeedsNoNote self.old.options.noted R.game piece.now list.now)
             (place_of self.old.walk) piece.now says) }
         ensures state { OnOk result (state_of self.new ≡ state_of self.old) }
         ensures written { OnOk result (self.new.written.items ≡ self.old.written.items) }
     {
-        if list_needs_no_note::<R>(alloc, self.noted, piece, list)? {
+        if list_needs_no_note::<R>(alloc, self.options.noted, piece, list)? {
             return Ok(());
         }
         self.walk.push_note(piece, 0, words, &mut self.notes)?;
         Ok(())
     }
+}
+
+// Whether lines that are said to be this may be of the layout: columns are no rows, and of rows one
+// must say that it is a column's, if they are columns.
+fn may_be(lines_are: LinesAre, layout: Layout, piece: &[u8]) -> bool
+    ensures { result ≡ may_be lines_are layout piece.now }
+{
+    match (lines_are, layout) {
+        (LinesAre::Columns, Layout::Rows) => false,
+        (LinesAre::Rows, Layout::Columns) => has_column(piece),
+        _ => true,
+    }
+}
+
+// Whether a line says that it is a column's.
+fn has_column(piece: &[u8]) -> bool
+    ensures { result ≡ list_any (λ line. says_column line.bytes) (lines_from 0 piece.now) }
+{
+    for line in Lines::new(piece) {
+        if says_column(line.text) {
+            return true;
+        }
+    }
+    false
 }
 
 // Puts the header with this name, and the board.

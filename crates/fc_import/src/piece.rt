@@ -7,7 +7,6 @@ use crate::labels::LabelKind;
 use crate::marks::Shape;
 use crate::scan::{LineSeen, Placed, named_card};
 use crate::words::{Words, before_mark, uncommented};
-use arrayvec::ArrayVec;
 use fc_board::Rule;
 use fc_text::{Line, Lines};
 use memchr::memchr;
@@ -37,12 +36,6 @@ pub(crate) enum LineKind {
     Other,
 }
 
-impl Default for LineKind {
-    fn default() -> Self {
-        LineKind::Blank
-    }
-}
-
 /// What the lines at the front of a text are.
 #[derive(Clone, Copy, PartialEq, Eq, Debug)]
 pub(crate) enum PieceKind {
@@ -60,22 +53,29 @@ pub(crate) struct PieceLine {
     pub(crate) len: usize,
     pub(crate) kind: LineKind,
     pub(crate) shape: Shape,
-    pub(crate) first: usize,
-    pub(crate) end: usize,
+    first: usize,
+    end: usize,
     /// How many of its cards were there before, in the line or above it.
     repeats: usize,
+    /// How many blank lines there are between it and the first line of cards.
+    pub(crate) blanks: usize,
 }
 
-impl Default for PieceLine {
-    fn default() -> Self {
-        PieceLine {
-            start: 0,
-            len: 0,
-            kind: LineKind::Blank,
-            shape: Shape::new(LabelKind::Bare),
-            first: 0,
-            end: 0,
-            repeats: 0,
+impl PieceLine {
+    /// Where the first word is that names no card, and is none of its label.
+    pub(crate) fn other_word(&self) -> Option<usize> {
+        match self.shape.others {
+            0 => None,
+            _ => Some(self.start.saturating_add(self.shape.other)),
+        }
+    }
+
+    /// Whether its label, if it has one, is the number of this column, counted from 0.
+    pub(crate) fn may_be_column(&self, column: usize) -> bool {
+        match self.shape.label {
+            LabelKind::Bare => true,
+            LabelKind::Column(number) => usize::from(number) == column.saturating_add(1),
+            _ => false,
         }
     }
 }
@@ -83,7 +83,9 @@ impl Default for PieceLine {
 /// The lines of a piece, and what they hold together.
 #[derive(Drop)]
 pub(crate) struct Piece {
-    pub(crate) lines: ArrayVec<PieceLine, 48>,
+    /// The lines of cards, and that of the cells.
+    pub(crate) rows: Vec<PieceLine>,
+    pub(crate) cells: Option<PieceLine>,
     placed: Vec<Placed>,
     /// The moves that its lists name, each after a blank, and those of the last line.
     pub(crate) moves: Vec<u8>,
@@ -95,26 +97,38 @@ pub(crate) struct Piece {
     /// The heights of C D H S.
     pub(crate) heights: [u8; 4],
     has_heights: bool,
-    has_cells: bool,
     /// The first word of the foundations that is none.
     pub(crate) bad_height: Option<usize>,
-    /// How many lines have cards, and how many cards there are, those that are home included.
-    pub(crate) rows: usize,
+    /// How many cards there are, those that are home included.
     count: usize,
     bits: u64,
     /// A card was there twice, or a word of a column is none.
     is_damaged: bool,
-    /// How many lines there are up to the last blank one, and that one.
-    up_to_blank: usize,
-    /// How many bytes the lines have.
+    /// How many lines there are, and how many blank ones after the first line of cards.
+    lines: usize,
+    blanks: usize,
+    /// What there was at the last blank line.
+    at_blank: Option<AtBlank>,
+    /// How many bytes the lines have, up to the last one that is not blank.
     pub(crate) len: usize,
+}
+
+/// How much of a piece there is before a blank line: so many lines of cards, the cells, so many lines
+/// and so many bytes.
+#[derive(Clone, Copy)]
+struct AtBlank {
+    rows: usize,
+    has_cells: bool,
+    lines: usize,
+    len: usize,
 }
 
 impl Piece {
     /// No lines.
     pub(crate) fn new(alloc: Global) -> Self {
         Piece {
-            lines: ArrayVec::new(),
+            rows: Vec::new(alloc),
+            cells: None,
             placed: Vec::new(alloc),
             moves: Vec::new(alloc),
             line_moves: Vec::new(alloc),
@@ -122,32 +136,33 @@ impl Piece {
             is_number: false,
             heights: [0; 4],
             has_heights: false,
-            has_cells: false,
             bad_height: None,
-            rows: 0,
             count: 0,
             bits: 0,
             is_damaged: false,
-            up_to_blank: 0,
+            lines: 0,
+            blanks: 0,
+            at_blank: None,
             len: 0,
         }
     }
 
     fn clear(&mut self) {
-        self.lines.clear();
+        self.rows.clear();
+        self.cells = None;
         self.placed.clear();
         self.moves.clear();
         self.foreign = None;
         self.is_number = false;
         self.heights = [0; 4];
         self.has_heights = false;
-        self.has_cells = false;
         self.bad_height = None;
-        self.rows = 0;
         self.count = 0;
         self.bits = 0;
         self.is_damaged = false;
-        self.up_to_blank = 0;
+        self.lines = 0;
+        self.blanks = 0;
+        self.at_blank = None;
         self.len = 0;
     }
 
@@ -171,7 +186,7 @@ impl Piece {
             }
             LineKind::Blank | LineKind::Comment | LineKind::Other => Ok(PieceKind::Prose),
             LineKind::Foundations | LineKind::Cells | LineKind::Cards => {
-                self.add(&line, first.text);
+                self.add(&line, first.text)?;
                 self.go_on::<R>(lines)?;
                 if !self.is_whole() && self.is_list::<R>(first.text)? {
                     self.go_on_with_moves::<R>(text)?;
@@ -185,20 +200,15 @@ impl Piece {
     // Takes the lines that may be those of the board.
     fn go_on<R: Rule>(&mut self, lines: Lines<'_>) -> Result<(), AllocError> {
         for line in lines {
-            if self.lines.is_full() || line.text.starts_with(b"@") {
+            if self.lines >= MOST_LINES || line.text.starts_with(b"@") {
                 break;
             }
             let seen = self.look_at::<R>(line)?;
             if !self.takes::<R>(&seen, line.text)? {
                 break;
             }
-            self.add(&seen, line.text);
+            self.add(&seen, line.text)?;
         }
-        self.drop_blanks();
-        self.len = match self.lines.as_slice().last() {
-            Some(last) => last.start.saturating_add(last.len),
-            None => 0,
-        };
         Ok(())
     }
 
@@ -347,6 +357,7 @@ impl Piece {
             repeats: shape
                 .cards
                 .saturating_sub(count_of(shape.bits & !self.bits)),
+            blanks: self.blanks,
         })
     }
 
@@ -359,17 +370,17 @@ impl Piece {
     // Whether the line may be the board's.
     fn takes<R: Rule>(&mut self, line: &PieceLine, text: &[u8]) -> Result<bool, AllocError> {
         let is_whole = self.is_whole();
-        let is_after_blank = self.up_to_blank == self.lines.len() && self.up_to_blank > 0;
+        let rows = self.rows.len();
         Ok(match line.kind {
             LineKind::Moves | LineKind::Other => false,
-            LineKind::Comment => !is_whole && self.rows < 8,
-            LineKind::Blank => !is_whole && self.rows < 8 && !self.is_damaged,
+            LineKind::Comment => !is_whole && rows < 8,
+            LineKind::Blank => !is_whole && rows < 8 && !self.is_damaged,
             LineKind::Foundations => {
                 let fits = !is_whole || heights_of(text).0 == [0; 4];
-                !self.has_heights && fits && !(is_after_blank && self.rows > 0)
+                !self.has_heights && fits && !(self.ends_with_blank() && rows > 0)
             }
-            LineKind::Cells => !self.has_cells && (!is_whole || line.shape.bits == 0),
-            LineKind::Cards if is_whole => self.rows < 8 && line.shape.bits == 0,
+            LineKind::Cells => self.cells.is_none() && (!is_whole || line.shape.bits == 0),
+            LineKind::Cards if is_whole => rows < 8 && line.shape.bits == 0,
             LineKind::Cards if line.repeats > 0 && self.is_list::<R>(text)? => false,
             LineKind::Cards if self.begins_other(line) => {
                 self.cut_at_blank();
@@ -384,33 +395,31 @@ impl Piece {
     fn begins_other(&self, line: &PieceLine) -> bool {
         let repeats = line.repeats;
         let cards = line.end.saturating_sub(line.first);
-        repeats > 0 && self.up_to_blank > 0 || repeats >= 3 && repeats > cards / 2
+        repeats > 0 && self.at_blank.is_some() || repeats >= 3 && repeats > cards / 2
+    }
+
+    // Whether the last line is blank.
+    fn ends_with_blank(&self) -> bool {
+        matches!(self.at_blank, Some(at) if at.lines.saturating_add(1) == self.lines)
     }
 
     // Leaves the lines after the last blank one to the next board, where this one is not whole.
     fn cut_at_blank(&mut self) {
-        if !self.is_whole() && self.up_to_blank > 0 {
-            self.lines.truncate(self.up_to_blank);
-        }
-    }
-
-    fn drop_blanks(&mut self) {
-        for _line in 0..MOST_LINES {
-            match self.lines.as_slice().last() {
-                Some(last) if last.kind == LineKind::Blank => {
-                    let _ = self.lines.pop();
-                }
-                _ => break,
+        if let (Some(at), false) = (self.at_blank, self.is_whole()) {
+            self.rows.truncate(at.rows);
+            if !at.has_cells {
+                self.cells = None;
             }
+            self.len = at.len;
         }
     }
 
-    fn add(&mut self, line: &PieceLine, text: &[u8]) {
+    fn add(&mut self, line: &PieceLine, text: &[u8]) -> Result<(), AllocError> {
         match line.kind {
             LineKind::Foundations => self.add_heights(line.start, text),
-            LineKind::Cells => self.has_cells = true,
-            LineKind::Cards => self.rows = self.rows.saturating_add(1),
-            LineKind::Blank => self.up_to_blank = self.lines.len().saturating_add(1),
+            LineKind::Cells => self.cells = Some(*line),
+            LineKind::Cards => self.rows.push(*line)?,
+            LineKind::Blank => self.see_blank(),
             _ => {}
         }
         if line.kind != LineKind::Foundations {
@@ -420,7 +429,23 @@ impl Piece {
                 .saturating_add(count_of(line.shape.bits & !self.bits));
             self.bits |= line.shape.bits;
         }
-        let _ = self.lines.try_push(*line);
+        self.lines = self.lines.saturating_add(1);
+        if line.kind != LineKind::Blank {
+            self.len = line.start.saturating_add(line.len);
+        }
+        Ok(())
+    }
+
+    fn see_blank(&mut self) {
+        self.at_blank = Some(AtBlank {
+            rows: self.rows.len(),
+            has_cells: self.cells.is_some(),
+            lines: self.lines,
+            len: self.len,
+        });
+        self.blanks = self
+            .blanks
+            .saturating_add(usize::from(!self.rows.is_empty()));
     }
 
     fn add_heights(&mut self, start: usize, text: &[u8]) {

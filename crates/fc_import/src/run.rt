@@ -6,17 +6,18 @@ ghost use Rattle.fc_collect.specs.{Promises.{ReadsAsCounted, WritesAsCounted}, R
 ghost use Rattle.fc_collect.specs.Streams.{counts_of, GrowsBy, HasRoom, inner_of};
 ghost use Rattle.fc_collect.specs.declared.streams.faults.RunFault.TheVariants.{Write as WriteFault};
 ghost use Rattle.fc_import.specs.Import.{ImportFits, Makes, with_tally};
-ghost use Rattle.fc_import.specs.inside.{more_counts, ReadsMore, ReadsToEnd, ShownAs, WritesMade};
+ghost use Rattle.fc_import.specs.inside.{more_counts, ReadsMore, ReadsToEnd, WritesMade};
 ghost use Rattle.fc_import.specs.{Notes.{counted}, Words.{text_read}};
 
-use crate::changes::Noted;
 use crate::import::import_text;
-use crate::layout::LinesAre;
 use crate::made::Made;
+use crate::options::ImportOptions;
 use crate::signs::read_text;
 use crate::tally::{Tally, counted, push_tally, refused_by};
 use fc_board::{BakersGame, EightOff, FreeCell, Rule, Variant};
-use fc_collect::{Counted, MOST_BYTES, MOST_READS, RunFault, Summary, run_show, write_text};
+use fc_collect::{
+    Counted, MOST_BYTES, MOST_READS, RunFault, Summary, is_within_limits, write_text,
+};
 use std::alloc::{AllocError, Global};
 use std::io::{Read, Write};
 
@@ -26,7 +27,6 @@ const ROOM: usize = 65_536;
 /// Reads a text to its end, makes a collection of this game of the boards and the lists of moves in
 /// it, and writes that. What is said of the text is put into `said`, in lines that each name a line
 /// and a column; a piece of the text that is no board and no list is left out, and that is said.
-/// `lines_are` decides where lines of cards may be columns or rows, and `noted` what is said.
 ///
 /// A run takes at most 16 MiB; else the fault is `TooLarge`. Where more would be written than
 /// `run_show` takes, nothing is, which is said and counted as one refusal. A call that fails is not
@@ -34,8 +34,7 @@ const ROOM: usize = 65_536;
 pub fn run_import<Rd: Read, Wr: Write>(
     alloc: Global,
     variant: Variant,
-    lines_are: LinesAre,
-    noted: Noted,
+    options: ImportOptions,
     input: &mut Counted<Rd>,
     output: &mut Counted<Wr>,
     said: &mut Vec<u8>,
@@ -43,7 +42,7 @@ pub fn run_import<Rd: Read, Wr: Write>(
     requires input_low { HasRoom input.old }
     requires output_low { HasRoom output.old }
     requires silent { said.old.items ≡ [] }
-    ensures runs { RunsWithin standard (ImportFits variant noted said.new.items)
+    ensures runs { RunsWithin standard (ImportFits variant options said.new.items)
         (record { bytes = Rd.remaining; old = input.old; new = input.new })
         (record { bytes = Wr.contents; old = output.old; new = output.new }) result }
     ensures ended { result ≡ Err WriteFault
@@ -51,7 +50,7 @@ pub fn run_import<Rd: Read, Wr: Write>(
 {
     let mut bytes = Vec::new(alloc);
     match read_to_end(alloc, input, &mut bytes) {
-        Ok(()) => write_read(alloc, variant, lines_are, noted, bytes, output, said),
+        Ok(()) => write_read(alloc, variant, options, bytes, output, said),
         Err(fault) => Err(fault),
     }
 }
@@ -60,8 +59,7 @@ pub fn run_import<Rd: Read, Wr: Write>(
 fn write_read<Wr: Write>(
     alloc: Global,
     variant: Variant,
-    lines_are: LinesAre,
-    noted: Noted,
+    options: ImportOptions,
     bytes: Vec<u8>,
     output: &mut Counted<Wr>,
     said: &mut Vec<u8>,
@@ -69,20 +67,12 @@ fn write_read<Wr: Write>(
     requires low { HasRoom output.old }
     requires silent { said.old.items ≡ [] }
     ensures counted { WritesAsCounted output.old output.new result }
-    ensures wrote { WritesMade variant noted bytes.items
+    ensures wrote { WritesMade variant options bytes.items
         (Wr.contents (inner_of output.old)) (Wr.contents (inner_of output.new))
         said.new.items result }
 {
     let text = read_text(alloc, bytes)?;
-    write_made(
-        alloc,
-        variant,
-        lines_are,
-        noted,
-        text.as_slice(),
-        output,
-        said,
-    )
+    write_made(alloc, variant, options, text.as_slice(), output, said)
 }
 
 // Reads the input to its end, and puts all of it into `bytes`.
@@ -149,8 +139,7 @@ fn read_more<Rd: Read>(
 fn write_made<Wr: Write>(
     alloc: Global,
     variant: Variant,
-    lines_are: LinesAre,
-    noted: Noted,
+    options: ImportOptions,
     text: &[u8],
     output: &mut Counted<Wr>,
     said: &mut Vec<u8>,
@@ -158,11 +147,11 @@ fn write_made<Wr: Write>(
     requires low { HasRoom output.old }
     requires silent { said.old.items ≡ [] }
     ensures counted { WritesAsCounted output.old output.new result }
-    ensures wrote { (bytes : List ℕ) → text.now ≡ text_read bytes → WritesMade variant noted bytes
+    ensures wrote { (bytes : List ℕ) → text.now ≡ text_read bytes → WritesMade variant options bytes
         (Wr.contents (inner_of output.old)) (Wr.contents (inner_of output.new))
         said.new.items result }
 {
-    let product = product_of(alloc, variant, lines_are, noted, text)?;
+    let product = product_of(alloc, variant, options, text)?;
     *said = product.said;
     match write_text(output, product.written.as_slice()) {
         Ok(()) => Ok(product.summary),
@@ -189,52 +178,47 @@ const TOO_MUCH: &[u8] =
 fn product_of(
     alloc: Global,
     variant: Variant,
-    lines_are: LinesAre,
-    noted: Noted,
+    options: ImportOptions,
     text: &[u8],
 ) -> Result<Product, AllocError>
     ensures { (bytes : List ℕ) → text.now ≡ text_read bytes → IfOk result
-        (λ product. Makes variant noted bytes
+        (λ product. Makes variant options bytes
         product.written.items product.said.items product.summary) }
 {
     match variant {
-        Variant::FreeCell => product_for::<FreeCell>(alloc, lines_are, noted, text),
-        Variant::BakersGame => product_for::<BakersGame>(alloc, lines_are, noted, text),
-        Variant::EightOff => product_for::<EightOff>(alloc, lines_are, noted, text),
+        Variant::FreeCell => product_for::<FreeCell>(alloc, options, text),
+        Variant::BakersGame => product_for::<BakersGame>(alloc, options, text),
+        Variant::EightOff => product_for::<EightOff>(alloc, options, text),
     }
 }
 
 // All that is made of the text, or nothing where there is no board, or more than `run_show` takes.
 fn product_for<R: Rule>(
     alloc: Global,
-    lines_are: LinesAre,
-    noted: Noted,
+    options: ImportOptions,
     text: &[u8],
 ) -> Result<Product, AllocError>
     ensures { (bytes : List ℕ) → text.now ≡ text_read bytes → IfOk result
-        (λ product. Makes R.VARIANT noted bytes
+        (λ product. Makes R.VARIANT options bytes
         product.written.items product.said.items product.summary) }
 {
-    let made: Made<R> = import_text(alloc, lines_are, noted, text)?;
+    let made: Made<R> = import_text(alloc, options, text)?;
     if made.is_nothing() {
         let notes = with_tally(made.notes, made.tally)?;
         let product = nothing(alloc, notes, NO_BOARD)?;
         return Ok(product);
     }
-    match records_shown(alloc, R::VARIANT, made.written.as_slice())? {
-        Some(records) => {
-            let refused = refused_by(noted, made.tally, made.notes.as_slice());
-            Ok(Product {
-                written: made.written,
-                said: with_tally(made.notes, made.tally)?,
-                summary: summary_of(records, refused),
-            })
-        }
-        None => {
-            let product = nothing(alloc, made.notes, TOO_MUCH)?;
-            Ok(product)
-        }
+    if !is_within_limits(made.written.as_slice()) {
+        let product = nothing(alloc, made.notes, TOO_MUCH)?;
+        return Ok(product);
     }
+    let refused = refused_by(options.noted, made.tally, made.notes.as_slice());
+    let summary = summary_of(made.tally.boards, refused);
+    Ok(Product {
+        written: made.written,
+        said: with_tally(made.notes, made.tally)?,
+        summary,
+    })
 }
 
 // The summary of records that are written and pieces that are refused, each of which is a record.
@@ -276,29 +260,4 @@ fn nothing(alloc: Global, notes: Vec<u8>, line: &[u8]) -> Result<Product, AllocE
             refused: 1,
         },
     })
-}
-
-// How many records the collection has, if `run_show` takes it, writes it as it is and refuses
-// nothing of it. There may be no memory, which a write into memory says as a write fault.
-fn records_shown(
-    alloc: Global,
-    variant: Variant,
-    collection: &[u8],
-) -> Result<Option<usize>, AllocError>
-    ensures { IfOk result (ShownAs variant collection.now) }
-{
-    let mut input = Counted::new(collection);
-    let mut output = Counted::new(Vec::new(alloc));
-    match run_show(alloc, variant, &mut input, &mut output) {
-        Ok(summary) => {
-            let is_same = output.into_inner().as_slice() == collection;
-            Ok(if is_same && summary.refused == 0 {
-                Some(summary.records)
-            } else {
-                None
-            })
-        }
-        Err(RunFault::TooLarge) => Ok(None),
-        Err(_) => Err(AllocError),
-    }
 }

@@ -3,9 +3,10 @@ ghost use Rattle.std.specs.Prelude.{◌↔◌, ◌≡◌, IfOk, IsTrue};
 ghost use Rattle.fc_board.specs.Boards.{IsWellFormed};
 ghost use Rattle.fc_text.specs.{Printed.{text_of}, Spelling.{Spells}};
 ghost use Rattle.fc_import.specs.Import.{BoardNeedsNoNote, by_columns, IsPacked, SpellsOut};
+ghost use Rattle.fc_import.specs.Words.{named_lines};
 
-use crate::cards::{Named, by_columns, is_packed};
-use crate::changes::Noted;
+use crate::cards::{by_columns, is_packed};
+use crate::options::Noted;
 use fc_board::{Board, Rule};
 use fc_text::{BoardView, read_board, write_board};
 use std::alloc::{AllocError, Global};
@@ -14,30 +15,33 @@ use std::alloc::{AllocError, Global};
 /// and none of these is empty.
 pub(crate) fn has_columns<R: Rule>(
     alloc: Global,
-    named: &Named,
+    named: &[u8],
     board: &Board<R>,
 ) -> Result<bool, AllocError>
     ensures has { IfOk result (λ has. IsTrue has
-        ↔ ((named.now.lines.items ≡ by_columns board.now) × IsPacked board.now)) }
+        ↔ ((named.now ≡ by_columns board.now) × IsPacked board.now)) }
     ensures well_formed { IsWellFormed R.game board.now }
 {
     let columns = by_columns(alloc, board)?;
-    Ok(is_equal(named.lines.as_slice(), columns.as_slice()) && is_packed(board))
+    Ok(is_equal(named, columns.as_slice()) && is_packed(board))
 }
 
-/// Whether `show` reads the lines as the board, or they are its cells and columns.
+/// Whether `show` reads the lines, which name these cards, as the board, or they are its cells and
+/// columns.
 pub(crate) fn spells_out<R: Rule>(
     alloc: Global,
     lines: &[u8],
+    named: &[u8],
     board: &Board<R>,
 ) -> Result<bool, AllocError>
-    ensures { IfOk result (λ is. IsTrue is ↔ SpellsOut R.game lines.now board.now) }
+    requires { named.now ≡ named_lines lines.now }
+    ensures is { IfOk result (λ is. IsTrue is ↔ SpellsOut R.game lines.now board.now) }
+    ensures well_formed { IsWellFormed R.game board.now }
 {
     if is_read_as(lines, board) {
         return Ok(true);
     }
-    let named = Named::by(alloc, lines)?;
-    let has_columns = has_columns(alloc, &named, board)?;
+    let has_columns = has_columns(alloc, named, board)?;
     Ok(has_columns)
 }
 
@@ -59,22 +63,6 @@ pub(crate) fn spelled_needs_no_note<R: Rule>(noted: Noted, lines: &[u8], board: 
     match noted {
         Noted::Doubts => true,
         Noted::Changes | Noted::Strict => is_printed(lines, board),
-    }
-}
-
-/// Whether nothing is to be noted of lines that are read as the board.
-pub(crate) fn board_needs_no_note<R: Rule>(
-    alloc: Global,
-    noted: Noted,
-    lines: &[u8],
-    board: &Board<R>,
-) -> Result<bool, AllocError>
-    ensures { IfOk result (λ silent. IsTrue silent
-        ↔ BoardNeedsNoNote noted R.game lines.now board.now) }
-{
-    match noted {
-        Noted::Doubts => spells_out(alloc, lines, board),
-        Noted::Changes | Noted::Strict => Ok(is_printed(lines, board)),
     }
 }
 

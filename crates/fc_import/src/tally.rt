@@ -3,7 +3,7 @@ ghost use Rattle.std.specs.Prelude.{◌++◌, ◌+◌, ◌≡◌, OnOk};
 ghost use Rattle.fc_import.specs.Import.{count_text, refusals, refused_by, tally_line};
 ghost use Rattle.fc_import.specs.Notes.{counted, line_feeds, plus, tally_of};
 
-use crate::changes::Noted;
+use crate::options::Noted;
 use crate::walk::line_feeds;
 use fc_record::push_number;
 use std::alloc::AllocError;

@@ -12,9 +12,9 @@ use Rattle.fc_record.specs.Grammar.{Accepted, after_header, begins_with, board_p
 use Rattle.fc_record.specs.Grammar.{fault_at, heading_of, list_lines, list_mark, lists_of}
 use Rattle.fc_record.specs.Grammar.{lists_start, reading_of, reading_with, Refused, without_header}
 use Rattle.fc_record.specs.RecordTexts.{header_mark, RecordText}
+use Rattle.fc_collect.proofs.HeaderLemmas.{cut-header_starts, header_starts-marks, marks}
 use Rattle.fc_collect.{proofs.RecordLemmas.{begun-number, cut-bytes}, specs.Pieces.{header_starts}}
 use Rattle.fc_collect.specs.Records.{begun, cut, finished, if_record, nothing, records_of}
-use Rattle.fc_laws.proofs.HeaderLemmas.{cut-header_starts, header_starts-marks, marks}
 use Rattle.fc_record.specs.declared.record.RecordFaultKind.TheVariants as kind
 
 -- ---- one text

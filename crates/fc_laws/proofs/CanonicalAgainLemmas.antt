@@ -27,17 +27,16 @@ use Rattle.fc_record.proofs.TextLineLemmas.{AreLines-append, AreLines-line, line
 use Rattle.fc_record.specs.Grammar.{Accepted, begins_with, Contents, Reading}
 use Rattle.fc_record.specs.Printing.{canon_lines, heading_line, image_line, list_line, passage_line}
 use Rattle.fc_record.specs.{Printing.{printed}, RecordTexts.{header_mark}}
-use Rattle.fc_collect.proofs.KeyedLemmas.{canonical-IsWellFormed, chosen, text_is}
-use Rattle.fc_collect.specs.Groups.{canonical_text, Member, members_among, passage_of}
-use Rattle.fc_collect.specs.Limits.{most_countable}
-use Rattle.fc_collect.specs.Records.{has_content, output_of_records, records_of}
-use Rattle.fc_laws.proofs.AcceptanceLemmas.{Says-from_accepted}
-use Rattle.fc_laws.proofs.HeaderSaysLemmas.{ok-from_HeaderSays}
-use Rattle.fc_laws.proofs.MemberLemmas.{CanPrint, IsSaid, lists_can, members-said}
-use Rattle.fc_laws.proofs.PrintedRecordLemmas.{board_first, heading_again, lines-IsReadAs}
-use Rattle.fc_laws.proofs.PrintedRecordLemmas.{printed_heading, printed_variant}
-use Rattle.fc_laws.proofs.ReadAgainLemmas.{all_again, AreReadAs, codes_in_line, IsReadAs}
-use Rattle.fc_laws.proofs.ReadAgainLemmas.{letter_in_line, ReadsAgain, same_printed, Stays}
+use Rattle.fc_collect.{
+  proofs.{AcceptanceLemmas.{Says-from_accepted}, HeaderSaysLemmas.{ok-from_HeaderSays}},
+  proofs.KeyedLemmas.{canonical-IsWellFormed, chosen, text_is},
+  proofs.MemberLemmas.{CanPrint, IsSaid, lists_can, members-said},
+  proofs.PrintedRecordLemmas.{board_first, heading_again, lines-IsReadAs, printed_heading},
+  proofs.{PrintedRecordLemmas.{printed_variant}, ReadAgainLemmas.{all_again, AreReadAs}},
+  proofs.ReadAgainLemmas.{codes_in_line, IsReadAs, letter_in_line, ReadsAgain, same_printed, Stays},
+  specs.{Groups.{canonical_text, Member, members_among, passage_of}, Limits.{most_countable}},
+  specs.Records.{has_content, output_of_records, records_of},
+}
 
 -- ---- the line of the passage
 

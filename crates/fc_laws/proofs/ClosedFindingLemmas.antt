@@ -1,7 +1,7 @@
 -- What `closed` finds is so of all members of a collection.
-use Rattle.std.proofs.Common.{◌++◌, ◌+◌, ◌==◌, ◌↔◌, ◌∙◌, ◌∷◌, ◌≡◌, [], ap, ap₂, arith, Bool}
-use Rattle.std.proofs.Common.{codes, cond, false, is_some, length, List, map, None, not, Option}
-use Rattle.std.proofs.Common.{refl, slice_index, Some, subst, suc, sym, true, true≢false, zero, ℕ}
+use Rattle.std.proofs.Common.{◌++◌, ◌+◌, ◌==◌, ◌↔◌, ◌∙◌, ◌∷◌, ◌≡◌, [], ap, ap₂, arith, Bool, codes}
+use Rattle.std.proofs.Common.{cond, false, is_some, length, List, map, None, not, Option, refl}
+use Rattle.std.proofs.Common.{slice_index, Some, subst, suc, sym, true, true≢false, zero, ℕ}
 use Rattle.std.proofs.lemmas.{Bool.{eqb-true}, List.{Elements.{All-contains}, Folds.{list_any_at}}}
 use Rattle.std.proofs.lemmas.List.{get_or-map, length-map, Sums.{sum_by-cons}}
 use Rattle.std.specs.List.{Contains, count_by, filter, find}
@@ -22,15 +22,16 @@ use Rattle.fc_record.specs.Grammar.{Accepted, Reading, reading_of, Refused as Is
 use Rattle.fc_record.specs.Printing.{is_refused, printed_or, refusal_line, refuses}
 use Rattle.fc_record.specs.RecordTexts.{RecordText}
 use Rattle.fc_collect.proofs.{ClosedLemmas.{all_home, won_home}, GroupLemmas.{has_one}}
-use Rattle.fc_collect.{proofs.GroupNameLemmas.{together-Equivalent}, specs.Closed.{boards_of}}
-use Rattle.fc_collect.specs.Closed.{Closed, Finding, finding_line, finding_of, first_flawed}
-use Rattle.fc_collect.specs.Closed.{flaw_of, Flawed, flawless, has_flaw, leads_out, member_after}
-use Rattle.fc_collect.specs.Closed.{move_out, opened, Refused, refused_with}
-use Rattle.fc_collect.specs.Groups.{belong_together, groups_of, Member, members_among}
-use Rattle.fc_collect.specs.{Groups.{name_of_member, summary_of}, Runs.{refusals}}
+use Rattle.fc_collect.proofs.GroupNameLemmas.{together-Equivalent}
+use Rattle.fc_collect.{proofs.MemberLemmas.{member-IsWellFormed}, specs.Closed.{boards_of, Closed}}
+use Rattle.fc_collect.specs.Closed.{Finding, finding_line, finding_of, first_flawed, flaw_of}
+use Rattle.fc_collect.specs.Closed.{Flawed, flawless, has_flaw, leads_out, member_after, move_out}
+use Rattle.fc_collect.specs.{Closed.{opened, Refused, refused_with}, Groups.{belong_together}}
+use Rattle.fc_collect.specs.Groups.{groups_of, Member, members_among, name_of_member, summary_of}
+use Rattle.fc_collect.specs.Runs.{refusals}
 use Rattle.fc_collect.specs.declared.commands.closed.Flaw.{Flaw, TheVariants.{Open, Won}}
 use Rattle.fc_collect.specs.declared.streams.faults.Summary.{Summary}
-use Rattle.fc_laws.proofs.{MemberLemmas.{member-IsWellFormed}, SolutionLemmas.{any_where}}
+use Rattle.fc_laws.proofs.SolutionLemmas.{any_where}
 
 -- ---- lists
 

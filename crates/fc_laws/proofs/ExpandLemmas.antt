@@ -1,11 +1,10 @@
 -- What expand prints for a list.
 use Rattle.std.proofs.Common.{◌++◌, ◌+◌, ◌<◌, ◌↔◌, ◌∙◌, ◌∷◌, ◌≡◌, ◌≤◌, ◌⊎◌, [], All, ap, append-nil}
-use Rattle.std.proofs.Common.{append_assoc, arith, Bool, codes, Contains, false}
-use Rattle.std.proofs.Common.{if◌then◌else◌, inl, inr, length, List, nat_le, refl, slice_index}
-use Rattle.std.proofs.Common.{sym, true, true≢false, ℕ}
-use Rattle.std.proofs.lemmas.{Bool.{le-leb, leb-false, leb-true, lt-leb}, List.{append_cancel_left}}
-use Rattle.std.proofs.lemmas.List.Elements.{All-append, All-cons}
-use Rattle.std.{specs.{Fmt.{decimal}}}
+use Rattle.std.proofs.Common.{append_assoc, arith, Bool, codes, Contains, false, if◌then◌else◌, inl}
+use Rattle.std.proofs.Common.{inr, length, List, nat_le, refl, slice_index, sym, true, true≢false}
+use Rattle.std.proofs.{Common.{ℕ}, lemmas.Bool.{le-leb, leb-false, leb-true, lt-leb}}
+use Rattle.std.proofs.lemmas.List.{append_cancel_left, Elements.{All-append, All-cons}}
+use Rattle.std.specs.Fmt.{decimal}
 use Rattle.fc_board.proofs.ListLemmas.{verdict-OnlyLegal, verdict-Wins}
 use Rattle.fc_board.proofs.MoveListLemmas.{list_allowed-exactly, list_refused-exactly}
 use Rattle.fc_board.proofs.MoveListLemmas.{list_won-exactly}
@@ -27,9 +26,9 @@ use Rattle.fc_record.specs.{Grammar.{begins_with, Heading, list_mark}, Printing.
 use Rattle.fc_record.specs.Printing.{comment_line, expand_lines, expanded_by, expanded_line}
 use Rattle.fc_record.specs.Printing.{heading_line, list_line, name_of, numbered_lines}
 use Rattle.fc_record.specs.Printing.{one_card_moves, verdict_line, verdict_words}
+use Rattle.fc_collect.proofs.MemberLemmas.{CanPrint, member-Can, member-IsWellFormed}
+use Rattle.fc_collect.proofs.ReadAgainLemmas.{codes_in_line, decimal_in_line}
 use Rattle.fc_collect.specs.{Groups.{Member, members_among}, Records.{records_of}}
-use Rattle.fc_laws.proofs.MemberLemmas.{CanPrint, member-Can, member-IsWellFormed}
-use Rattle.fc_laws.proofs.ReadAgainLemmas.{codes_in_line, decimal_in_line}
 use Rattle.fc_laws.proofs.VerdictLineLemmas.{not_both, small_index, verdict_Refused}
 
 -- ---- a list and its expansion

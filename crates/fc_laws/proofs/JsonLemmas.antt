@@ -25,10 +25,10 @@ use Rattle.fc_record.proofs.HeadingLemmas.{IsInName, named, unnamed, without}
 use Rattle.fc_record.specs.{Grammar.{begins_with, Heading}, Printing.{name_of}}
 use Rattle.fc_record.specs.{RecordTexts.{header_mark}, Tables.{first_win, is_win, json_object}}
 use Rattle.fc_record.specs.Tables.{json_string, number_or_null, table_fields, table_object}
-use Rattle.fc_collect.proofs.{KeyedLemmas.{chosen}, ShareLemmas.{few_cells}}
+use Rattle.fc_collect.proofs.{HeaderSaysLemmas.{ok-from_HeaderSays}, KeyedLemmas.{chosen}}
+use Rattle.fc_collect.proofs.MemberLemmas.{member-IsWellFormed, member-said}
+use Rattle.fc_collect.proofs.ShareLemmas.{few_cells}
 use Rattle.fc_collect.specs.{Groups.{canonical_text, Member, members_among}, Records.{records_of}}
-use Rattle.fc_laws.proofs.HeaderSaysLemmas.{ok-from_HeaderSays}
-use Rattle.fc_laws.proofs.MemberLemmas.{member-IsWellFormed, member-said}
 use Rattle.fc_laws.proofs.SideBySideLemmas.{side_by_side-high}
 use Rattle.fc_laws.proofs.TableLawLemmas.{canonical_is_text, no_dash, object_of, object_of_fields}
 

@@ -1,20 +1,18 @@
 -- The members that lead the groups, and that `unique` prints them.
-use Rattle.std.proofs.Common.{◌++◌, ◌∷◌, ◌≡◌, [], All, append-nil}
-use Rattle.std.proofs.Common.{append_assoc, Bool, cond, false, filter}
-use Rattle.std.proofs.Common.{if◌then◌else◌, List, map, refl, sym}
-use Rattle.std.proofs.{Common.{take, true, true≢false, ℕ}, lemmas.Grind.{flat_map-append}}
-use Rattle.std.proofs.lemmas.List.Elements.{All-head}
-use Rattle.std.proofs.lemmas.List.Elements.{All-tail, filter-append}
-use Rattle.std.specs.{List.{flat_map}}
+use Rattle.std.proofs.Common.{◌++◌, ◌∷◌, ◌≡◌, [], All, append-nil, append_assoc, Bool, cond, false}
+use Rattle.std.proofs.Common.{filter, if◌then◌else◌, List, map, refl, sym, take, true, true≢false}
+use Rattle.std.proofs.{Common.{ℕ}, lemmas.Grind.{flat_map-append}}
+use Rattle.std.proofs.lemmas.List.Elements.{All-head, All-tail, filter-append}
+use Rattle.std.specs.List.{flat_map}
 use Rattle.fc_board.specs.declared.rule.Variant.{Variant}
 use Rattle.fc_record.specs.Grammar.{Accepted, Reading, reading_of, Refused}
 use Rattle.fc_record.specs.Printing.{is_refused, printed, printed_by, refuses, show_lines}
 use Rattle.fc_record.specs.RecordTexts.{RecordText}
 use Rattle.fc_collect.proofs.GroupLemmas.{has_none, has_one, together}
-use Rattle.fc_collect.specs.Groups.{belong_together, groups_of, if_accepted, leaders_after, Member}
-use Rattle.fc_collect.specs.Groups.{members_among, unique_lines, unique_output}
-use Rattle.fc_collect.specs.{inside.{member_of}, Records.{outputs_after}}
-use Rattle.fc_laws.proofs.PrintedRecordLemmas.{shown_once}
+use Rattle.fc_collect.{proofs.PrintedRecordLemmas.{shown_once}, specs.Groups.{belong_together}}
+use Rattle.fc_collect.specs.Groups.{groups_of, if_accepted, leaders_after, Member, members_among}
+use Rattle.fc_collect.specs.{Groups.{unique_lines, unique_output}, inside.{member_of}}
+use Rattle.fc_collect.specs.Records.{outputs_after}
 
 -- ---- leaders
 

@@ -31,15 +31,14 @@ use Rattle.fc_record.specs.Printing.{name_of, record_reason}
 use Rattle.fc_record.specs.{RecordTexts.{header_mark, RecordText}, Tables.{refusal_object}}
 use Rattle.fc_record.specs.declared.record.RecordFault.{RecordFault}
 use Rattle.fc_record.specs.declared.record.RecordFaultKind.{RecordFaultKind}
+use Rattle.fc_collect.proofs.AcceptanceLemmas.{IsFaulty-from_refused}
 use Rattle.fc_collect.specs.Groups.{figures, figures_object, Member}
 use Rattle.fc_collect.specs.declared.streams.faults.Summary.{Summary}
-use Rattle.fc_laws.proofs.{AcceptanceLemmas.{IsFaulty-from_refused}, JsonLemmas.{a_number}}
-use Rattle.fc_laws.proofs.JsonLemmas.{a_string, AreFlat, codes_high, decimal_is_high, IsHigh}
-use Rattle.fc_laws.proofs.JsonLemmas.{letter_high, members_of, name_high, no_more, object-document}
-use Rattle.fc_laws.proofs.JsonLemmas.{one_more}
+use Rattle.fc_laws.proofs.JsonLemmas.{a_number, a_string, AreFlat, codes_high, decimal_is_high}
+use Rattle.fc_laws.proofs.JsonLemmas.{IsHigh, letter_high, members_of, name_high, no_more}
+use Rattle.fc_laws.proofs.JsonLemmas.{object-document, one_more}
 use Rattle.fc_record.specs.declared.record.RecordFaultKind.TheVariants as kind
-use Rattle.fc_collect.proofs.ShareLemmas.{find-All}
-use Rattle.fc_laws.proofs.HeaderSaysLemmas.{ok-from_HeaderSays}
+use Rattle.fc_collect.proofs.{HeaderSaysLemmas.{ok-from_HeaderSays}, ShareLemmas.{find-All}}
 
 -- ---- a missing card is one of the deck
 

@@ -7,18 +7,18 @@ use Rattle.std.proofs.lemmas.List.{Elements.{All-tail, All-weaker}, map-append}
 use Rattle.std.{proofs.lemmas.List.Sums.{sum_by-append}, specs.List.{count_by, flat_map}}
 use Rattle.fc_board.proofs.BoardLemmas.{All-left, All-right}
 use Rattle.fc_record.specs.RecordTexts.{ends_line, header_mark, RecordText}
-use Rattle.fc_collect.proofs.PrintingLemmas.{next_number-records, records_among-append}
-use Rattle.fc_collect.proofs.RecordLemmas.{begun-number, begun-place, cut-append, cut-induction}
-use Rattle.fc_collect.{proofs.RecordLemmas.{records_among-last}, specs.Limits.{most_record_bytes}}
-use Rattle.fc_collect.specs.Pieces.{IsPiece, outputs_of_pieces, placed_after}
-use Rattle.fc_collect.specs.{Promises.{IsSmall, IsWithinLimits}, Records.{begins_header, begun}}
-use Rattle.fc_collect.specs.Records.{begun_by, cut, finished, finished_by, finished_from}
-use Rattle.fc_collect.specs.Records.{finished_records, first_of, if_record, limits_after, longer}
-use Rattle.fc_collect.specs.Records.{next_number, next_text, nothing, records_among, records_from}
-use Rattle.fc_collect.specs.Records.{records_of}
+use Rattle.fc_collect.{
+  proofs.JoiningLemmas.{begun-ends_from, cut-after, next_text-after as next_text-placed},
+  proofs.JoiningLemmas.{records_among-after},
+  proofs.PrintingLemmas.{next_number-records, records_among-append},
+  proofs.RecordLemmas.{begun-number, begun-place, cut-append, cut-induction, records_among-last},
+  specs.{Limits.{most_record_bytes}, Pieces.{IsPiece, outputs_of_pieces, placed_after}},
+  specs.{Promises.{IsSmall, IsWithinLimits}, Records.{begins_header, begun, begun_by, cut}},
+  specs.Records.{finished, finished_by, finished_from, finished_records, first_of, if_record},
+  specs.Records.{limits_after, longer, next_number, next_text, nothing, records_among},
+  specs.Records.{records_from, records_of},
+}
 use Rattle.fc_collect.specs.declared.streams.limits.Limits.{Limits}
-use Rattle.fc_laws.proofs.JoiningLemmas.{begun-ends_from, cut-after}
-use Rattle.fc_laws.proofs.JoiningLemmas.{next_text-after as next_text-placed, records_among-after}
 
 module _ (limits : Limits) (x : List ℕ) (ended : ends_line x ≡ true) where
   abbrev last : RecordText

@@ -7,12 +7,11 @@ use Rattle.{fc_canon.specs.{Equivalent}, fc_record.specs.declared.record.RecordF
 use Rattle.fc_record.specs.Grammar.{Accepted, Contents, Heading, Reading, reading_of, Refused}
 use Rattle.fc_record.specs.Printing.{name_of, passage_words, printed, printed_by, refusal_line}
 use Rattle.fc_record.specs.RecordTexts.{RecordText}
-use Rattle.fc_collect.proofs.PrintingLemmas.{outputs_after-append}
-use Rattle.fc_collect.proofs.SameLemmas.{passage-carries, passage-none}
-use Rattle.fc_collect.specs.Groups.{Member, members_among}
-use Rattle.fc_collect.specs.Runs.{passage_found, passage_to, same_lines, same_output}
-use Rattle.fc_laws.proofs.AcceptanceLemmas.{Says-from_accepted}
-use Rattle.fc_laws.proofs.MemberLemmas.{member-IsWellFormed}
+use Rattle.fc_collect.{
+  proofs.{AcceptanceLemmas.{Says-from_accepted}, MemberLemmas.{member-IsWellFormed}},
+  proofs.{PrintingLemmas.{outputs_after-append}, SameLemmas.{passage-carries, passage-none}},
+  specs.{Groups.{Member, members_among}, Runs.{passage_found, passage_to, same_lines, same_output}},
+}
 
 module _ (variant : Variant) (records : List RecordText) (text : RecordText) where
   abbrev before : List ℕ

@@ -24,11 +24,10 @@ use Rattle.fc_record.specs.{Grammar.{begins_with, Contents, Heading}, Printing.{
 use Rattle.fc_record.specs.{RecordTexts.{header_mark}, Tables.{column_names, first_win, is_win}}
 use Rattle.fc_record.specs.Tables.{json_object, json_string, json_values, number_or_null}
 use Rattle.fc_record.specs.Tables.{side_by_side, table_fields, table_line, table_object}
-use Rattle.fc_collect.{proofs.KeyedLemmas.{chosen, text_is}, specs.Groups.{belong_together}}
-use Rattle.fc_collect.specs.Groups.{canonical_text, Member, members_among, passage_of}
-use Rattle.fc_collect.specs.{inside.{HasBoard}, Records.{records_of}}
-use Rattle.fc_laws.proofs.HeaderSaysLemmas.{ok-from_HeaderSays}
-use Rattle.fc_laws.proofs.MemberLemmas.{member-IsWellFormed, member-said}
+use Rattle.fc_collect.proofs.{HeaderSaysLemmas.{ok-from_HeaderSays}, KeyedLemmas.{chosen, text_is}}
+use Rattle.fc_collect.proofs.MemberLemmas.{member-IsWellFormed, member-said}
+use Rattle.fc_collect.specs.Groups.{belong_together, canonical_text, Member, members_among}
+use Rattle.fc_collect.specs.{Groups.{passage_of}, inside.{HasBoard}, Records.{records_of}}
 use Rattle.fc_laws.proofs.SideBySideLemmas.{IsBoardText, side_by_side-apart, side_by_side-cmp}
 use Rattle.fc_laws.proofs.SideBySideLemmas.{side_by_side-high}
 use Rattle.fc_laws.proofs.SolutionLemmas.{at-Contains, passes-Wins, Wins-passes}

@@ -15,8 +15,8 @@ use Rattle.clap.specs.declared.error.kind.ErrorKind.TheVariants.{UnknownArgument
 use Rattle.fc_board.specs.declared.rule.Variant.TheVariants.{BakersGame, EightOff, FreeCell}
 use Rattle.fc_board.specs.declared.rule.Variant.{Variant}
 use Rattle.fc_collect.specs.{declared.commands.Format.TheVariants.{Header, Json}, Limits.{largest}}
-use Rattle.fc_import.specs.declared.changes.Noted.{Noted, TheVariants.{Changes, Strict}}
-use Rattle.fc_import.specs.declared.layout.LinesAre.{LinesAre, TheVariants.{Columns, Rows}}
+use Rattle.fc_import.specs.declared.options.Noted.{Noted, TheVariants.{Changes, Strict}}
+use Rattle.fc_import.specs.declared.options.LinesAre.{LinesAre, TheVariants.{Columns, Rows}}
 use Rattle.fc_tool.specs.{command_of, deal_request, dealt_names, limits_from, plain_options}
 use Rattle.fc_tool.specs.{plain_request, program, reading_request, request_of, TakesAlone}
 use Rattle.fc_tool.specs.{variant_names}

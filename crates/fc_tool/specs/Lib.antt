@@ -22,8 +22,8 @@ use Rattle.fc_collect.specs.declared.commands.Format.{Format, TheVariants.{Heade
 use Rattle.fc_collect.specs.declared.commands.RunKind.{RunKind}
 use Rattle.fc_collect.specs.declared.streams.faults.{RunFault.{RunFault}, Summary.{Summary}}
 use Rattle.fc_collect.specs.declared.streams.limits.Limits.{Limits}
-use Rattle.fc_import.specs.declared.changes.Noted.{Noted, TheVariants.{Changes, Doubts, Strict}}
-use Rattle.fc_import.specs.declared.layout.LinesAre.{LinesAre, TheVariants.{Columns, Rows, Unsaid}}
+use Rattle.fc_import.specs.declared.options.LinesAre.{LinesAre, TheVariants.{Columns, Rows, Unsaid}}
+use Rattle.fc_import.specs.declared.options.Noted.{Noted, TheVariants.{Changes, Doubts, Strict}}
 use Rattle.fc_tool.specs.declared.program.{DealtGame.{DealtGame}, Job.{Job}}
 use Rattle.fc_tool.specs.declared.request.{Options.{Options}, Request.{Request}, Task.{Task}}
 use Rattle.fc_tool.specs.declared.request.Task.TheVariants.{Canon, Check, Closed, Count, Deal}
@@ -355,7 +355,7 @@ EndsRun limits said Fits input ended = (result : Result Summary RunFault) × (en
 -- how a job ended, or that there was none
 abbrev pub EndsJob : {R W : Type 0} → Option Job → Stream R → Ended W → Type 0
 EndsJob (Some (job.Run kind variant limits)) input ended = EndsRun limits [] (ResultFits limits (printing_of kind variant)) input ended
-EndsJob (Some (job.Import variant lines_are noted)) input ended = (said : List ℕ) × EndsRun standard said (ImportFits variant noted said) input ended
+EndsJob (Some (job.Import variant lines_are noted)) input ended = (said : List ℕ) × EndsRun standard said (ImportFits variant (record { lines_are = lines_are; noted = noted }) said) input ended
 EndsJob (Some (job.Deal game number)) input ended = (input.new ≡ input.old) × EndsDeal game number ended
 EndsJob None input ended = (input.new ≡ input.old) × (ended.output.new ≡ ended.output.old) × (ended.status ≡ 2)
 

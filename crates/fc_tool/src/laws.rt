@@ -20,8 +20,8 @@ ghost use Rattle.fc_collect.specs.declared.commands.Format.TheVariants.{Header, 
 ghost use Rattle.fc_collect.specs.declared.commands.RunKind.{RunKind};
 ghost use Rattle.fc_collect.specs.declared.commands.RunKind.TheVariants as runs;
 ghost use Rattle.fc_collect.specs.declared.streams.faults.{RunFault.{RunFault}, Summary.{Summary}};
-ghost use Rattle.fc_import.specs.declared.changes.Noted.TheVariants.{Changes, Strict};
-ghost use Rattle.fc_import.specs.declared.layout.LinesAre.TheVariants.{Columns, Rows};
+ghost use Rattle.fc_import.specs.declared.options.LinesAre.TheVariants.{Columns, Rows};
+ghost use Rattle.fc_import.specs.declared.options.Noted.TheVariants.{Changes, Strict};
 ghost use Rattle.fc_tool.specs.{command_of, deal_request, EndsDealing, EndsProgram, fault_line};
 ghost use Rattle.fc_tool.specs.{job_of, limits_from, plain_options, plain_request, reading_request};
 ghost use Rattle.fc_tool.specs.{Reads, run_of_task, status_of, TriesToWrite};

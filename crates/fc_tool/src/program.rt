@@ -21,7 +21,7 @@ use fc_collect::{
     Counted, Limits, RunFault, RunKind, Seed, Summary, Variant, run_within, write_bytes, write_text,
 };
 use fc_deal::{DealFault, Numbered, deal_board};
-use fc_import::{LinesAre, Noted, run_import};
+use fc_import::{ImportOptions, LinesAre, Noted, run_import};
 use fc_text::write_board;
 use std::alloc::Global;
 use std::io::{self, Read, Write};
@@ -205,7 +205,8 @@ fn run_job<Rd: Read, Wr: Write, Er: Write>(
 {
     let ending = match job {
         Some(Job::Import(variant, lines_are, noted)) => {
-            return import(alloc, variant, lines_are, noted, input, output, errors);
+            let options = ImportOptions { lines_are, noted };
+            return import(alloc, variant, options, input, output, errors);
         }
         Some(Job::Run(kind, variant, limits)) => {
             finish(&run_within(alloc, kind, variant, limits, seed, input, output))
@@ -220,8 +221,7 @@ fn run_job<Rd: Read, Wr: Write, Er: Write>(
 fn import<Rd: Read, Wr: Write, Er: Write>(
     alloc: Global,
     variant: Variant,
-    lines_are: LinesAre,
-    noted: Noted,
+    options: ImportOptions,
     input: &mut Counted<Rd>,
     output: &mut Counted<Wr>,
     errors: &mut Counted<Er>,
@@ -230,7 +230,7 @@ fn import<Rd: Read, Wr: Write, Er: Write>(
     requires output_low { HasRoom output.old }
     requires errors_low { HasRoom errors.old }
     ensures { (message : List ℕ) × ((said : List ℕ)
-        × EndsRun standard said (ImportFits variant noted said)
+        × EndsRun standard said (ImportFits variant options said)
         (record { bytes = Rd.remaining; old = input.old; new = input.new })
         (record {
           output = record { bytes = Wr.contents; old = output.old; new = output.new };
@@ -241,7 +241,7 @@ fn import<Rd: Read, Wr: Write, Er: Write>(
         (record { bytes = Er.contents; old = errors.old; new = errors.new }) message }
 {
     let mut said = Vec::new(alloc);
-    let outcome = run_import(alloc, variant, lines_are, noted, input, output, &mut said);
+    let outcome = run_import(alloc, variant, options, input, output, &mut said);
     let ending = finish(&outcome);
     let line = ending.line.as_str().as_bytes();
     let _ = say_notes(said.as_slice(), line, errors);

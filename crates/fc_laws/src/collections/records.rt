@@ -123,8 +123,8 @@ pub fn pieces_are_joined()
         × IsWithinLimits (limits_after limits x) (header_mark ∷ y)) }
 {}
 
-/// So what `show`, `canon`, `check`, `expand` and `table` print for the pieces is joined to what
-/// they print for the whole.
+/// So what `show`, `canon`, `check`, `expand`, `symmetries` and `table` print for the pieces is
+/// joined to what they print for the whole.
 pub fn outputs_of_pieces_are_joined()
     ensures two { (limits : Limits) (x : List ℕ) → ends_line x ≡ true
         → (output_of : RecordText → List ℕ) (y : List ℕ)

@@ -14,8 +14,8 @@ loop-at-init g c = record {
     c.new.ensures.written,
     c.new.ensures.notes,
   );
-  so_far = subst (λ noted. IsMade {R = g.row.R.Denot} g.R.Rule.VARIANT noted g.R.Rule.game [] c.new.result)
-      (sym c.new.ensures.noted) c.new.ensures.made;
+  so_far = subst (λ options. IsMade {R = g.row.R.Denot} g.R.Rule.VARIANT options g.R.Rule.game [] c.new.result)
+      (sym c.new.ensures.options) c.new.ensures.made;
 }
 
 pub loop-at-preserved : goal.loop-at-preserved
@@ -42,7 +42,7 @@ loop-at-preserved g c =
                 ∙ sym (take-add at len text),
             first.notes ∙ notes,
           );
-      so_far = subst (λ text. IsMade {R = g.row.R.Denot} g.R.Rule.VARIANT c.new.result.noted g.R.Rule.game text new)
+      so_far = subst (λ text. IsMade {R = g.row.R.Denot} g.R.Rule.VARIANT c.new.result.options g.R.Rule.game text new)
           (sym (take-add at len text))
-          (taken.takes c.new.result.noted (take at text) ends c.loop-at.invariant.so_far);
+          (taken.takes c.new.result.options (take at text) ends c.loop-at.invariant.so_far);
     }

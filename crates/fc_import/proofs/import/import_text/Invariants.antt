@@ -9,7 +9,7 @@ invariant-loop-at g l = record {
   kept : IsPrinted g.R.Rule.VARIANT g.R.Rule.game None l.text
       → IsPrinted g.R.Rule.VARIANT g.R.Rule.game l.importer.made.last (drop l.at l.text)
       × (l.importer.made.written.items ≡ take l.at l.text) × (l.importer.made.notes.items ≡ []);
-  so_far : IsMade g.R.Rule.VARIANT l.initial.importer.made.noted g.R.Rule.game (take l.at l.text) l.importer.made;
+  so_far : IsMade g.R.Rule.VARIANT l.initial.importer.made.options g.R.Rule.game (take l.at l.text) l.importer.made;
 }
 
 abbrev pub decreases-loop-at : goal.decreases-loop-at

@@ -2,4 +2,4 @@ use Rattle.{fc_import.proofs.StrictLemmas.{silent_makes}, std.proofs.Common.{ref
 use Rattle.fc_import.proofs.laws.changes_are_noted_beside_doubts.Goals as goal
 
 pub returns : goal.returns
-returns c = λ variant noted bytes made summary makes. silent_makes makes refl
+returns c = λ variant options bytes made summary makes. silent_makes makes refl

@@ -1,5 +1,5 @@
+use Rattle.fc_collect.proofs.MemberLemmas.{member-Can, member-IsWellFormed, one_of_a_number}
 use Rattle.fc_collect.specs.Records.{records_of}
-use Rattle.fc_laws.proofs.MemberLemmas.{member-Can, member-IsWellFormed, one_of_a_number}
 use Rattle.fc_laws.proofs.collections.groups.accepted_records_are_sound.Goals as goal
 
 pub returns-clause-boards : goal.returns-clause-boards

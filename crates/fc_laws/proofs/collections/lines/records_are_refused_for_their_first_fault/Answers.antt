@@ -1,4 +1,4 @@
-use Rattle.fc_laws.proofs.AcceptanceLemmas.{IsFaulty-from_refused, refused-from_IsFaulty}
+use Rattle.fc_collect.proofs.AcceptanceLemmas.{IsFaulty-from_refused, refused-from_IsFaulty}
 use Rattle.fc_laws.proofs.collections.lines.records_are_refused_for_their_first_fault.Goals as goal
 
 pub returns : goal.returns

@@ -1,4 +1,4 @@
-use Rattle.fc_laws.proofs.PrintedRecordLemmas.{shown-with_header, shown-without_header}
+use Rattle.fc_collect.proofs.PrintedRecordLemmas.{shown-with_header, shown-without_header}
 use Rattle.fc_laws.proofs.collections.lines.shown_records_are_read_again.Goals as goal
 
 pub returns : goal.returns

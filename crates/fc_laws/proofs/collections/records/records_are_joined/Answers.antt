@@ -1,4 +1,4 @@
-use Rattle.fc_laws.proofs.JoiningLemmas.{records-joined, texts-joined}
+use Rattle.fc_collect.proofs.JoiningLemmas.{records-joined, texts-joined}
 use Rattle.fc_laws.proofs.collections.records.records_are_joined.Goals as goal
 
 pub returns : goal.returns

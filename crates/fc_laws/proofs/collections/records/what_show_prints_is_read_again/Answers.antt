@@ -1,4 +1,4 @@
-use Rattle.fc_laws.proofs.PrintedRecordLemmas.{shown-bytes, shown-records}
+use Rattle.fc_collect.proofs.PrintedRecordLemmas.{shown-bytes, shown-records}
 use Rattle.fc_laws.proofs.collections.records.what_show_prints_is_read_again.Goals as goal
 
 pub returns : goal.returns

@@ -2,9 +2,9 @@
 use Rattle.std.proofs.Common.{◌++◌, ◌+◌, ◌-◌, ◌∙◌, ◌∷◌, ◌≡◌, ◌≤◌, [], All, ap, append-nil}
 use Rattle.std.proofs.Common.{append_assoc, arith, Bool, codes, cond, Contains, drop, false}
 use Rattle.std.proofs.Common.{if◌then◌else◌, length, List, map, None, Option, refl, Some, subst}
-use Rattle.std.proofs.{Common.{sym, true, ℕ}}
-use Rattle.std.proofs.lemmas.List.Elements.{All-contains_itself, All-head, All-tail}
-use Rattle.std.proofs.lemmas.List.{Elements.{All-weaker}, Folds.{find-append}}
+use Rattle.std.proofs.Common.{sym, true, ℕ}
+use Rattle.std.proofs.lemmas.List.Elements.{All-contains_itself, All-head, All-tail, All-weaker}
+use Rattle.std.proofs.lemmas.List.Folds.{find-append}
 use Rattle.std.{proofs.Math.Seq.{drop-append_seam, take-append_seam}, specs.Fmt.{decimal}}
 use Rattle.std.specs.{List.{find, flat_map}, Option.{option_map, unwrap_or}}
 use Rattle.fc_board.specs.{Boards.{Board, IsWellFormed}, Games.{Game, game_of, variant_word}}
@@ -16,8 +16,8 @@ use Rattle.fc_text.proofs.PrintLemmas.{print-Listed, print_runs-Listed}
 use Rattle.fc_text.proofs.WordLemmas.{after_separator, words_from-moved}
 use Rattle.fc_text.specs.{Bytes.{blank, line_feed}, Lines.{lines_from, moved, Piece, words_from}}
 use Rattle.fc_text.specs.Notation.{IsRunToken, IsToken, Listed, print, separates_tokens}
-use Rattle.fc_text.specs.{Printed.{column_line, text_of}}
-use Rattle.fc_text.specs.{Rows.{is_empty, line_of}, Spelling.{Spells}}
+use Rattle.fc_text.specs.{Printed.{column_line, text_of}, Rows.{is_empty, line_of}}
+use Rattle.fc_text.specs.Spelling.{Spells}
 use Rattle.fc_record.proofs.{ContentsLemmas.{begins_list}, HeadingLemmas.{given_name, header_gone}}
 use Rattle.fc_record.proofs.HeadingLemmas.{header_read, heading_said, in_line, IsGiven, IsHeading}
 use Rattle.fc_record.proofs.HeadingLemmas.{named, numbered, unnamed, without}
@@ -29,17 +29,17 @@ use Rattle.fc_record.specs.Grammar.{Accepted, after_header, AreLists, begins_wit
 use Rattle.fc_record.specs.Grammar.{Contents, Heading, IsList, list_lines, list_mark, lists_start}
 use Rattle.fc_record.specs.Grammar.{next_list, no_header, no_lines, Reading, reading_of}
 use Rattle.fc_record.specs.{Grammar.{with_header, without_header}, Printing.{after_blank}}
-use Rattle.fc_record.specs.Printing.{header_text, heading_line, list_line, name_of}
-use Rattle.fc_record.specs.{Printing.{printed, show_lines}, RecordTexts.{header_mark, RecordText}}
+use Rattle.fc_record.specs.Printing.{header_text, heading_line, list_line, name_of, printed}
+use Rattle.fc_record.specs.{Printing.{show_lines}, RecordTexts.{header_mark, RecordText}}
+use Rattle.fc_collect.proofs.AcceptanceLemmas.{accepted-from_Says, Says-from_accepted}
+use Rattle.fc_collect.proofs.HeaderLemmas.{marks, marks-lines, starts_of}
+use Rattle.fc_collect.proofs.HeaderSaysLemmas.{HeaderSays-from_ok, ok-from_HeaderSays}
+use Rattle.fc_collect.proofs.{MemberLemmas.{CanPrint, lists_can}, ReadAgainLemmas.{all_again}}
+use Rattle.fc_collect.proofs.ReadAgainLemmas.{AreReadAs, IsReadAs, ReadsAgain, same_printed, Stays}
 use Rattle.fc_collect.proofs.ShareLemmas.{few_cells}
 use Rattle.fc_collect.specs.{Groups.{Member, members_among, name_of_member}, inside.{member_of}}
 use Rattle.fc_collect.specs.Limits.{most_countable}
 use Rattle.fc_collect.specs.Records.{has_content, output_of_records, records_of}
-use Rattle.fc_laws.proofs.AcceptanceLemmas.{accepted-from_Says, Says-from_accepted}
-use Rattle.fc_laws.proofs.HeaderLemmas.{marks, marks-lines, starts_of}
-use Rattle.fc_laws.proofs.HeaderSaysLemmas.{HeaderSays-from_ok, ok-from_HeaderSays}
-use Rattle.fc_laws.proofs.{MemberLemmas.{CanPrint, lists_can}, ReadAgainLemmas.{all_again}}
-use Rattle.fc_laws.proofs.ReadAgainLemmas.{AreReadAs, IsReadAs, ReadsAgain, same_printed, Stays}
 
 -- ---- the lines of lists
 

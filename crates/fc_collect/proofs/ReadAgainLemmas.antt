@@ -21,16 +21,15 @@ use Rattle.fc_record.specs.Printing.{name_of, printed, printed_by, record_reason
 use Rattle.fc_record.specs.RecordTexts.{ends_line, header_mark, RecordText}
 use Rattle.fc_record.specs.declared.record.RecordFault.{RecordFault}
 use Rattle.fc_record.specs.declared.record.RecordFaultKind.{RecordFaultKind}
-use Rattle.fc_collect.proofs.{LimitLemmas.{IsNumbered}, RecordLemmas.{begun-append, cut-induction}}
-use Rattle.fc_collect.proofs.RecordLemmas.{finished-append, records_of-last}
-use Rattle.fc_collect.specs.{Groups.{if_accepted, Member, members_among}, inside.{member_of}}
-use Rattle.fc_collect.specs.{Limits.{most_countable}, Pieces.{placed_after}, Records.{begun, cut}}
-use Rattle.fc_collect.specs.Records.{finished, finished_records, has_content, if_record, longer}
-use Rattle.fc_collect.specs.Records.{next_text, nothing, output_of_records, records_among}
-use Rattle.fc_collect.specs.Records.{records_of}
-use Rattle.fc_laws.proofs.CommentLemmas.{accepted-comment_after}
-use Rattle.fc_laws.proofs.HeaderLemmas.{marks, marks-lines}
-use Rattle.fc_laws.proofs.JoiningLemmas.{begun-ends_from, records-joined}
+use Rattle.fc_collect.{
+  proofs.{CommentLemmas.{accepted-comment_after}, HeaderLemmas.{marks, marks-lines}},
+  proofs.{JoiningLemmas.{begun-ends_from, records-joined}, LimitLemmas.{IsNumbered}},
+  proofs.RecordLemmas.{begun-append, cut-induction, finished-append, records_of-last},
+  specs.{Groups.{if_accepted, Member, members_among}, inside.{member_of}, Limits.{most_countable}},
+  specs.{Pieces.{placed_after}, Records.{begun, cut, finished, finished_records, has_content}},
+  specs.Records.{if_record, longer, next_text, nothing, output_of_records, records_among},
+  specs.Records.{records_of},
+}
 use Rattle.fc_record.specs.declared.record.RecordFaultKind.TheVariants as kind
 use Rattle.fc_board.specs.declared.rule.Variant.{Variant}
 use Rattle.fc_text.specs.declared.fault.BoardFaultKind.TheVariants.{BadCard, BadFoundation}

@@ -1,10 +1,9 @@
 -- A comment after an accepted record changes nothing of what it says.
 use Rattle.std.proofs.Common.{◌++◌, ◌+◌, ◌-◌, ◌==◌, ◌∙◌, ◌∷◌, ◌≡◌, ◌≤◌, [], All, ap, append_assoc}
-use Rattle.std.proofs.Common.{arith, Bool, cond, drop, false, length, length-append}
-use Rattle.std.proofs.Common.{List, None, not, Ok, Option, refl, Result, Some, take, true}
-use Rattle.std.proofs.{Common.{ℕ}, lemmas.List.{drop-append-le}}
-use Rattle.std.proofs.lemmas.List.{Elements.{All-cons, All-head, All-tail}, Folds.{find-append}}
-use Rattle.std.proofs.lemmas.{List.{take-append-le}, Option.{same_Some}}
+use Rattle.std.proofs.Common.{arith, Bool, cond, drop, false, length, length-append, List, None}
+use Rattle.std.proofs.Common.{not, Ok, Option, refl, Result, Some, take, true, ℕ}
+use Rattle.std.proofs.lemmas.List.{drop-append-le, Elements.{All-cons, All-head, All-tail}}
+use Rattle.std.proofs.lemmas.{List.{Folds.{find-append}, take-append-le}, Option.{same_Some}}
 use Rattle.std.proofs.Math.Seq.{drop-length, take-length}
 use Rattle.std.specs.List.{after_first, find, position_or_len}
 use Rattle.std.specs.Option.{option_map, option_or, unwrap_or}
@@ -24,8 +23,8 @@ use Rattle.fc_record.specs.Grammar.{is_line_feed, list_lines, lists_start, next_
 use Rattle.fc_record.specs.Grammar.{reading_of, skipped_line, without_header}
 use Rattle.fc_record.specs.RecordTexts.{ends_line, header_mark}
 use Rattle.fc_record.specs.declared.record.RecordFault.{RecordFault}
-use Rattle.fc_laws.proofs.AcceptanceLemmas.{accepted-from_Says, Says-from_accepted}
-use Rattle.fc_laws.proofs.HeaderSaysLemmas.{HeaderSays-from_ok, ok-from_HeaderSays}
+use Rattle.fc_collect.proofs.AcceptanceLemmas.{accepted-from_Says, Says-from_accepted}
+use Rattle.fc_collect.proofs.HeaderSaysLemmas.{HeaderSays-from_ok, ok-from_HeaderSays}
 
 -- ---- a comment after a record that is accepted changes nothing of what it says
 

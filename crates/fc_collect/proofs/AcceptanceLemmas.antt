@@ -22,9 +22,9 @@ use Rattle.fc_record.specs.Printing.{refuses}
 use Rattle.fc_record.specs.declared.record.RecordFault.{RecordFault}
 use Rattle.fc_record.specs.declared.record.RecordFaultKind.TheVariants.{StrayLine}
 use Rattle.fc_record.specs.declared.record.RecordFaultKind.TheVariants as kind
+use Rattle.fc_collect.proofs.HeaderSaysLemmas.{BadHeaderAt-from_err, err-from_BadHeaderAt}
+use Rattle.fc_collect.proofs.HeaderSaysLemmas.{HeaderSays-from_ok, ok-from_HeaderSays}
 use Rattle.fc_collect.proofs.ShareLemmas.{few_cells}
-use Rattle.fc_laws.proofs.HeaderSaysLemmas.{BadHeaderAt-from_err, err-from_BadHeaderAt}
-use Rattle.fc_laws.proofs.HeaderSaysLemmas.{HeaderSays-from_ok, ok-from_HeaderSays}
 
 not_ok : {X E : Type 0} {x : X} {e : E} → ◌≡◌ {A = Result X E} (Err e) (Ok x) → ⊥
 not_ok e = cc

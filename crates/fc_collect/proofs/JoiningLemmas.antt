@@ -4,6 +4,7 @@ use Rattle.std.proofs.Common.{arith, Bool, cond, drop, false, length, length-app
 use Rattle.std.proofs.{Common.{refl, sym, true, ℕ}, lemmas.Grind.{flat_map-append}}
 use Rattle.std.specs.List.{flat_map}
 use Rattle.fc_record.specs.RecordTexts.{ends_line, header_mark, RecordText}
+use Rattle.fc_collect.proofs.HeaderLemmas.{cut-header_starts}
 use Rattle.fc_collect.proofs.PrintingLemmas.{next_number-records, records_among-append}
 use Rattle.fc_collect.proofs.RecordLemmas.{begun-number, begun-place, cut-append, cut-induction}
 use Rattle.fc_collect.proofs.RecordLemmas.{finished-append, finished_output-append, mark_is}
@@ -13,7 +14,6 @@ use Rattle.fc_collect.specs.Records.{begins_header, begun, begun_by, cut, finish
 use Rattle.fc_collect.specs.Records.{finished_records, has_content, if_record, longer, next_number}
 use Rattle.fc_collect.specs.Records.{next_text, nothing, output_of_records, records_among}
 use Rattle.fc_collect.specs.Records.{records_of, whole_output}
-use Rattle.fc_laws.proofs.HeaderLemmas.{cut-header_starts}
 
 -- ---- whether a line has ended
 

@@ -1,0 +1,8 @@
+use Rattle.std.{proofs.Common.{◌++◌, ◌≡◌, drop}, specs.{List.{flat_map}, Option.{option_to_list}}}
+use Rattle.{fc_import.specs.Import.{in_row}, std.specs.Prelude.{slice_get}}
+use Rattle.fc_import.proofs.cards.put_row.Given as goal
+
+abbrev pub invariant-loop-index : goal.invariant-loop-index
+invariant-loop-index g l =
+    l.row.items ++ flat_map (λ column. option_to_list (slice_get column l.place)) (drop l.index l.board.columns)
+    ≡ in_row l.board l.place
