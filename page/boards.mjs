@@ -6,17 +6,17 @@ import { cardsByPile, cardText, HOMES, isColumn, keyAfter, pileKeys, renamed, su
 import { pileName } from './words.mjs';
 
 const TURN_MILLISECONDS = 150;
+const SIDEWAYS = 'perspective(30rem) rotateY(90deg)';
 const FLIGHT = { column: 330, card: 15, glide: 800, suits: 3_400, cells: 3_900 }; // milliseconds: what begins when
 const suitShapes = new Map([...SUITS].map((suit) => [suit, at(suit).firstChild.getAttribute('d')]));
 
-// A card that has this number on the record's own board; on other boards it may have another suit.
-function cardElement(own) {
-  const [rank] = cardText(own);
+// A card of this number's rank; its suit is that of the board.
+function cardElement(number) {
+  const [rank] = cardText(number);
   const index = element('span', { className: 'index' }, rank.replace('T', '10'), suitDrawing('pip'));
   const mark = 'JQK'.includes(rank) ? drawing(rank, 'mark') : suitDrawing('mark');
-  const card = element('div', { className: 'card' }, element('div', { className: 'face' }, index, mark));
-  card.dataset.own = own;
-  return card;
+  const stripe = element('i', { className: 'stripe' });
+  return element('div', { className: 'card' }, element('div', { className: 'face' }, stripe, index, mark));
 }
 
 // A pile, where cells and homes fill so many bands above the columns.
@@ -38,20 +38,16 @@ function showSuit(card, suit) {
   for (const path of face.querySelectorAll('path')) path.setAttribute('d', suitShapes.get(suit));
 }
 
-// Turns a card over to the suit that it has now.
 async function turnCard(card, delay) {
   const face = card.firstChild;
   const half = (transform, more) => face.animate({ transform }, { duration: TURN_MILLISECONDS, ...more }).finished;
-  await half(['none', 'rotateY(90deg)'], { delay, easing: 'ease-in' });
+  await half(['none', SIDEWAYS], { delay, easing: 'ease-in' });
   showSuit(card, card.dataset.card[1]);
-  await half(['rotateY(90deg)', 'none'], { easing: 'ease-out' });
+  await half([SIDEWAYS, 'none'], { easing: 'ease-out' });
 }
 
-// Keeps a card above the others for a while.
-function raise(card, level, duration) {
-  const zIndex = level + Number(card.dataset.row);
-  card.animate({ zIndex: [zIndex, zIndex] }, { duration });
-}
+const raise = (card, level, duration) =>
+  card.animate({ zIndex: [level, level].map((it) => it + Number(card.dataset.row)) }, { duration });
 
 export class BoardView {
   constructor(holder) {
@@ -63,7 +59,6 @@ export class BoardView {
     holder.replaceChildren(this.table);
   }
 
-  // Lays the piles of a game.
   lay(game) {
     if (game === this.game) return;
     this.game = game;
@@ -75,47 +70,47 @@ export class BoardView {
   }
 
   // Draws a board to which the passage leads from the record's own one. Cards fly, one column after another where a
-  // stagger is given, and turn where their suits are others. Of each pile as many cards can be gripped as a move takes.
-  // A column and its cards have the colour of its place on the right board, which is said where it is another one.
+  // stagger is given, and turn where their suits are others. A column has the colour of its place on the right board.
   draw({ game, board, passage, label, wordsOf, placeOf, grips, stagger = 0, most }) {
     const isFirst = this.game === null;
     this.lay(game);
     this.passage = passage;
     this.holder.ariaLabel = label;
-    this.table.style.setProperty('--most', most);
+    if (this.table.style.getPropertyValue('--most') !== `${most}`) this.table.style.setProperty('--most', most);
     this.table.classList.toggle('slow', stagger > 0);
     for (const [key, cards] of cardsByPile(game, board)) {
       const pile = this.piles.get(key);
-      const place = pile.dataset.place = placeOf(key);
+      const place = pile.firstChild.dataset.place = placeOf(key);
       pile.firstChild.lastChild.textContent = place && place !== key ? `→${place}` : '';
       pile.ariaLabel = pile.words = wordsOf(key, cards);
       const squeeze = key < '9' ? Math.min(1, most / Math.max(1, cards.length - 1)) : 0;
       cards.forEach((card, row) => {
-        const made = this.cards[card - suitOf(card) + passage.subarray(0, 4).indexOf(suitOf(card)) - 1];
+        const own = card - suitOf(card) + passage.indexOf(suitOf(card));
+        const made = this.cards[(prefersStill.matches ? card : own) - 1]; // what does not fly keeps its suit
         const left = cards.length - row; // from this card on
         const classes = { home: key[0] === 'h', last: left === 1 && key[0] !== 'h', grip: left <= grips.get(key) };
-        const now = { card: cardText(card), key, row, place };
-        const drawn = [pile.x, pile.y, squeeze * row, ...Object.values(now), ...Object.values(classes)].join();
+        const now = { own, card: cardText(card), key, row };
+        const drawn = [pile.x, pile.y, squeeze * row, place, ...Object.values(now), ...Object.values(classes)].join();
         if (made.drawn === drawn) return;  // it stays as it is
         made.drawn = drawn;
         for (const [name, isSo] of Object.entries(classes)) made.classList.toggle(name, isSo);
+        made.firstChild.firstChild.dataset.place = place;
         placeAt(made, pile.x, pile.y, squeeze * row);
         this.move(made, now, stagger * pile.x, isFirst || prefersStill.matches);
       });
     }
   }
 
-  // What is seen of a card that comes to another place, or to another suit.
   move(made, now, delay, isStill) {
-    const before = { ...made.dataset };
-    Object.assign(made.dataset, now);
+    const { before } = made;
+    Object.assign(made.dataset, made.before = now);
     if (!isStill) made.style.setProperty('--delay', `${delay}ms`);
     made.style.zIndex = now.row;
-    if (before.card !== now.card) {
+    if (before?.card !== now.card) {
       if (isStill) showSuit(made, now.card[1]);
       else turnCard(made, delay);
     }
-    if (before.key !== now.key && !isStill) raise(made, 200, 500 + delay);
+    if (before?.key !== now.key && !isStill && !this.table.matches('.slow')) raise(made, 200, 500);
   }
 
   // The cards glide here from where they are on another drawn board, over a ghost of this one: one column after
@@ -144,7 +139,6 @@ export class BoardView {
     ghost.remove();
   }
 
-  // Cards that glide here land at once.
   land() {
     const isGliding = this.table.firstChild?.className === 'ghost';
     for (const it of isGliding ? this.table.getAnimations({ subtree: true }) : []) it.finish();

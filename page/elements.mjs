@@ -1,6 +1,5 @@
 // Elements of the page.
 
-// The element of a name, of whatever kind it is.
 /** @type {(id: string) => any} */
 export const at = (id) => document.getElementById(id);
 export const prefersStill = matchMedia('(prefers-reduced-motion: reduce)');
@@ -12,7 +11,6 @@ export function element(name, properties, ...children) {
   return made;
 }
 
-// An element of a drawing with these attributes.
 export function shape(name, attributes, ...children) {
   const made = document.createElementNS('http://www.w3.org/2000/svg', name);
   for (const [key, value] of Object.entries(attributes)) made.setAttribute(key, value);
@@ -20,13 +18,11 @@ export function shape(name, attributes, ...children) {
   return made;
 }
 
-// A drawing that is in the page as a symbol.
 export const drawing = (name, className) => shape('svg', { class: className }, shape('use', { href: `#${name}` }));
 
 // A drawing of a suit, which may become another one: what a `use` shows is made anew when that changes.
 export const suitDrawing = (className) => shape('svg', { class: className, viewBox: '0 0 100 100' }, shape('path', {}));
 
-// Listens to events of an element, or of the window.
 export function listen(target, acts) {
   for (const [event, act] of Object.entries(acts)) target.addEventListener(event, act);
 }
@@ -43,6 +39,21 @@ export function fill(id, name, words, values = []) {
   if (at(id).innerHTML !== items.map((it) => it.outerHTML).join('')) at(id).replaceChildren(...items);
 }
 
+// Puts these elements into another one, which keeps what it has of them where it is.
+export function put(holder, wanted) {
+  for (const it of [...holder.children]) if (!wanted.includes(it)) it.remove();
+  wanted.forEach((it, place) => { if (holder.children[place] !== it) holder.insertBefore(it, holder.children[place]); });
+}
+
+const drawnOf = new Map(); // what is drawn, by what it was drawn of
+
+// Whether something is to be drawn anew: one of the things that it is drawn of is another one.
+export function isNew(name, ...things) {
+  const before = drawnOf.get(name);
+  drawnOf.set(name, things);
+  return !before || things.some((it, place) => it !== before[place]);
+}
+
 // Names a button; on narrow screens the rest of its name is not shown.
 export const nameButton = (id, word, rest = '') =>
   at(id).replaceChildren(word, element('span', { className: 'long' }, rest));
@@ -57,13 +68,11 @@ export function hide(id, isHidden) {
   if (hadFocus) at('shuffle').focus({ preventScroll: true });
 }
 
-// Says what was done, or why it was not.
 export function say(words, isBad = false) {
   write('counter', words, isBad);
   if (!prefersStill.matches && words !== '') at('counter').animate({ opacity: [.3, 1] }, { duration: 250 });
 }
 
-// Copies a text, and says so, or why not.
 export async function copy(id, text) {
   try {
     await navigator.clipboard.writeText(text);
@@ -73,7 +82,6 @@ export async function copy(id, text) {
   }
 }
 
-// Saves a file of these parts.
 export function download(parts, name) {
   const link = element('a', { href: URL.createObjectURL(new Blob(parts, { type: 'text/plain' })), download: name });
   link.click();

@@ -3,7 +3,7 @@
 import { SUITS, wordsOf } from '../bindings/javascript/calls.js';
 import { makeMove, shuffle } from './actions.mjs';
 import { at, hide, listen, say, setIdle, write } from './elements.mjs';
-import { fcanon } from './library.mjs';
+import { fcanon, listOf, moveOf } from './library.mjs';
 import { areEqual, cardsByPile, isColumn, keyAfter, keyBefore, pileKeys, renamed, suitOf } from './passages.mjs';
 import { shown } from './shown.mjs';
 import { redo, store, undo } from './store.mjs';
@@ -15,10 +15,9 @@ const DRAG_PIXELS = 6; // a shorter way is a press
 // Cards of a pile of the record's own board, by that board's keys: how many a move can take, and where these may go.
 let held = null;
 
-// What the library says of a move on the record's own board.
 function tryMove(from, to, count, sign = '>>') {
-  const move = Uint8Array.of(from.charCodeAt(0), to.charCodeAt(0), count);
-  return { ...fcanon.play(shown.record.game, shown.sides.own, { sign, bytes: move }), move };
+  const move = moveOf(from, to, count);
+  return { ...fcanon.play(shown.record.game, shown.sides.own, { ...listOf(move), sign }), move };
 }
 
 // The move of so many cards, or of as many as the ranks say where count is 0; in its short form where that is the same.
@@ -28,8 +27,6 @@ function moveOfCards(from, to, count) {
   const short = count > 0 && isBetween && tried.answer === 0 ? tryMove(from, to, 0) : null;
   return short?.answer === 0 && areEqual(short.board, tried.board) ? short : tried;
 }
-
-// ---- holding
 
 const cardsOwn = (key) => cardsByPile(shown.record.game, shown.sides.own).get(key);
 
@@ -46,7 +43,6 @@ function press(name, key, row = undefined) {
   if (isOther) take(name, own, row);
 }
 
-// Takes up the cards of a pile from a row on.
 function take(name, key, row) {
   const { length } = cardsOwn(key);
   if (key[0] === 'h') return say('Cards that are home stay there.');
@@ -79,11 +75,11 @@ export function holdMore(change) {
 }
 
 export function release() {
+  if (!held) return;
   held = null;
   drawHeld();
 }
 
-// Shows on both boards which cards are held and where they may go, and says it of each pile.
 function drawHeld() {
   const { cards, key, targets, most, count } = held ?? { cards: [], key: null, targets: [], most: 1, count: 1 };
   for (const view of Object.values(views)) {
@@ -101,27 +97,23 @@ function drawHeld() {
   setIdle('fewer-cards', count === 1 || most === 1);
 }
 
-// Brings the held cards to a pile, or says why they cannot go there.
 function drop(name, key) {
   const { record: { game }, sides: { own: board, [name]: { passage } } } = shown;
   const tried = moveOfCards(held.key, key[0], held.count);
   if (tried.answer === 0) return makeMove(tried.move);
-  const { answer } = held.cards.length === 1 ? tryMove(held.key, key[0], tried.move[2], '>') : tried;
-  const capacity = isColumn(key) ? fcanon.capacity(game, board, key.charCodeAt(0)) : 1;
-  say(refusalWords({ game, board, passage, cards: held.cards, key, reason: wordsOf(answer), capacity }), true);
+  const { answer } = held.cards.length === 1 ? tryMove(held.key, key[0], 0, '>') : tried;
+  say(refusalWords({ game, board, passage, cards: held.cards, key, reason: wordsOf(answer) }), true);
   release();
 }
 
 // Says all moves that the game allows on the left board; cells that are empty are alike, and so are such columns.
 export function sayMoves() {
   const { record: { game }, sides: { left: { board } } } = shown;
-  const words = (move) => moveWords(game, board, { sign: move[2] ? '>>' : '>', bytes: move })
+  const words = (move) => moveWords(game, board, { sign: move[2] ? '>>' : '>', moves: [move] })
     .replace(/ to cell .$/, ' to a cell').replace(/ to column .$/, ' to an empty column');
   const all = [...new Set(fcanon.moves(game, board).map(words))];
   write('legal', all.length === 0 ? 'No move is left.' : `Moves on the left board: ${all.join(', ')}.`);
 }
-
-// ---- the pointer
 
 const pressable = (target) => target?.closest?.('.card, .pile') ?? null;
 const sideOf = (it) => it?.closest('.board')?.id;
@@ -146,11 +138,10 @@ function listenToPointer({ holder }) {
     if (!held) grip = null;
     else if (event.isTrusted) holder.setPointerCapture(event.pointerId);
   };
-  const end = () => {
-    const isDrag = grip?.isDrag;
+  const end = (act) => {
     grip = null;
     drag(false, 0, 0);
-    return isDrag;
+    act();
   };
   listen(holder, {
     pointerdown: ({ target, button, isPrimary, clientX, clientY }) => {
@@ -165,14 +156,12 @@ function listenToPointer({ holder }) {
     },
     pointerup: (event) => {
       if (event.button !== 0 || !event.isPrimary) return;
-      if (end()) dropAt(event);
-      else if (!pressAt(event.target) && held) release();
+      end(grip?.isDrag ? () => dropAt(event) : () => pressAt(event.target) || release());
     },
-    pointercancel: () => { end(); release(); },
+    pointercancel: () => end(release),
   });
 }
 
-// Sets the dragged cards down where the pointer is.
 function dropAt({ clientX, clientY }) {
   const isTarget = (it) => pressable(it) && !it.closest('.held');
   const target = document.elementsFromPoint(clientX, clientY).find(isTarget);
@@ -182,7 +171,6 @@ function dropAt({ clientX, clientY }) {
   else pressAt(target);
 }
 
-// Lights a pile or a card, and its image.
 function light(name, target) {
   if (!shown) return;
   const it = pressable(target);
@@ -191,10 +179,7 @@ function light(name, target) {
   for (const view of Object.values(views)) view.mark('lit', cards, keys);
 }
 
-// ---- keys
-
-// The keys in a board: arrows lead from pile to pile, Enter and the blank take up cards and set them down; arrows with
-// Shift take one card more or one less.
+// The keys in a board: arrows lead from pile to pile, or with Shift take one card more or less; Enter and the blank turn.
 function walk(name, event) {
   const pile = event.target.closest('.pile');
   if (!pile || event.ctrlKey || event.metaKey || event.altKey) return;

@@ -7,35 +7,29 @@ export const [LINE_FEED, GREATER, AT_SIGN] = [10, 62, 64];
 export const asText = new TextDecoder('utf-8', { ignoreBOM: true });
 export const bytesOf = (text) => new TextEncoder().encode(text);
 
-// The text from a place on to the end of its line.
 export function restOfLine(bytes, place) {
   const end = bytes.indexOf(LINE_FEED, place);
   return asText.decode(bytes.subarray(place, end < 0 ? bytes.length : end));
 }
 
-function placesOfByte(bytes, byte, from = 0) {
+function placesOfByte(bytes, byte) {
   const places = [];
-  for (let at = bytes.indexOf(byte, from); at >= 0; at = bytes.indexOf(byte, at + 1)) places.push(at);
+  for (let at = bytes.indexOf(byte); at >= 0; at = bytes.indexOf(byte, at + 1)) places.push(at);
   return places;
 }
 
 export const countLines = (bytes) => placesOfByte(bytes, LINE_FEED).length;
 
 // Where headers begin: at each `@` that begins a line.
-export function headersIn(bytes, from = 0) {
-  const isFirst = (place) => place === 0 || bytes[place - 1] === LINE_FEED;
-  return placesOfByte(bytes, AT_SIGN, from).filter(isFirst);
-}
+export const headersIn = (bytes) =>
+  placesOfByte(bytes, AT_SIGN).filter((place) => place === 0 || bytes[place - 1] === LINE_FEED);
 
-// The lines of a part of a text that are neither blank nor comments: where each begins, and where it ends, without its
-// carriage return.
-export function linesIn(bytes, from, limit) {
-  const isSaid = ({ start, end }) => !/^[ \t]*(#|$)/.test(asText.decode(bytes.subarray(start, end)));
-  const starts = [from, ...placesOfByte(bytes.subarray(0, limit), LINE_FEED, from).map((place) => place + 1)];
-  const stops = [...starts.slice(1).map((start) => start - 1), limit];
-  const endOfLine = (stop) => (bytes[stop - 1] === CARRIAGE_RETURN ? stop - 1 : stop);
-  return starts.map((start, place) => ({ start, end: endOfLine(stops[place]) })).filter(isSaid);
-}
+// What is found in a text, in which each byte is a character: where it begins, and where it ends.
+const spansOf = (bytes, pattern) => Array.from(new TextDecoder('latin1').decode(bytes).matchAll(pattern),
+  ({ 0: { length }, index }) => ({ start: index, end: index + length }));
+
+// The lines of a text that are neither blank nor comments, without their carriage returns.
+export const linesIn = (bytes) => spansOf(bytes, /(?<=^|\n)[ \t]*[^\s#][^\n]*?(?=\r?(\n|$))/g);
 
 // Arrays as one, of the kind of the first one.
 export function joined(...parts) {
@@ -83,22 +77,12 @@ export function endingOf(bytes) {
   return first > 0 && bytes[first - 1] === CARRIAGE_RETURN ? '\r\n' : '\n';
 }
 
-// Where the lines of the field's text begin in the bytes.
-function startsOfLines(bytes) {
-  const starts = [0];
-  bytes.forEach((byte, at) => {
-    const isEnd = byte === LINE_FEED || (byte === CARRIAGE_RETURN && bytes[at + 1] !== LINE_FEED);
-    if (isEnd) starts.push(at + 1);
-  });
-  return starts;
-}
-
 // The bytes after the field's text was changed. Lines that were not touched keep their bytes.
 export function afterField(bytes, text) {
   const [before, after] = [fieldText(bytes).split('\n'), text.split('\n')];
   const { from, same } = commonOf(before.slice(0, -1), after.slice(0, -1));
   const kept = before.at(-1) === after.at(-1) ? same + 1 : 0; // lines at the end
-  const starts = [...startsOfLines(bytes), bytes.length];
+  const starts = [0, ...spansOf(bytes, /\r\n?|\n/g).map(({ end }) => end), bytes.length];
   const put = after.slice(from, after.length - kept).concat(kept > 0 ? '' : []).join(endingOf(bytes));
   return joined(bytes.subarray(0, starts[from]), bytesOf(put), bytes.subarray(starts[before.length - kept]));
 }

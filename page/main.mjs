@@ -3,19 +3,16 @@
 import { start } from '../bindings/javascript/calls.js';
 import { chooseGame, chooseList, keep, replace, shuffle, sort, stepTo, swap } from './actions.mjs';
 import { collection, read } from './collection.mjs';
-import { at, download, listen, nameButton, say, setIdle, write } from './elements.mjs';
+import { at, download, isNew, listen, nameButton, say, setIdle, write } from './elements.mjs';
 import { holdMore, release, sayMoves } from './hands.mjs';
+import { earlierState, forget, keepSoon, kept, layAside, linked, linkOf, LONGEST } from './keeping.mjs';
 import {
-  earlierState, forget, FORGETTING, keepSoon, kept, layAside, linked, linkOf, LONGEST,
-} from './keeping.mjs';
-import { bytesOf } from './lines.mjs';
-import {
-  chooseFound, copyBoard, copyCarried, copyList, deal, drawCarried, drawChosen, drawCollection, drawFound, drawShare,
-  drawText, openDropped, openFiles, paste, showCarried, typeText,
+  chooseFound, copyThis, deal, drawCarried, drawChosen, drawCollection, drawFound, drawShare,
+  drawText, knowDeals, openDropped, openFiles, paste, showCarried, typeText,
 } from './positions.mjs';
 import { answerAs, copyPrinted, drawImported, drawPrinted, importText, savePrinted } from './program.mjs';
 import { derive, settled, shown } from './shown.mjs';
-import { apply, begin, EMPTY, redo, store, undo } from './store.mjs';
+import { apply, begin, EMPTY, firstUndone, lastDone, redo, store, undo } from './store.mjs';
 import { drawTable, views } from './table.mjs';
 import { demonstrate, drawGathered, replay, skip } from './theorem.mjs';
 import { inFigures } from './words.mjs';
@@ -25,26 +22,25 @@ const PLAY_MILLISECONDS = 450;
 const FORGET = { first: 'Forget it', asked: 'Really forget all of it?' };
 
 let player = null;
-let drawn = null; // the collection that is drawn
+let [example, examples] = [null, null]; // the bytes of what a visitor sees first, and of more
 
 // Draws the state: at once, or once its text is read, and of a large one the first record meanwhile.
 store.draw = (action) => {
   const reading = read(store.state.bytes, store.state.game);
   if (reading === true) return drawAll(action);
   write('said', `Reading ${inFigures(collection.bytes.length)} bytes ..`);
-  if (collection.firsts.length > 0) drawBoards({});
+  if (collection.members.length > 0) drawBoards({});
   drawText();
   store.read = reading.then((isDone) => { if (isDone) drawAll(action); });
 };
 
 function drawAll(action) {
-  if (drawn !== collection) drawCollection();
-  drawn = collection;
+  if (isNew('collection', collection)) drawCollection();
   drawBoards(action);
   at('game').value = store.state.game;
   drawText();
   drawImported();
-  for (const [id, entry] of [['undo', store.past.at(-1)], ['redo', store.future.at(-1)]]) {
+  for (const [id, entry] of [['undo', lastDone()], ['redo', firstUndone()]]) {
     setIdle(id, !entry);
     at(id).title = entry ? `${at(id).textContent} ${entry.what}` : '';
   }
@@ -78,7 +74,7 @@ function drawPlay() {
   const { lists, chosen, step, steps } = shown;
   if (player !== null && (lists.length === 0 || step >= steps.boards.length - 1)) setPlayer(null);
   if (player !== null) return nameButton('run', 'Pause');
-  nameButton('run', 'Play', lists[chosen]?.label.includes('wins') ? ' the solution' : ' the list');
+  nameButton('run', 'Play', lists[chosen]?.verdict.startsWith('wins') ? ' the solution' : ' the list');
 }
 
 function play() {
@@ -114,26 +110,22 @@ function follow() {
   apply({ what: 'following the link', change });
 }
 
-const example = () => bytesOf(at('example').textContent);
-
 // Forgets what the browser keeps, once that is pressed again; what this tab has is there to undo until it is closed.
 async function askToForget() {
   const isAsked = at('forget').textContent === FORGET.asked;
   write('forget', isAsked ? FORGET.first : FORGET.asked);
   if (!isAsked) return;
-  await forget();
   const says = 'Forgotten. Undo brings back what this tab had.';
-  apply({ what: FORGETTING, change: { ...EMPTY, bytes: example() }, says, isKept: false });
+  apply({ what: 'forgetting', change: { ...EMPTY, bytes: example }, says, isKept: false });
+  await forget();
 }
 
-// Brings back the earlier work that is chosen; the present one is then among the earlier ones.
 async function bringBack() {
   const change = await earlierState();
   await layAside();
   apply({ what: 'bringing back earlier work', change });
 }
 
-// What is done where something happens to an element.
 const ACTS = {
   click: {
     undo, redo, shuffle, swap, sort, keep, skip, replay, run: play, moves: sayMoves, 'let-go': release,
@@ -142,8 +134,8 @@ const ACTS = {
     first: () => stepTo(0), back: () => stepTo(shown.step - 1), on: () => stepTo(shown.step + 1),
     last: () => stepTo(Infinity), link: makeLink, carry: showCarried, forget: askToForget, bring: bringBack,
     open: () => at('file').click(), save: () => download([collection.bytes], 'positions.collection'),
-    more: () => replace('more examples', bytesOf(at('examples').textContent)), import: importText,
-    'copy-board': copyBoard, 'copy-list': copyList, 'copy-carried': copyCarried,
+    more: () => replace('more examples', examples), import: importText,
+    'copy-board': copyThis('board'), 'copy-list': copyThis('list'), 'copy-carried': copyThis('carried'),
     'as-columns': answerAs('columns'), 'as-rows': answerAs('rows'), copy: copyPrinted, 'save-printed': savePrinted,
   },
   change: {
@@ -156,8 +148,7 @@ const ACTS = {
   toggle: { program: drawPrinted },
 };
 
-// The bytes of a module that is packed into the page.
-async function moduleOf(id) {
+async function unpacked(id) {
   const packed = Uint8Array.from(atob(at(id).textContent), (letter) => letter.charCodeAt(0));
   const stream = new Blob([packed]).stream().pipeThrough(new DecompressionStream('gzip'));
   return new Uint8Array(await new Response(stream).arrayBuffer());
@@ -165,14 +156,17 @@ async function moduleOf(id) {
 
 // Begins with what the browser keeps, or with the example; a link is followed from there.
 async function main() {
-  const [calls, runs] = await Promise.all(['calls', 'runs'].map(moduleOf));
+  const ids = ['calls', 'runs', 'settled', 'example', 'examples'];
+  const [calls, runs, settled, ...texts] = await Promise.all(ids.map(unpacked));
+  [example, examples] = texts;
   start(await WebAssembly.compile(calls));
   await startRuns(runs);
+  knowDeals(settled);
   for (const [event, acts] of Object.entries(ACTS)) {
     for (const [id, act] of Object.entries(acts)) listen(at(id), { [event]: act });
   }
   listen(window, { hashchange: follow, dragover: (event) => event.preventDefault(), drop: openDropped });
-  const first = { state: { bytes: example() } };
+  const first = { state: { bytes: example } };
   let before = await kept();
   try {
     begin(before ?? first);

@@ -16,7 +16,6 @@ export function columnsOf(board) {
   return upTo(8).map((column) => board.subarray(start, start += board[PLACE.lengths + column]));
 }
 
-// The passage of the suits, the columns and the cells in these orders.
 export function passageOf(...orders) {
   const passage = new Uint8Array(20);
   orders.forEach((order, part) => passage.set(order, [0, 4, 12][part]));
@@ -38,9 +37,8 @@ export function anyPassage(game) {
 
 // ---- piles: a column is known by its digit, a cell by its letter, a home by `h` and its suit
 
-const keysOf = (cells) => [...cells, ...[...HOMES].map((suit) => `h${suit}`), ...'12345678'];
-export const cellKeys = (game) => CELLS.slice(0, CELL_COUNTS[game]);
-export const pileKeys = (game) => keysOf(cellKeys(game));
+const homeKeys = [...HOMES].map((suit) => `h${suit}`);
+export const pileKeys = (game) => [...CELLS.slice(0, CELL_COUNTS[game]), ...homeKeys, ...'12345678'];
 
 // Where a passage puts a pile, and which pile it puts there.
 export function keyAfter(passage, key) {
@@ -49,9 +47,11 @@ export function keyAfter(passage, key) {
   return CELLS[passage.subarray(12).indexOf(CELLS.indexOf(key))];
 }
 
-export const keyBefore = (passage, key) => keysOf(CELLS).find((it) => keyAfter(passage, it) === key);
+export function keyBefore(passage, key) {
+  if (key[0] === 'h') return `h${SUITS[passage.indexOf(SUITS.indexOf(key[1]))]}`;
+  return key < '9' ? String(passage[3 + Number(key)] + 1) : CELLS[passage[12 + CELLS.indexOf(key)]];
+}
 
-// The cards of each pile, the last of them on top.
 export function cardsByPile(game, board) {
   const cells = upTo(CELL_COUNTS[game]).map((cell) => [board[PLACE.cells + cell]].filter((card) => card > 0));
   const homes = [...HOMES].map((name) => SUITS.indexOf(name))

@@ -1,25 +1,20 @@
 // What the program does with the text, by its proved runs: what it prints under each command, and what it makes of
 // rows, drawings and solutions that keepers have, as `import` reads them. What it says of these is beside the field.
 
-import { COMMANDS } from '../bindings/javascript/runs.js';
 import { replace } from './actions.mjs';
-import { collection, isHeaded, isLarge } from './collection.mjs';
+import { collection, isLarge } from './collection.mjs';
 import { at, copy, download, fill, say, write } from './elements.mjs';
-import { asText } from './lines.mjs';
+import { asText, AT_SIGN } from './lines.mjs';
 import { amend, store } from './store.mjs';
 import { counted } from './words.mjs';
 import { later, workAt } from './work.mjs';
 
-const OPTIONS = { table: ['', ' --header', ' --json'], count: ['', ' --json'] };
-const PRINTINGS = COMMANDS.flatMap((task) => (OPTIONS[task] ?? ['']).map((option) => task + option));
 const MOST_PRINTED = 100_000;
 const MOST_NOTES = 100;
 const QUESTION = /may be columns or rows($|:)/; // in a note that asks
 const ANSWERS = ', with --columns or --rows'; // how the program is answered
 
 let printed = { command: '', text: new Uint8Array() }; // of a collection
-
-fill('command', 'option', PRINTINGS, PRINTINGS);
 
 // Prints anew where the text or the command is another one, and this is seen.
 export function drawPrinted() {
@@ -33,7 +28,6 @@ export function drawPrinted() {
   asked.ready = later(work).then((done) => takePrinted(asked, done));
 }
 
-// Takes what was asked for, if nothing else is asked for now.
 function takePrinted(asked, { value = null, fault = '' }) {
   if (printed !== asked) return;
   asked.text = value?.text ?? asked.text;
@@ -58,7 +52,8 @@ export async function savePrinted() {
   write('copied', 'Saved.');
 }
 
-// Imports these bytes, where that was asked for or something is said of them; a question is answered by `lines`.
+// Imports these bytes, where that was asked for, more records are then accepted, or something is said of none or one; a
+// question is answered by `lines`.
 async function importBytes(bytes, what, { isAsked = true, lines = undefined } = {}) {
   const before = store.state;
   const work = { work: 'import', bytes, game: before.game, lines };
@@ -79,12 +74,11 @@ export const importText = () => importBytes(store.state.bytes, 'the import');
 export const answerAs = (lines) => () => importBytes(store.state.imported.bytes, `the answer ${lines}`, { lines });
 
 // Imports at once what came from elsewhere, where a record of it is refused, or where it is one board without a header,
-// whose lines may be rows. That is taken where more records are then accepted; and where none or one was read, also
-// where `import` has something to say.
+// whose lines may be rows.
 export async function importAsNeeded() {
   await store.read;
-  const { starts, faults } = collection;
-  const isBare = starts.length === 1 && !isHeaded(collection, 0);
+  const { bytes, starts, faults } = collection;
+  const isBare = starts.length === 1 && bytes[starts[0]] !== AT_SIGN;
   const isNeeded = starts.length > 0 && (isBare || faults.length > 0);
   if (isNeeded && !isLarge()) importBytes(store.state.bytes, 'the import', { isAsked: false });
 }

@@ -1,17 +1,16 @@
 // What is shown of a state: the record, its lists and their boards, and the two boards beside each other.
 
-import { collection, nameAt, recordAt } from './collection.mjs';
-import { fcanon, MOVE_SIZE, stepsOf, verdictOf } from './library.mjs';
+import { collection, recordAt } from './collection.mjs';
+import { fcanon, listOf, stepsOf } from './library.mjs';
 import { areEqual, PLACE, stayingPassage } from './passages.mjs';
 import { AT_FIRST } from './store.mjs';
-import { verdictWords } from './words.mjs';
 
 const MOST_ROWS = { least: 6, most: 9 }; // below the first card of a column; longer columns are squeezed
 
 export let shown = null;
-const made = new WeakMap(); // of an exchange its record, of a record the labels of its lists, of a list its boards
+export const keyOf = ({ game, board }) => `${game} ${board}`;
+const made = new WeakMap(); // of an exchange its record, of a list its boards
 
-// What was made of a thing once, and is there for the next time.
 function once(thing, make) {
   if (!made.has(thing)) made.set(thing, make());
   return made.get(thing);
@@ -20,18 +19,18 @@ function once(thing, make) {
 // The record of that number and name, or else of that name, or else the first one. Where the name is null any will do.
 function pick({ number, name }) {
   const { groups } = collection;
-  const isIt = (group, place) => group >= 0 && nameAt(collection, place) === name;
+  const isIt = (group, place) => group >= 0 && collection.names[place] === name;
   const isGood = (group) => group >= 0;
   const isThere = groups[number - 1] >= 0 && (name === null || isIt(0, number - 1));
   const place = [isThere ? number - 1 : groups.findIndex(isIt), groups.findIndex(isGood)].find((it) => it >= 0);
-  return place === undefined ? null : recordAt(collection, place);
+  return place === undefined ? null : recordAt(place);
 }
 
 // Whether a record that was read again has the board and the moves that lead to what is shown.
 function leadsHere(record) {
   const { base, lists, chosen, step } = shown;
-  const [before, after] = [lists[chosen]?.list.bytes ?? [], record.lists[chosen]?.bytes ?? []];
-  return areEqual(base.board, record.board) && areEqual(before.slice(0, MOVE_SIZE * step), after);
+  const [before, after] = [lists, record.lists].map((all) => all[chosen]?.moves.slice(0, step) ?? []);
+  return areEqual(base.board, record.board) && areEqual(before, after);
 }
 
 // A state that says what is there to show: another text may have lost the record, or its lists.
@@ -41,7 +40,7 @@ export function settled(state) {
   const { number, name } = record;
   if (state.name !== null && name !== state.name) return { ...state, ...AT_FIRST, number, name };
   const isShuffle = state.shuffle !== null && fcanon.isPassage(record.game, state.shuffle);
-  const most = record.lists.length + (state.carried ? 1 : 0) - 1;
+  const most = record.lists.length + (state.carried?.moves ? 1 : 0) - 1;
   const isHere = shown?.base.number === number && state.list === shown.chosen && state.step === shown.step;
   const isLost = isHere && record !== shown.base && !state.carried && !state.exchange && !leadsHere(record);
   const { list, step } = isLost || state.list > Math.max(0, most) ? AT_FIRST : state;
@@ -56,20 +55,15 @@ export function exchangedOf(record, exchange) {
   return once(exchange, () => ({ ...record, name, lists: [], board, ...fcanon.canon(record.game, board) }));
 }
 
-// Works out what a settled state shows: among others the board of the record after the moves, what the shuffle makes of
-// it, and the board beside. The boards do not shrink while one record is shown.
+// Works out what a settled state shows. The boards do not shrink while one record is shown.
 export function derive(state) {
   const base = pick(state);
   if (!base) return shown = null;
   const { times, exchange, isSorted, list: chosen } = state;
   const record = exchangedOf(base, exchange);
   const { game } = record;
-  const saidOf = (list) => verdictWords(verdictOf(game, record.board, list));
-  const labelled = (list, place) => ({ list, label: `${place + 1}: ${saidOf(list)}` });
-  const more = state.carried && !exchange ? [state.carried] : [];
-  const lists = [...once(record, () => record.lists.map(labelled)), ...more];
-  const still = { boards: [record.board], images: [record.canonical], isAlike: true, refusal: null };
-  const steps = lists.length > 0 ? once(lists[chosen].list, () => stepsOf(record, lists[chosen].list)) : still;
+  const lists = [...record.lists, ...state.carried?.moves && !exchange ? [state.carried] : []];
+  const steps = once(lists[chosen] ?? record, () => stepsOf(record, lists[chosen] ?? { ...listOf(), image: listOf() }));
   const step = Math.max(0, Math.min(state.step, steps.boards.length - 1));
   const shuffle = state.shuffle ?? stayingPassage(game);
   const own = steps.boards[step];

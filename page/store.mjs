@@ -16,10 +16,11 @@ export const EMPTY = {
   bytes: new Uint8Array(), game: 0, number: 1, name: null, begun: [], imported: null, ...AT_FIRST,
 };
 
-// How it is drawn, and who is called, is put here by others. Undo and redo go through the past and the future.
+// How it is drawn, and who is called, is put here by others. The history is a list of entries, of which the first ones,
+// so many, are done; undo and redo go through it, and nothing leaves it. One that was not kept is missing at its place.
 /** @type {{ [name: string]: any }} */
 export const store = {
-  state: EMPTY, past: [], future: [], read: null, draw: (_) => {}, acted: () => {}, touched: () => {},
+  state: EMPTY, entries: [], done: 0, read: null, draw: (_) => {}, acted: () => {}, touched: () => {},
 };
 
 function become(state, action) {
@@ -38,9 +39,8 @@ export function apply(action) {
 // A change that nobody asked for, and that undo passes by.
 export const amend = (change, action = {}) => become({ ...store.state, ...change }, action);
 
-// Begins from a state, with its history.
-export function begin({ state, past = [], future = [] }) {
-  Object.assign(store, { past, future });
+export function begin({ state, entries = [], done = 0 }) {
+  Object.assign(store, { entries, done });
   become({ ...EMPTY, ...state }, {});
 }
 
@@ -61,32 +61,27 @@ function goesOn(last, next) {
   return isWritten || isTaken;
 }
 
-// Takes down what led from one state to the next one. What joins the last entry becomes one with it.
+// Takes down what led from one state to the next one. What joins the last entry becomes one with it. What was undone, and
+// is then left for something else, is not lost: undo leads back through it.
 function takeDown({ what, joins = null }, before, after) {
-  keepUndone(before);
-  const [last, next] = [store.past.at(-1), entryOf(what, joins, before, after)];
+  const { entries, done } = store;
+  const end = entries.slice(done).reduce((at, entry) => forward(entry, at), before);
+  if (end !== before) entries.push(entryOf('the way back', null, end, before));
+  const [last, next] = [entries.at(-1), entryOf(what, joins, before, after)];
   const isJoined = joins !== null && last?.joins === joins && goesOn(last.splice, next.splice);
-  if (isJoined) store.past.splice(-1, 1, entryOf(last.what, joins, backward(last, before), after));
-  else store.past.push(next);
+  if (isJoined) entries.pop();
+  entries.push(isJoined ? entryOf(last.what, joins, backward(last, before), after) : next);
+  store.done = entries.length;
 }
 
-// What was undone, and then left for something else, is not lost: undo leads back through it.
-function keepUndone(state) {
-  if (store.future.length === 0) return;
-  const undone = store.future.reverse();
-  const end = undone.reduce((at, entry) => forward(entry, at), state);
-  store.past.push(...undone, entryOf('the way back', null, end, state));
-  store.future = [];
-}
-
-// Goes where the last entry of the one list leads, which comes to the other list, and says what that was.
-function go(from, to, lead, says) {
+function go(entry, lead, done, says) {
   store.acted();
-  const entry = from.pop();
   if (!entry) return;
-  to.push(entry);
+  store.done = done;
   become(lead(entry, store.state), { says: `${says}: ${entry.what}.`, isKept: true });
 }
 
-export const undo = () => go(store.past, store.future, backward, 'Undone');
-export const redo = () => go(store.future, store.past, forward, 'Done again');
+export const lastDone = () => store.entries[store.done - 1];
+export const firstUndone = () => store.entries[store.done];
+export const undo = () => go(lastDone(), backward, store.done - 1, 'Undone');
+export const redo = () => go(firstUndone(), forward, store.done + 1, 'Done again');

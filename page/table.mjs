@@ -1,23 +1,27 @@
 // The two boards, and what is said of them.
 
-import { SUITS } from '../bindings/javascript/calls.js';
+import { CELLS, SUITS } from '../bindings/javascript/calls.js';
 import { BoardView } from './boards.mjs';
 import { at, drawing, element, fill, hide, nameButton, setIdle, write } from './elements.mjs';
-import { fcanon, isWon, moveAt, movesIn, TITLES } from './library.mjs';
-import { cardsByPile, cellKeys, isColumn, keyAfter, keyBefore, PLACE } from './passages.mjs';
+import { countOf, fcanon, isWon, TITLES } from './library.mjs';
+import { cardsByPile, isColumn, keyAfter, keyBefore, pileKeys, PLACE } from './passages.mjs';
 import { shown } from './shown.mjs';
-import { moveWords, pileTitle, pileWords, SUIT_NAMES } from './words.mjs';
+import { moveWords, pileTitle, pileWords, SUIT_NAMES, verdictWords } from './words.mjs';
 
 const ONE_PUZZLE = 'These two boards are the same puzzle.';
 
 export const views = { left: new BoardView(at('left')), right: new BoardView(at('right')) };
 
-// Draws what is shown; cards fly one column after another where a stagger is given.
 export function drawTable(stagger = 0) {
   const { record, isCanonical } = shown;
   write('boards-title', `${record.name}, ${TITLES[record.game]}`);
   drawSide('left', 'right', `Board ${record.name}`, 'becomes', stagger);
   drawSide('right', 'left', `${isCanonical ? 'Canonical board' : 'Image'} of ${record.name}`, 'was', stagger);
+  const moved = movedCards();
+  for (const view of Object.values(views)) {
+    view.mark('moved', moved);
+    view.mark('exchanged', shown.exchange?.cards ?? []);
+  }
   drawPassage();
   drawCaption();
   drawLists();
@@ -32,15 +36,11 @@ function drawSide(name, other, label, verb, stagger) {
   };
   const placeOf = (key) => (isColumn(key) ? keyAfter(shown.sides.right.passage, keyBefore(side.passage, key)) : '');
   views[name].draw({ game, ...side, label, wordsOf, placeOf, grips: gripsOf(game, side.board), stagger, most });
-  views[name].mark('moved', movedCards());
-  views[name].mark('exchanged', shown.exchange?.cards ?? []);
 }
 
-// How many cards of each pile a move can take at most.
 export function gripsOf(game, board) {
-  const all = fcanon.moves(game, board).map(([from, , most]) => ({ key: String.fromCharCode(from), most: most || 1 }));
-  all.sort((one, other) => one.most - other.most); // of a pile the last one counts
-  return new Map(all.map(({ key, most }) => [key, most]));
+  const all = fcanon.moves(game, board).map((move) => [move[0], countOf(move) || 1]);
+  return new Map(all.sort(([, one], [, other]) => one - other)); // of a pile the last one counts
 }
 
 // The cards that the last move brought to another pile, in their numbers on the record's own board.
@@ -51,26 +51,28 @@ function movedCards() {
   return after.flatMap(([key, cards]) => cards.filter((card) => !before.get(key).includes(card)));
 }
 
-// What the passage from the left board to the right one does.
+// What the passage from the left board to the right one does: what suits become, and where piles come from.
+const pip = (suit) => drawing(suit, `pip ${'DH'.includes(suit) ? 'red' : ''}`);
+const arrows = [...SUITS].map((suit) => element('span', { className: 'arrow', role: 'img' }, pip(suit), '→', pip(suit)));
+const chips = [...`12345678${CELLS}`].map(() => element('span', { className: 'chip' }));
+const [columnOrder, cellOrder] = [['columns', chips.slice(0, 8)], ['cells', chips.slice(8)]].map(([name, all]) =>
+  element('span', { className: 'order' }, name, ...all.flatMap((chip) => [' ', chip])));
+chips.slice(0, 8).forEach((chip, place) => { chip.dataset.place = place + 1; });
+at('passage').append(...arrows, columnOrder, cellOrder);
+
 function drawPassage() {
   const { left, right } = shown.sides;
-  const pip = (suit) => drawing(suit, `pip ${'DH'.includes(suit) ? 'red' : ''}`);
-  const suits = [...SUITS].map((before) => {
-    const [, after] = keyAfter(right.passage, keyBefore(left.passage, `h${before}`));
-    const words = `${SUIT_NAMES[before]} become ${SUIT_NAMES[after]}`;
-    const properties = { className: 'arrow', role: 'img', title: words, ariaLabel: words };
-    return element('span', properties, pip(before), '→', pip(after));
+  arrows.forEach((arrow, place) => {
+    const [, after] = keyAfter(right.passage, keyBefore(left.passage, `h${SUITS[place]}`));
+    const words = `${SUIT_NAMES[SUITS[place]]} become ${SUIT_NAMES[after]}`;
+    if (arrow.title !== words) arrow.lastChild.replaceWith(pip(after));
+    Object.assign(arrow, { title: words, ariaLabel: words });
   });
-  const isCell = left.board.subarray(PLACE.cells, PLACE.lengths).some((card) => card > 0);
-  const orders = [['columns', '12345678'], ['cells', isCell ? cellKeys(shown.record.game) : '']].map(([name, keys]) => {
-    const chips = [...keys].map((key) => {
-      const chip = element('span', { className: 'chip' }, keyAfter(left.passage, keyBefore(right.passage, key)));
-      if (isColumn(key)) chip.dataset.place = key;
-      return chip;
-    });
-    return element('span', { className: 'order', hidden: keys === '' }, name, ...chips.flatMap((chip) => [' ', chip]));
+  const isThere = (key) => pileKeys(shown.record.game).includes(key);
+  [...`12345678${CELLS}`].forEach((key, place) => {
+    chips[place].textContent = isThere(key) ? keyAfter(left.passage, keyBefore(right.passage, key)) : '';
   });
-  at('passage').replaceChildren('Green becomes blue: ', ...suits, ...orders);
+  cellOrder.hidden = left.board.subarray(PLACE.cells, PLACE.lengths).every((card) => card === 0);
 }
 
 function drawCaption() {
@@ -88,17 +90,17 @@ function drawCaption() {
 
 function drawLists() {
   const { lists } = shown;
-  fill('list', 'option', lists.map(({ label }) => label));
+  const nameOf = ({ from }, place) => (from ? `from ${from}` : place + 1);
+  fill('list', 'option', lists.map((list, place) => `${nameOf(list, place)}: ${verdictWords(list.verdict)}`));
   for (const id of ['play', 'run', 'copy-list']) hide(id, lists.length === 0);
   if (lists.length > 0) return drawStep();
   for (const id of ['count', 'move', 'expansion']) write(id, '');
 }
 
-// The list, what is said of the move that was made, of the next one, and of the boards.
 function drawStep() {
   const { steps, step, lists, chosen } = shown;
   const last = steps.boards.length - 1;
-  const total = movesIn(lists[chosen].list);
+  const total = lists[chosen].moves.length;
   at('list').value = chosen;
   Object.assign(at('step'), { max: last, value: step, ariaValueText: `${step} of ${total} moves` });
   write('count', `${step} of ${total}`);
@@ -113,16 +115,15 @@ function drawStep() {
 // A move of the list on one of the boards, and the board before it; so many moves are made there.
 function moveOn({ passage }, step) {
   const { record: { game }, lists, chosen, steps } = shown;
-  const { list } = lists[chosen];
-  const move = fcanon.carry(game, passage, { sign: list.sign, bytes: moveAt(list, step) });
-  return { board: fcanon.image(game, steps.boards[step], passage), move };
+  const { sign, moves } = lists[chosen];
+  const list = fcanon.carry(game, passage, { sign, moves: [moves[step]] });
+  return { board: fcanon.image(game, steps.boards[step], passage), list };
 }
 
-// A move of the list in words, as it is on both boards.
 function moveNow(step) {
   const [here, there] = [shown.sides.left, shown.sides.right].map((side) => {
-    const { board, move } = moveOn(side, step);
-    return moveWords(shown.record.game, board, move);
+    const { board, list } = moveOn(side, step);
+    return moveWords(shown.record.game, board, list);
   });
   return `${here}; on the right board ${there}`;
 }
@@ -131,22 +132,21 @@ function nextWords() {
   const { record, steps, step, lists, chosen } = shown;
   if (step < steps.boards.length - 1) return `Next: ${moveNow(step)}.`;
   if (steps.refusal) {
-    const [, digit] = moveAt(lists[chosen].list, step);
+    const [, key] = lists[chosen].moves[step];
     const isMany = steps.refusal === 'over capacity';
-    const most = isMany ? `, which is ${fcanon.capacity(record.game, steps.boards[step], digit)}` : '';
+    const most = isMany ? `, which is ${fcanon.capacity(record.game, steps.boards[step], key)}` : '';
     return `Move ${step + 1} is refused on both boards: ${moveNow(step)}: ${steps.refusal}${most}.`;
   }
   return isWon(steps.boards[step]) ? 'All cards are home on both boards.' : `The list ends after ${step} moves.`;
 }
 
-// The one-card moves of a move of several cards that was made.
 function drawExpansion() {
   const { record, step, lists, chosen, sides, isSorted } = shown;
   const expanded = (side) => {
-    const { board, move } = moveOn(side, step - 1);
-    return fcanon.expand(record.game, board, move.bytes).join(' ');
+    const { board, list } = moveOn(side, step - 1);
+    return fcanon.expand(record.game, board, list.moves[0]).join(' ');
   };
-  const here = lists[chosen].list.sign === '>' || step === 0 ? '' : expanded(sides.left);
+  const here = lists[chosen].sign === '>' || step === 0 ? '' : expanded(sides.left);
   at('expansion').hidden = !here.includes(' ');
   if (at('expansion').hidden) return;
   const there = isSorted ? '' : `, ${expanded(sides.right)} there`;

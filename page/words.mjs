@@ -1,6 +1,6 @@
 // Words of players: cards, piles and moves, as they are seen and as they are read out.
 
-import { fcanon, IN_SUIT, listOf, TITLES } from './library.mjs';
+import { countOf, fcanon, IN_SUIT, TITLES } from './library.mjs';
 import { cardsByPile, cardText, isColumn, renamed, suitOf } from './passages.mjs';
 
 const BUILDING = IN_SUIT.map((it) => (it ? 'by one in the same suit' : 'by one in the other colour'));
@@ -27,13 +27,13 @@ export function pileWords(key, cards) {
   return isColumn(key) && cards.length > 1 ? `${cards.length} cards, the last one first: ${words}` : words;
 }
 
-// The cards that a move brings to another pile, as many as the game makes of it; where it is refused, as many as it
-// says.
-function cardsOfMove(game, board, move) {
-  const [from, to] = String.fromCharCode(...move);
+// The cards that a move brings to another pile; where it is refused, as many as it says.
+function cardsOfMove(game, board, list) {
+  const [move] = list.moves;
+  const [from, to] = move;
   const cards = cardsByPile(game, board).get(from) ?? [];
-  const played = fcanon.play(game, board, listOf(move));
-  if (played.answer !== 0 || to === from) return cards.slice(-Math.max(1, move[2]));
+  const played = fcanon.play(game, board, list);
+  if (played.answer !== 0 || to === from) return cards.slice(-Math.max(1, countOf(move)));
   return cards.slice(cardsByPile(game, played.board).get(from).length);
 }
 
@@ -45,24 +45,23 @@ export function verdictWords(verdict) {
 }
 
 // A move on a board, which is a list of its own: its cards, and where they go.
-export function moveWords(game, board, { sign, bytes }) {
-  const move = bytes.slice();
-  const [from, to] = String.fromCharCode(...move);
-  if (sign === '>' && isColumn(from) && isColumn(to)) move[2] = 1;
-  const cards = cardsOfMove(game, board, move).map(cardSign).join(' ') || `no card of ${pileName(from)}`;
+export function moveWords(game, board, list) {
+  const [[from, to]] = list.moves;
+  const cards = cardsOfMove(game, board, list).map(cardSign).join(' ') || `no card of ${pileName(from)}`;
   if (to === 'h') return `${cards} home`;
   const [top] = cardsByPile(game, board).get(to).slice(-1);
   return isColumn(to) && top && to !== from ? `${cards} on ${cardSign(top)}` : `${cards} to ${pileName(to)}`;
 }
 
 // Why the game does not let the held cards go to a pile, as it is seen on a board where a passage leads.
-export function refusalWords({ game, board, passage, cards, key, reason, capacity }) {
+export function refusalWords({ game, board, passage, cards, key, reason }) {
   const face = (card) => cardSign(renamed(card, passage));
   const [first] = cards;
   const [top] = cardsByPile(game, board).get(key).slice(-1);
   const onto = top ? face(top) : '';
   const height = board[suitOf(first)];
   const next = height < 13 ? face(4 * height + suitOf(first) + 1) : 'no card';
+  const most = reason === 'over capacity' ? fcanon.capacity(game, board, key) : 1;
   const words = {
     'same pile': 'That is the pile it lies on.',
     'empty source': 'There is no card to move.',
@@ -71,11 +70,18 @@ export function refusalWords({ game, board, passage, cards, key, reason, capacit
     'not building': `${face(first)} does not go on ${onto}: in ${TITLES[game]} columns go down ${BUILDING[game]}.`,
     'not next': `${face(first)} cannot go home yet: ${next} is next there.`,
     'no run': `The cards from ${face(first)} on do not go down ${BUILDING[game]}, so they cannot move together.`,
-    'over capacity': `So many cards cannot go at once: too few cells and columns are empty. At most ${capacity} can.`,
+    'over capacity': `So many cards cannot go at once: too few cells and columns are empty. At most ${most} can.`,
     'wrong count': `So many cards do not fit there: ${face(first)} does not go on ${onto}.`,
   };
   return words[reason] ?? 'Only one card at a time goes there.';
 }
 
-// The exchanged cards of a board under a passage.
 export const exchangedWords = (cards, passage) => cards.map((card) => cardSign(renamed(card, passage))).join(' and ');
+
+// What is proved of a deal that cannot be won, and two commands that check it.
+export const unsolvableWords = (number, classes) => `No list of moves wins deal ${number}: play reaches \
+${inFigures(classes)} classes of boards, none is won, and a proved program accepted that no move leads out of them. \
+These commands check it:`;
+export const checkingCommands = (number) =>
+  `(echo @ freecell deal-${number}; fcanon deal ${number}) | fcanon-close --collection certificates
+fcanon closed --any-size < certificates/deal-${number}.freecell.collection`;

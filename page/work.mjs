@@ -2,7 +2,7 @@
 
 import { GAMES } from '../bindings/javascript/calls.js';
 import { Runs } from '../bindings/javascript/runs.js';
-import { asText, AT_SIGN, countLines, headersIn, restOfLine } from './lines.mjs';
+import { asText, headersIn } from './lines.mjs';
 
 let module = null; // its bytes
 let runs = null;
@@ -20,35 +20,20 @@ function printFor({ command, bytes, game }) {
   return runs.run(task, bytes, { format: option.slice(2), game: GAMES[game] });
 }
 
-// Whether the header at this place has a second word.
-const hasName = (bytes, start) => /[^ \t\r][ \t]+[^ \t\r]/.test(restOfLine(bytes, start + 1));
-
-// The refused records: which ones they are, and where each is refused, for what, and in which line.
-function faultsIn(bytes, said) {
-  const refused = said.map(({ place, reason }, at) => ({ at, place, reason })).filter(({ reason }) => reason);
-  let line = 1;
-  const lineOf = ({ place }, at) => (line += countLines(bytes.subarray(refused[at - 1]?.place ?? 0, place)));
-  return refused.map((fault, at) => ({ ...fault, line: lineOf(fault, at) }));
-}
-
 // The records of a text: where each begins, and what `table` says of it, column by column.
-// What comes before the first header is a record where `table` has a line more than there are headers. A group has one
-// game and one canonical board; each record has its group's number, a refused one -1. A record without a name has an
-// empty one here.
+// What comes before the first header is a record where `table` has a line more than there are headers.
 function recordsIn({ bytes, game }) {
-  const lines = asText.decode(printFor({ command: 'table --json', bytes, game }).text).split('\n').slice(0, -1);
-  const said = lines.map((line) => JSON.parse(line));
+  const lines = asText.decode(printFor({ command: 'table --json', bytes, game }).text);
+  const said = JSON.parse(`[${lines.trimEnd().replaceAll('\n', ',')}]`);
   const headers = headersIn(bytes);
   const starts = Uint32Array.from(said.length > headers.length ? [0, ...headers] : headers);
-  const isNamed = ({ reason }, at) =>
-    reason !== 'bad header' && bytes[starts[at]] === AT_SIGN && hasName(bytes, starts[at]);
   const numbers = new Map();
   const numberOfGroup = (key) => numbers.get(key) ?? numbers.set(key, numbers.size).size - 1;
   return {
     starts,
-    groups: Int32Array.from(said, ({ variant, board }) => (board ? numberOfGroup(`${variant} ${board}`) : -1)),
-    names: said.map((it, at) => (isNamed(it, at) ? it.name ?? it.refused : '')),
-    faults: faultsIn(bytes, said),
+    groups: Int32Array.from(said.map(({ variant, board }) => (board ? numberOfGroup(`${variant} ${board}`) : -1))),
+    names: said.map(({ name, refused }) => name ?? refused),
+    faults: said.map(({ place, reason }, at) => ({ at, place, reason })).filter(({ reason }) => reason),
   };
 }
 
@@ -58,7 +43,6 @@ const WORK = {
   import: ({ bytes, game, lines }) => runs.import(bytes, { game: GAMES[game], lines }),
 };
 
-// What comes of what is asked for: its value, or why there is none.
 /** @returns {{ value?: any, fault?: string }} */
 export function workAt(it) {
   try {
@@ -68,8 +52,7 @@ export function workAt(it) {
   }
 }
 
-// Answers one message after another in a worker, and hands over the arrays of an answer; the first message has the
-// module.
+// Answers one message after another in a worker; the first message has the module.
 export function listenInWorker() {
   let started = null;
   globalThis.onmessage = async ({ data }) => {
@@ -91,8 +74,7 @@ function makeWorker() {
   worker.postMessage({ bytes: module });
 }
 
-// Does some work while the page goes on, and gives a promise of what comes of it. Where no worker can be made, it is
-// done on the page's own thread.
+// Does some work while the page goes on; where no worker can be made, on the page's own thread.
 export const later = (work) => new Promise((take) => {
   setTimeout(() => { // what is to be seen meanwhile is drawn first
     try {

@@ -28,7 +28,7 @@ class Served:
         class Handler(http.server.BaseHTTPRequestHandler):
             def answer(self, status, body=b""):
                 self.send_response(status)
-                kinds = {"js": "text/javascript", "mjs": "text/javascript", "json": "application/json"}
+                kinds = {"js": "text/javascript", "mjs": "text/javascript", "json": "application/json", "css": "text/css"}
                 self.send_header("Content-Type", kinds.get(self.path.rpartition(".")[2], "text/html"))
                 self.send_header("Content-Length", str(len(body)))
                 self.end_headers()

@@ -14,7 +14,13 @@ PILE = "(([it]) => [it.x + it.width / 2, it.y + it.height / 2])([box(pile('left'
 FINGER = 44  # pixels
 LARGE = """all('button:not(figcaption button), input:not([type=file]), select, label.choice, summary, .proved li a')
   .filter((it) => it.offsetParent && it.type !== 'checkbox' && !it.closest('.hidden'))
-  .map((it) => [it.id || it.textContent.trim(), box(it).height])"""
+  .map((it) => [it.id || it.textContent.trim(), box(it).height, it.tagName === 'A' ? Infinity : box(it).width])"""
+# The buttons beside titles are lower, and feel a finger above and below them: how high that is.
+FELT = """all('figcaption button').filter((it) => it.offsetParent).map((it) => {
+  const { x, y, width, height } = box(it);
+  const isFelt = (place) => document.elementFromPoint(x + width / 2, place) === it;
+  return [it.id, Array.from({ length: 60 }, (_, at) => y + height / 2 - 30 + at).filter(isFelt).length, Infinity];
+})"""
 
 
 def card_at(browser, key, place=-1):
@@ -78,7 +84,9 @@ def large(browser):
     """Controls are as large as fingers want them."""
     browser.open(WIDE, HIGH)
     faults = same("coarse", True, browser.value("matchMedia('(pointer: coarse)').matches"))
-    return faults + [f"{name} is {height} px high" for name, height in browser.value(LARGE) if height < FINGER - .5]
+    browser.value("at('shuffle').click()")
+    return faults + [f"{name} is {width} by {height} px" for name, height, width in browser.value(f"[...{LARGE}, ...{FELT}]")
+                     if min(height, width or FINGER) < FINGER - .5]
 
 
 PARTS = {"cards tapped": tapped, "cards dragged by touch": dragged, "the page scrolled by touch": panned,

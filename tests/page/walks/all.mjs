@@ -2,6 +2,7 @@
 // and hands in what is wrong. Each part is a name and a function that gives the faults which it found.
 
 import { boards, faces, images, shuffled, suits, swapped } from './boards.mjs';
+import { costs } from './costs.mjs';
 import { load } from './frame.mjs';
 import {
   branched, counts, dragged, gripped, legal, lettersOff, pressed, refusals, states, typed, walked,
@@ -16,7 +17,7 @@ import { contrasts, fitting, focused, largeLetters, named, structured } from './
 import {
   collections, dealt, faults, imported, kept, large, linked, linkedDeals, names, pasted, searched, shared,
 } from './text.mjs';
-import { coloured, demonstration, demonstrationLeft, gathered, still } from './theorem.mjs';
+import { coloured, demonstration, demonstrationLeft, gathered, gatheredAnew, still } from './theorem.mjs';
 
 const PARTS = {
   'commands on collections': collections, boards, 'piles and their images': images, suits, faces,
@@ -36,9 +37,10 @@ const PARTS = {
   'a link over other work': linkedOver, 'earlier work': earlierWorks, 'two tabs': twoTabs,
   'kept, or asked': keptOrAsked, 'undone in fields': undoneInFields, 'what is copied': copied,
   'what the header claims': claims, 'how the page is built': structured,
-  'colours of columns': coloured, 'boards gathered': gathered, demonstration, 'demonstration left': demonstrationLeft,
+  'colours of columns': coloured, 'boards gathered': gathered, 'boards gathered anew': gatheredAnew, demonstration,
+  'demonstration left': demonstrationLeft,
 };
-const WITHOUT_MOTION = { 'without motion': still };
+const WITHOUT_MOTION = { 'without motion': still, 'what a shuffle costs after many': costs };
 
 async function walk() {
   const given = await (await fetch('/given.json')).json();

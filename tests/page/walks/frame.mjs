@@ -55,10 +55,10 @@ export async function reload() {
 }
 
 // What the browser keeps of the page; and what it puts there.
-export async function inWorks(act, mode = 'readonly') {
+export async function inWorks(act, mode = 'readonly', name = 'works') {
   const opening = indexedDB.open('fcanon', 1);
   await new Promise((done) => { opening.onsuccess = done; });
-  const request = act(opening.result.transaction('works', mode).objectStore('works'));
+  const request = act(opening.result.transaction(name, mode).objectStore(name));
   await new Promise((done) => { request.onsuccess = done; });
   opening.result.close();
   return request.result;

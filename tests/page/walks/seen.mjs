@@ -2,7 +2,7 @@
 
 import { all, at, choose, differ, frame, later, load, paste, settled } from './frame.mjs';
 
-const SIZES = [[1440, 900], [1024, 768], [768, 1024], [720, 450], [844, 390], [390, 664], [320, 568]];
+const SIZES = [[1440, 900], [1280, 800], [1024, 768], [768, 1024], [720, 450], [844, 390], [390, 664], [320, 568]];
 
 const LONG_WORDS = 'Green becomes blue: columns move, then suits are renamed.';
 

@@ -77,18 +77,23 @@ export async function kept({ example, records: [{ name }] }) {
   return [...found, ...differ('in sight', chosen.top >= list.top && chosen.bottom <= list.bottom, true)];
 }
 
+// A deal is added to the text, with the solution that is known, or with what is proved of one that has none.
 export function dealt({ deals }) {
   paste('# mine\n');
-  return deals.flatMap(({ game, number, board }) => {
+  return deals.flatMap(({ game, number, board, known }) => {
     set('game', game, 'change');
     const before = at('text').value;
     at('deal').value = number;
     at('deal-form').querySelector('button').click();
     if (board === '') return differ(`deal ${number}`, at('deal-said').textContent !== '', true);
+    const [, classes] = /^unsolvable (\d+)/.exec(known) ?? [];
+    const list = known && !classes ? `>> ${known}\n` : '';
+    const isKept = at('text').value.startsWith(before) && at('text').value.endsWith(board + list);
     const said = at('deal-said').textContent;
-    const isKept = at('text').value.startsWith(before) && at('text').value.endsWith(board);
+    const isSaid = classes ? said.includes(`play reaches ${Number(classes).toLocaleString('en')} classes`) : said === '';
+    const wins = list ? `1: wins in ${known.split(' ').length} moves` : undefined;
     return [...differ('kept', isKept, true), ...differ(`deal ${number}`, drawn('left'), asDrawn(board)),
-      ...differ('said', said, '')];
+      ...differ('said', isSaid, true), ...differ('solved', at('list').selectedOptions[0]?.textContent, wins)];
   });
 }
 

@@ -1,7 +1,7 @@
 // Many boards, one position: what a visitor sees of it.
 
-import { all, at, choose, differ, frame, later, load, paste, plain, until } from './frame.mjs';
-import { drawn, shown } from './drawn.mjs';
+import { all, at, choose, differ, frame, later, load, paste, plain, set, until } from './frame.mjs';
+import { asDrawn, drawn, shown } from './drawn.mjs';
 
 const colourOf = (it) => frame.contentWindow.getComputedStyle(it).backgroundColor;
 
@@ -17,7 +17,7 @@ export function coloured({ example, records }) {
     return columnsOf('left').flatMap((pile, column) => {
       const place = columns.indexOf(String(column + 1));
       const said = place === column ? `${column + 1}` : `${column + 1}→${place + 1}`;
-      const stripes = all(`#left .card[data-key="${column + 1}"]`).map((it) => it.dataset.place);
+      const stripes = all(`#left .card[data-key="${column + 1}"] .stripe`).map((it) => it.dataset.place);
       const bars = all('#gathered .picture.left')[0].querySelectorAll('path')[column];
       return [...differ(`${name}: column ${column + 1}`, pile.firstChild.textContent, said),
         ...differ(`${name}: its colour`, colourOf(pile.firstChild), colours[place]),
@@ -63,6 +63,26 @@ function marks() {
     const isTold = side === 'right' || cards.every((card) => said.includes(card));
     return cards.length === 2 && isTold ? 'told' : cards.join();
   }).join(' ');
+}
+
+// What was seen of one board is not shown with another one of the same name, nor in another game; a link may ask for a
+// shuffle that is none; and where no two columns have cards the demonstration swaps none.
+export async function gatheredAnew({ records: [one, other] }) {
+  await load();
+  const found = [];
+  for (const { board } of [one, other]) {
+    paste(board);
+    found.push(...differ('of another board', frames().join(), '1'));
+    for (const id of ['shuffle', 'swap', 'swap']) at(id).click();
+  }
+  set('game', 2, 'change');
+  found.push(...differ('in another game', at('shown').hidden || frames().join(), '1'));
+  paste('Found: H-Q C-K D-K S-K\n:\n: KH\n');
+  at('replay').click();
+  at('skip').click();
+  found.push(...differ('one card', `${frames().length} ${at('skip').hidden}`, '1 true'));
+  await load('#deal=1&shuffle=99999999999999999999');
+  return [...found, ...differ('no shuffle', `${frames()} ${drawn('left') === asDrawn(one.board)}`, '1 true')];
 }
 
 const title = () => at('boards-title').textContent.split(',')[0];
