@@ -31,13 +31,17 @@ CC = shlex.split(os.environ.get("CC", "cc"))
 FLAGS = ["-std=gnu11", "-O2", "-fvisibility=hidden"]
 LINKED = {  # how a module is linked, by a part of the name of the machine that CC compiles for
     "darwin": ["-fPIC", "-bundle", "-undefined", "dynamic_lookup"],
-    "mingw": ["-shared", "-s", f"-L{sys.base_prefix}/libs", "-lpython3"],
+    "mingw": ["-shared", "-s", "-static-libgcc", f"-L{sys.base_prefix}/libs", "-lpython3"],
     "": ["-fPIC", "-shared", "-Wl,--exclude-libs,ALL", "-Wl,-s,-z,relro,-z,now", "-Wl,--build-id=none"],
 }
 # Each module: its source, the archive that it is linked with, and the file of C that is in its place.
 MODULES = {"_calls.abi3.so": ("calls.c", "libfcanon.a", "fcanon-portable.c"),
            "_runs.abi3.so": ("runs.c", "libfcanon_runs.a", "fcanon-runs-portable.c")}
 PORTABLE = ["fcanon-portable.c", "fcanon-runs-portable.c", "fcanon.h", "fcanon_runs.h"]
+# The systems that a module of an archive is for, by the number of its machine in the formats ELF and PE:
+# every Linux from glibc 2.17 on or with musl, and Windows.
+SYSTEMS = {62: "manylinux2014_x86_64.musllinux_1_2_x86_64", 183: "manylinux2014_aarch64.musllinux_1_2_aarch64",
+           0x8664: "win_amd64"}
 NOON = (1980, 1, 1, 0, 0, 0)  # the first time that a wheel can have
 
 
@@ -88,7 +92,7 @@ def module(name):
         raise SystemExit(f"{archive} is not found beside libfcanon.a")
     headers = [sysconfig.get_path("include"), folder, folder.parent / "include"]
     with tempfile.TemporaryDirectory() as room:
-        made = Path(room) / "made"
+        made = Path(room) / name  # without an ending mingw gives it its own
         words = [*CC, *FLAGS, *(f"-I{it}" for it in headers), HERE / source, linked, *linking(), "-o", made]
         subprocess.run([str(it) for it in words], check=True)
         return made.read_bytes()
@@ -104,12 +108,13 @@ def modules():
 
 
 def tag(made):
-    """The machine that modules are for: of the known ones every Linux from glibc 2.17 on."""
+    """The systems that modules are for: the known ones of their machine, or that of this Python."""
     made = next(iter(made.values()))
-    machine = {62: "x86_64", 183: "aarch64"}.get(made[18])  # as the ELF format has it
-    if machine and library() != HERE:
-        return f"cp38-abi3-manylinux2014_{machine}"
-    return f"cp38-abi3-{re.sub('[-.]', '_', sysconfig.get_platform())}"
+    at = 4 + int.from_bytes(made[60:64], "little") if made.startswith(b"MZ") else 18
+    systems = SYSTEMS.get(int.from_bytes(made[at:at + 2], "little"))
+    if not systems or library() == HERE:
+        systems = re.sub("[-.]", "_", sysconfig.get_platform())
+    return f"cp38-abi3-{systems}"
 
 
 def sum_of(data):
@@ -117,9 +122,9 @@ def sum_of(data):
 
 
 def licences():
-    """The files of licences and notices, in the repository or in the source distribution."""
-    found = {it.name: it for folder in (HERE, TOP, TOP / "build")
-             for pattern in ("LICENSE-*", "THIRD-PARTY-libfcanon*") for it in folder.glob(pattern)}
+    """The files of licences and notices, in the repository, in the source distribution, or with the archives."""
+    found = {it.name: it for folder in (HERE, TOP, TOP / "build", Path(os.environ.get("FCANON_LIB", HERE)))
+             for pattern in ("LICENSE-*", "THIRD-PARTY-libfcanon*", "THIRD-PARTY-mingw-w64") for it in folder.glob(pattern)}
     return [found[name] for name in sorted(found)]
 
 
@@ -158,9 +163,9 @@ def write_wheel(folder, files, tagged):
     """Writes a wheel of these files, by their names, and of what each wheel has."""
     files.update(info())
     place = f"fcanon-{field('version')}.dist-info"
-    files[f"{place}/WHEEL"] = (
-        f"Wheel-Version: 1.0\nGenerator: fcanon\nRoot-Is-Purelib: false\nTag: {tagged}\n"
-    ).encode()
+    abi, _, systems = tagged.rpartition("-")
+    tags = "".join(f"Tag: {abi}-{it}\n" for it in systems.split("."))
+    files[f"{place}/WHEEL"] = f"Wheel-Version: 1.0\nGenerator: fcanon\nRoot-Is-Purelib: false\n{tags}".encode()
     lines = [f"{name},sha256={sum_of(it)},{len(it)}\n" for name, it in files.items()]
     files[f"{place}/RECORD"] = "".join([*lines, f"{place}/RECORD,,\n"]).encode()
     name = f"fcanon-{field('version')}-{tagged}.whl"

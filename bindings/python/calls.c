@@ -649,54 +649,64 @@ static PyObject *words_of(PyObject *module, PyObject *number) {
 }
 
 #define BY_NAME (METH_VARARGS | METH_KEYWORDS)
-#define METHOD(name, function, how, words) {name, (PyCFunction)(void (*)(void))function, how, words}
+#define NAMELESS(name, function, how, words) {name, (PyCFunction)(void (*)(void))function, how, words}
+/* One with what it takes, as inspect.signature shows it. */
+#define METHOD(name, function, how, takes, words) NAMELESS(name, function, how, name takes "\n--\n\n" words)
 
 static PyMethodDef passage_methods[] = {
-    METHOD("from_bytes", passage_from_bytes, BY_NAME | METH_CLASS,
+    METHOD("from_bytes", passage_from_bytes, BY_NAME | METH_CLASS, "($type, bytes_, game='freecell')",
            "The passage of these 20 bytes, which fcanon.h describes."),
-    METHOD("inverse", passage_inverse, METH_NOARGS, "The passage that leads back."),
-    METHOD("then", passage_then, METH_O, "This passage, and then the next one of the same game."),
-    METHOD("image", passage_image, METH_O, "The board that the passage leads to from a board."),
-    METHOD("carry", passage_carry, METH_O,
+    METHOD("inverse", passage_inverse, METH_NOARGS, "($self, /)",
+           "The passage that leads back."),
+    METHOD("then", passage_then, METH_O, "($self, next, /)",
+           "This passage, and then the next one of the same game."),
+    METHOD("image", passage_image, METH_O, "($self, board, /)",
+           "The board that the passage leads to from a board."),
+    METHOD("carry", passage_carry, METH_O, "($self, move, /)",
            "The move of the same card on the board that the passage leads to."),
-    METHOD("carry_run", passage_carry_run, METH_O,
+    METHOD("carry_run", passage_carry_run, METH_O, "($self, run, /)",
            "The move of the same cards on the board that the passage leads to."),
-    METHOD("__bytes__", passage_bytes, METH_NOARGS, "The 20 bytes, which fcanon.h describes."),
-    METHOD("__reduce__", passage_reduce, METH_NOARGS, NULL),
+    METHOD("__bytes__", passage_bytes, METH_NOARGS, "($self, /)",
+           "The 20 bytes, which fcanon.h describes."),
+    NAMELESS("__reduce__", passage_reduce, METH_NOARGS, NULL),
     {0}};
 
 static PyMethodDef board_methods[] = {
-    METHOD("deal", board_deal, BY_NAME | METH_CLASS,
+    METHOD("deal", board_deal, BY_NAME | METH_CLASS, "($type, number, game='freecell')",
            "One of Microsoft's numbered deals, of FreeCell or Baker's Game."),
-    METHOD("from_bytes", board_from_bytes, BY_NAME | METH_CLASS,
+    METHOD("from_bytes", board_from_bytes, BY_NAME | METH_CLASS, "($type, bytes_, game='freecell')",
            "The board of these 72 bytes, which fcanon.h describes."),
-    METHOD("canonical", board_canonical, METH_NOARGS,
+    METHOD("canonical", board_canonical, METH_NOARGS, "($self, /)",
            "The canonical board of all that are equivalent to this one."),
-    METHOD("canonical_hash", board_canonical_hash, METH_NOARGS,
+    METHOD("canonical_hash", board_canonical_hash, METH_NOARGS, "($self, /)",
            "A hash of the canonical board in 16 bytes, the same in each run and on each machine."),
-    METHOD("canonicalize", board_canonicalize, METH_NOARGS,
+    METHOD("canonicalize", board_canonicalize, METH_NOARGS, "($self, /)",
            "The canonical board, and the passage to it."),
-    METHOD("child", board_child, METH_O,
+    METHOD("child", board_child, METH_O, "($self, move, /)",
            "The canonical board of the board after a move of one card, and the passage to it."),
-    METHOD("moves", board_moves, METH_NOARGS, "The moves of one card that the game allows."),
-    METHOD("run_moves", board_run_moves, METH_NOARGS,
+    METHOD("moves", board_moves, METH_NOARGS, "($self, /)",
+           "The moves of one card that the game allows."),
+    METHOD("run_moves", board_run_moves, METH_NOARGS, "($self, /)",
            "The moves of two and more cards that the game allows, each with its number of cards."),
-    METHOD("children", board_children, METH_NOARGS,
+    METHOD("children", board_children, METH_NOARGS, "($self, /)",
            "The moves of one card that the game allows, each with the canonical board after it."),
-    METHOD("symmetries", board_symmetries, METH_NOARGS,
+    METHOD("symmetries", board_symmetries, METH_NOARGS, "($self, /)",
            "The renamings that with some orders lead from the board to itself, from \"CDHS\" on."),
-    METHOD("is_unsolvable", board_is_unsolvable, METH_O,
+    METHOD("is_unsolvable", board_is_unsolvable, METH_O, "($self, keys, /)",
            "Whether keys of a closed list show that no list of moves wins from the board."),
-    METHOD("passage_to", board_passage_to, METH_O,
+    METHOD("passage_to", board_passage_to, METH_O, "($self, other, /)",
            "The passage to another board, or None if that is not equivalent."),
-    METHOD("play", board_play, METH_O, "The board after a move of one card."),
-    METHOD("play_run", board_play_run, METH_O, "The board after a move of several cards."),
-    METHOD("expand", board_expand, METH_O,
+    METHOD("play", board_play, METH_O, "($self, move, /)",
+           "The board after a move of one card."),
+    METHOD("play_run", board_play_run, METH_O, "($self, run, /)",
+           "The board after a move of several cards."),
+    METHOD("expand", board_expand, METH_O, "($self, run, /)",
            "The moves of one card that do what a move of several does."),
-    METHOD("capacity", board_capacity, METH_O,
+    METHOD("capacity", board_capacity, METH_O, "($self, column, /)",
            "How many cards can go at once to a column, 1 to 8."),
-    METHOD("__bytes__", board_bytes, METH_NOARGS, "The 72 bytes, which fcanon.h describes."),
-    METHOD("__reduce__", board_reduce, METH_NOARGS, NULL),
+    METHOD("__bytes__", board_bytes, METH_NOARGS, "($self, /)",
+           "The 72 bytes, which fcanon.h describes."),
+    NAMELESS("__reduce__", board_reduce, METH_NOARGS, NULL),
     {0}};
 
 static PyGetSetDef passage_fields[] = {
@@ -708,7 +718,8 @@ static PyGetSetDef board_fields[] = {
     {0}};
 
 static PyType_Slot passage_slots[] = {
-    {Py_tp_doc, "A way from one board to another: a renaming of suits, and orders of piles."},
+    {Py_tp_doc, "Passage(bytes_, game='freecell')\n--\n\n"
+                "A way from one board to another: a renaming of suits, and orders of piles."},
     {Py_tp_new, passage_new},
     {Py_tp_dealloc, forget},
     {Py_tp_methods, passage_methods},
@@ -719,7 +730,8 @@ static PyType_Slot passage_slots[] = {
     {Py_tp_repr, passage_repr},
     {0}};
 static PyType_Slot board_slots[] = {
-    {Py_tp_doc, "A board of a game, on which each of the 52 cards is once. It never changes."},
+    {Py_tp_doc, "Board(text, game='freecell')\n--\n\n"
+                "A board of a game, on which each of the 52 cards is once. It never changes."},
     {Py_tp_new, board_new},
     {Py_tp_dealloc, forget},
     {Py_tp_methods, board_methods},
@@ -734,19 +746,19 @@ static PyType_Spec passage_spec = {
 static PyType_Spec board_spec = {"fcanon.Board", sizeof(Board), 0, Py_TPFLAGS_DEFAULT, board_slots};
 
 static PyMethodDef functions[] = {
-    METHOD("canonicalize_all", canonicalize_all, BY_NAME,
+    METHOD("canonicalize_all", canonicalize_all, BY_NAME, "($module, boards, game='freecell')",
            "The bytes of the canonical boards of boards, of which each is 72 bytes.\n\n"
            "The Error has as its place which of them is none, from 0. Of an array with several\n"
            "dimensions the last must have 72 bytes."),
-    METHOD("canonicalize_all_with_passages", canonicalize_all_with_passages, BY_NAME,
+    METHOD("canonicalize_all_with_passages", canonicalize_all_with_passages, BY_NAME, "($module, boards, game='freecell')",
            "The same, and with it the bytes of the passages to them, of which each is 20 bytes."),
-    METHOD("hash_all", hash_all, BY_NAME,
+    METHOD("hash_all", hash_all, BY_NAME, "($module, boards, game='freecell')",
            "The canonical hashes of boards, each in 16 bytes, of boards of 72 bytes."),
-    METHOD("find_flaw", find_flaw, BY_NAME,
+    METHOD("find_flaw", find_flaw, BY_NAME, "($module, keys, game='freecell')",
            "None where keys of 72 bytes are those of a closed list, from whose boards no list of moves\n"
            "wins; else an Answer, which key, and for Answer.OPEN the move that leads out, or None."),
-    METHOD("set_error", set_error, METH_O, NULL),
-    METHOD("words_of", words_of, METH_O, NULL),
+    NAMELESS("set_error", set_error, METH_O, NULL),
+    NAMELESS("words_of", words_of, METH_O, NULL),
     {0}};
 static struct PyModuleDef definition = {
     PyModuleDef_HEAD_INIT, "fcanon._calls", NULL, -1, functions};

@@ -3,12 +3,16 @@
 tests/bindings/run says how it is run.
 """
 
+import ast
+import inspect
 import multiprocessing
 import pickle
 import re
 from array import array
 from concurrent.futures import ThreadPoolExecutor
+from pathlib import Path
 
+import fcanon
 from fcanon import (
     COMMANDS, GAMES, Answer, Board, Error, Passage, canonicalize_all, canonicalize_all_with_passages,
     hash_all, import_text, run,
@@ -104,10 +108,32 @@ def pickled():
             yield "a pool, which hangs", False
 
 
+def declared():
+    """Each function of the package, each class and each method, with what its types say that it takes."""
+    stubs = ast.parse(Path(fcanon.__file__).with_name("_calls.pyi").read_text())
+    classes = [it for it in stubs.body if isinstance(it, ast.ClassDef) and hasattr(fcanon, it.name)]
+    for place, body in [(fcanon, stubs.body), *((getattr(fcanon, it.name), it.body) for it in classes)]:
+        for it in body:
+            name = getattr(it, "name", "")
+            called = place if name == "__new__" else getattr(place, name, None)
+            if isinstance(it, ast.FunctionDef) and callable(called) and (called is place or not name.startswith("__")):
+                takes = [word.arg for word in it.args.args if word.arg != "cls"]
+                without = len(takes) - len(it.args.defaults)
+                yield name, called, [*zip(takes, [inspect.Parameter.empty] * without + [word.value for word in it.args.defaults])]
+
+
+def signatures():
+    """What inspect shows of a function is what its types say."""
+    found = [(name, takes, inspect.signature(called).parameters.values()) for name, called, takes in declared()]
+    yield "as many functions", len(found) > 25
+    for name, takes, parameters in found:
+        yield f"the signature of {name}", takes == [(it.name, it.default) for it in parameters]
+
+
 if __name__ == "__main__":
     for name, *it in REFUSED:
         if not is_refused(*it):
             print(f"it is not refused: {name}")
-    for name, is_so in [*batches(), *pickled(), *ordered(), *commands()]:
+    for name, is_so in [*batches(), *pickled(), *ordered(), *commands(), *signatures()]:
         if not is_so:
             print(f"it is not so: {name}")

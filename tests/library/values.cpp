@@ -73,6 +73,13 @@ static void try_moves(const Board &board) {
     }
 }
 
+static void try_symmetries(const Board &board) {
+    std::uint8_t suits[24][4];
+    std::uint32_t count;
+    MUST(!fcanon_symmetries(board.game(), &board.bytes(), suits, &count) && board.symmetries().size() == count);
+    for (std::size_t at = 0; at < count; at++) MUST(!std::memcmp(board.symmetries()[at].data(), suits[at], 4));
+}
+
 static void try_board(const Board &board) {
     Canonical there = board.canonicalize();
     fcanon_board key;
@@ -92,6 +99,7 @@ static void try_board(const Board &board) {
     MUST(std::hash<Board>()(there.board) == std::hash<Board>()(board.key()));
     MUST(!(board < board) && (board == there.board || (board < there.board) != (there.board < board)));
     try_child_hashes(board);
+    try_symmetries(board);
     try_moves(board);
 }
 
@@ -175,6 +183,9 @@ int main() {
             for (const Board &board : play(dealt)) boards.push_back(board);
         }
         for (const Board &board : boards) try_board(board);
+        Board won = Board::read(game, "Found: C-K D-K H-K S-K\n");
+        try_symmetries(won);
+        MUST(won.symmetries().size() == (game ? 24 : 8));
         try_sets(boards);
         try_spans(boards);
     }

@@ -2,7 +2,8 @@
 //! repository, or where pkg-config says that it is installed. Where `FCANON_PORTABLE` names a folder
 //! with fcanon-portable.c, or this one has it and no archive is found, the archive is made of that by a
 //! C compiler. Where there is neither, the crate is still checked and documented, and a program is not
-//! linked. What is found by itself is for this machine, so for another one it is not taken.
+//! linked. What is found by itself is for this machine, so for another one it is not taken. With the
+//! feature `commands` it does so for `libfcanon_runs.a` and fcanon-runs-portable.c too.
 use std::env::{var, var_os};
 use std::path::{Path, PathBuf};
 use std::process::Command;
@@ -27,19 +28,30 @@ fn tool(name: &str) -> Option<String> {
     var(format!("{name}_{target}")).or_else(|_| var(name)).ok()
 }
 
-/// The folder of the archive that is made of the library as one file of C. Beside a compiler
-/// `NAME-gcc` is `NAME-ar`.
-fn compiled(folder: &Path) -> PathBuf {
-    let made = PathBuf::from(var_os("OUT_DIR").expect("cargo names the folder"));
-    let (source, object) = (folder.join("fcanon-portable.c"), made.join("fcanon-portable.o"));
+/// The libraries that are linked, each with the file of C that has it.
+fn libraries() -> &'static [(&'static str, &'static str)] {
+    let all = &[("fcanon", "fcanon-portable.c"), ("fcanon_runs", "fcanon-runs-portable.c")];
+    &all[..=usize::from(var_os("CARGO_FEATURE_COMMANDS").is_some())]
+}
+
+/// Makes the archive of a library as one file of C. Beside a compiler `NAME-gcc` is `NAME-ar`.
+fn compile(name: &str, source: &Path, made: &Path) {
     println!("cargo:rerun-if-changed={}", source.display());
+    let object = made.join(name).with_extension("o");
     let compiler = tool("CC").unwrap_or_else(|| "cc".to_string());
     let beside = compiler.strip_suffix("gcc").unwrap_or_default().to_string() + "ar";
     let mut words = Command::new(compiler);
-    words.args(["-std=c11", "-O2", "-fPIC", "-c"]).arg(source).arg("-I").arg(folder);
-    run(words.arg("-o").arg(&object));
+    run(words.args(["-std=c11", "-O2", "-fPIC", "-c"]).arg(source).arg("-o").arg(&object));
     let archiver = tool("AR").unwrap_or(beside);
-    run(Command::new(archiver).arg("crs").arg(made.join("libfcanon.a")).arg(object));
+    run(Command::new(archiver).arg("crs").arg(made.join(format!("lib{name}.a"))).arg(object));
+}
+
+/// The folder of the archives that are made of files of C in this one.
+fn compiled(folder: &Path) -> PathBuf {
+    let made = PathBuf::from(var_os("OUT_DIR").expect("cargo names the folder"));
+    for (name, file) in libraries() {
+        compile(name, &folder.join(file), &made);
+    }
     made
 }
 
@@ -65,9 +77,11 @@ fn main() {
     }
     match found() {
         Some(folder) => {
-            println!("cargo:rerun-if-changed={}", folder.join("libfcanon.a").display());
             println!("cargo:rustc-link-search=native={}", folder.display());
-            println!("cargo:rustc-link-lib=static=fcanon");
+            for (name, _) in libraries() {
+                println!("cargo:rerun-if-changed={}/lib{name}.a", folder.display());
+                println!("cargo:rustc-link-lib=static={name}");
+            }
         }
         None => println!(
             "cargo:warning=libfcanon.a is not found: name its folder in FCANON_LIB, or install it \

@@ -1,5 +1,5 @@
-//! The calls of libfcanon, as `fcanon.h` declares them and says what they do. The crate `fcanon`
-//! makes them safe.
+//! The calls of libfcanon, as `fcanon.h` declares them and says what they do, and with the feature
+//! `commands` those of `fcanon_runs.h`. The crate `fcanon` makes them safe.
 #![no_std]
 #![allow(non_camel_case_types)]
 
@@ -244,4 +244,58 @@ extern "C" {
         count: *mut usize,
     ) -> u32;
     pub fn fcanon_deal(game: u32, number: u32, board: *mut fcanon_board) -> u32;
+}
+
+/// A command over a collection.
+#[cfg(feature = "commands")]
+#[repr(C)]
+#[derive(Clone, Copy, PartialEq, Eq, Hash, Debug)]
+pub struct fcanon_request {
+    /// The command.
+    pub task: u32,
+    /// How it prints.
+    pub format: u32,
+    /// The game of records without a header.
+    pub game: u32,
+    /// Whether it reads any size, where it is not 0.
+    pub any_size: u32,
+    /// What the hashes of boards begin with.
+    pub seed: u64,
+}
+
+/// How much a command printed, and of how many records.
+#[cfg(feature = "commands")]
+#[repr(C)]
+#[derive(Clone, Copy, PartialEq, Eq, Hash, Debug)]
+pub struct fcanon_written {
+    /// The length of the whole output, in bytes.
+    pub length: usize,
+    /// How many records the input has.
+    pub records: usize,
+    /// How many of them are refused.
+    pub refused: usize,
+}
+
+#[cfg(feature = "commands")]
+extern "C" {
+    pub fn fcanon_run(
+        request: *const fcanon_request,
+        input: *const u8,
+        input_size: usize,
+        output: *mut u8,
+        output_size: usize,
+        written: *mut fcanon_written,
+    ) -> u32;
+    pub fn fcanon_import(
+        game: u32,
+        lines: u32,
+        input: *const u8,
+        input_size: usize,
+        output: *mut u8,
+        output_size: usize,
+        notes: *mut u8,
+        notes_size: usize,
+        written: *mut fcanon_written,
+        noted: *mut usize,
+    ) -> u32;
 }

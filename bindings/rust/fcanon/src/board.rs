@@ -14,9 +14,10 @@ use fcanon_sys::{
 
 // tools/tables wrote this from fcanon.h, to the next empty line.
 /// A game, with the number that `fcanon.h` gives it.
-#[derive(Clone, Copy, PartialEq, Eq, PartialOrd, Ord, Hash, Debug)]
+#[derive(Clone, Copy, PartialEq, Eq, PartialOrd, Ord, Hash, Debug, Default)]
 pub enum Game {
     /// Any card fills an empty column; built in alternating colours.
+    #[default]
     FreeCell,
     /// Any card fills an empty column; built in suit.
     BakersGame,

@@ -29,7 +29,8 @@ impl fmt::Display for Card {
 /// Declares each reason with the number that `fcanon.h` gives it.
 macro_rules! reasons {
     ($($name:ident = $answer:literal,)*) => {
-        /// Why a call did not do what it was asked for. `fcanon.h` says it of each at length.
+        /// Why a call did not do what it was asked for. `fcanon.h` and `fcanon_runs.h` say it of each at
+        /// length.
         #[derive(Clone, Copy, PartialEq, Eq, Hash, Debug)]
         #[non_exhaustive]
         #[allow(missing_docs)]
@@ -77,6 +78,11 @@ reasons! {
     NoDeal = 7,
     NoColumn = 8,
     NoRoom = 9,
+    NoTask = 10,
+    NoFormat = 11,
+    OutOfMemory = 12,
+    InputTooLarge = 13,
+    InputNotReadToItsEnd = 14,
     NotCanonical = 16,
     NotAscending = 17,
     Won = 18,
@@ -99,11 +105,22 @@ reasons! {
     BadFoundation = 68,
     RepeatedCard = 69,
 }
+/// The words of what whole commands alone answer.
+const RUN_FAULTS: [(u32, &str); 5] = [
+    (10, "no such task"),
+    (11, "no such format"),
+    (12, "out of memory"),
+    (13, "input too large"),
+    (14, "input not read to its end"),
+];
 const FIRST_MISSING_CARD: u32 = 128;
 const LAST_MISSING_CARD: u32 = 179;
 
 impl fmt::Display for Reason {
     fn fmt(&self, f: &mut fmt::Formatter) -> fmt::Result {
+        if let Some((_, words)) = RUN_FAULTS.iter().find(|it| it.0 == self.answer()) {
+            return f.write_str(words);
+        }
         let mut text = core::ptr::null();
         // SAFETY: there is room for the place of the words.
         unsafe { fcanon_find_answer_text(self.answer(), &mut text) };
