@@ -36,8 +36,8 @@ class Chapters(Links):
 
     def promises(self, chapter):
         """The public functions and the laws of a chapter."""
-        own = [piece for crate in chapter.crates for piece in self.sources.functions(crate)]
-        laws = [piece for piece in self.sources.functions("fc_laws") if re.split(r"[/.]", piece.file)[0] in chapter.modules]
+        own = [piece for crate in chapter.crates for piece in self.sources.functions[crate]]
+        laws = [piece for piece in self.sources.functions["fc_laws"] if re.split(r"[/.]", piece.file)[0] in chapter.modules]
         return [piece for piece in own + laws if piece.is_public]
 
     def told(self, chapter):
@@ -58,7 +58,7 @@ class Chapters(Links):
         trait = re.match(r"\w+", piece.owner.rpartition("::")[2])
         if piece.doc or " for " not in piece.owner:
             return piece.doc
-        named = (it for it in self.functions() if it.name == piece.name and it.doc and " for " not in it.owner)
+        named = (it for it in self.functions if it.name == piece.name and it.doc and " for " not in it.owner)
         return next((it.doc for it in named if trait and re.match(rf"{trait[0]}\b", it.owner)), [])
 
     def promise(self, piece):

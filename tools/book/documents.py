@@ -10,7 +10,7 @@ PATHS = sorted([*ROOT.glob("*.md"), *(ROOT / "docs").glob("*.md")])
 PAGES = {path.name: "index.html" if path.stem == "TRUST" else f"doc-{path.stem}.html" for path in PATHS}
 # They name what a user types and reads, and nothing of the code.
 OF_USERS = {"FORMATS.md", "KEEPERS.md", "PAGE.md", "SCALE.md"}
-SPAN = re.compile(r"`([^`]+)`|!\[([^\]]*)\]\([^)]*\)|\[((?:[^\]`]|`[^`]*`)*)\]\(([^)]*)\)"
+SPAN = re.compile(r"`([^`]+)`|!\[([^\]]*)\]\(([^)]*)\)|\[((?:[^\]`]|`[^`]*`)*)\]\(([^)]*)\)"
                   r"|\*\*((?:[^*]|\*(?!\*))+)\*\*|\*([^*\s][^*]*)\*|<(https?:[^>]*)>")
 
 # A paragraph that names a statement, which the book puts in its place.
@@ -36,7 +36,7 @@ class Document:
         return None if not page or ":" in path else page + (f"#{anchor}" if anchor else "")
 
     def span(self, found):
-        code, picture, words, path, strong, weak, address = found.groups()
+        code, picture, place, words, path, strong, weak, address = found.groups()
         if code:
             return self.code(code, self.heading, self.column)
         if words is not None:
@@ -47,7 +47,12 @@ class Document:
         if strong or weak:
             tag = "b" if strong else "i"
             return f"<{tag}>{self.inline(strong or weak)}</{tag}>"
-        return escape(picture if picture is not None else address)
+        return escape(address) if picture is None else self.picture(picture, place)
+
+    def picture(self, words, place):
+        """A drawn picture itself, or what a photograph of the page shows in words."""
+        near = [folder / place for folder in (ROOT, ROOT / "docs") if place.endswith(".svg") and (folder / place).exists()]
+        return near[0].read_text() if near else escape(words)
 
     def inline(self, text):
         parts, done = [], 0
@@ -124,6 +129,18 @@ def blocks_of(text):
         elif block:
             yield block
             block = []
+
+
+def explained():
+    """The headings below which a document explains a law, a definition or a lemma, by its name: its page and its words."""
+    found = {}
+    for path in PATHS:
+        heading = ""
+        for line in path.read_text().splitlines():
+            heading = line.lstrip("# ") if line.startswith("## ") else heading
+            if named := STATEMENT.fullmatch(line):
+                found.setdefault(named[2].rpartition("::")[2], (f"{PAGES[path.name]}#{anchor_of(heading)}", f"{title_of(path)}: {heading}"))
+    return found
 
 
 def section(path, title):

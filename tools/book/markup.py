@@ -1,6 +1,7 @@
 """HTML: pages, lists, and texts whose words are links."""
 
 import re
+from functools import cache
 from html import escape
 
 from sources import definitions
@@ -14,6 +15,9 @@ STYLE = """:root {
 }
 body { margin: 0; background: var(--paper); color: var(--ink); font: 16px/1.5 system-ui, sans-serif }
 nav, main { max-width: 62rem; margin: 0 auto; padding: .5rem 1rem }
+p, li, blockquote, input { max-width: 38em }
+svg { max-width: 100%; height: auto }
+input { width: 100%; font: inherit; box-sizing: border-box }
 nav { border-bottom: 1px solid var(--line); display: flex; flex-wrap: wrap }
 nav a { margin-right: 1rem; white-space: nowrap }
 a { color: var(--link); text-decoration: none }
@@ -23,7 +27,7 @@ h1, h2, h3, h4 { line-height: 1.25; overflow-wrap: anywhere }
 pre, code { font-family: ui-monospace, monospace; font-size: .88em }
 pre { background: var(--box); padding: .6rem; overflow-x: auto; white-space: pre-wrap; overflow-wrap: anywhere; margin: .4rem 0 }
 table { border-collapse: collapse; display: block; overflow-x: auto }
-th, td { border: 1px solid var(--line); padding: .3rem .5rem; text-align: left; vertical-align: top; overflow-wrap: anywhere }
+th, td { min-width: 4em; border: 1px solid var(--line); padding: .3rem .5rem; text-align: left; vertical-align: top; overflow-wrap: anywhere }
 blockquote { border-left: 4px solid var(--line); margin: 1rem 0; padding: .2rem 1rem; font-size: 1.1em }
 section { border-top: 1px solid var(--line); margin-top: 1rem }
 :target { outline: 2px solid var(--link) }
@@ -37,10 +41,25 @@ section { border-top: 1px solid var(--line); margin-top: 1rem }
 """
 
 WORDS = [("index.html", "Start"), ("index.html#crates", "Crates"), ("index.html#promises", "Promises"), ("crate-fc_laws.html", "Laws"),
-         ("wrong.html", "Wrong bodies"), ("trusted.html", "Trusted and tested"),
+         ("wrong.html", "Mutants"), ("names.html", "Names"), ("trusted.html", "Trusted and tested"),
          ("doc-ARCHITECTURE.html#the-way-of-a-record", "The way of a record")]
 
 
+# What the page of names does as one types: it needs no server, and without it all names are there.
+SEARCH = """const field = document.querySelector('input'), names = [...document.querySelectorAll('li')];
+field.hidden = false;
+field.oninput = () => {
+    const words = field.value.toLowerCase().split(/\\s+/);
+    for (const name of names) name.hidden = !words.every((word) => name.textContent.toLowerCase().includes(word));
+};
+"""
+
+
+# A call: the last name before its own, as of a type or a module, and its name.
+CALL = re.compile(r"(?<![\w.])(?:(self(?=\.)|\w+(?=::))(?:::<[\w, ]*>)?(?:::|\.))?([a-z_]\w*)(?=\(|::<)")
+
+
+@cache
 def link(target, words):
     return f'<a href="{escape(target)}">{escape(words)}</a>'
 
@@ -83,6 +102,17 @@ def linked(text, target_of, words=definitions.WORD):
         if target:
             parts += [escape(text[done:word.start()], False), link(target, word[0])]
             done = word.end()
+    return "".join([*parts, escape(text[done:], False)])
+
+
+def linked_calls(text, target_of):
+    """The text of a body with a link for each function that it calls, by its owner, as in `Board::step(`, and its name."""
+    done, parts = 0, []
+    for call in CALL.finditer(text):
+        target = target_of(call[1] or "", call[2])
+        if target:
+            parts += [escape(text[done:call.start(2)], False), link(target, call[2])]
+            done = call.end(2)
     return "".join([*parts, escape(text[done:], False)])
 
 

@@ -1,8 +1,9 @@
 """What the book is made of: definitions, contracts and laws as tests/lib/definitions.py reads them, and beside them functions
-with their code, wrong bodies, and written proofs."""
+with their code, mutants, and written proofs."""
 
 import re
 import sys
+from functools import cache
 from pathlib import Path
 
 sys.dont_write_bytecode = True
@@ -19,6 +20,11 @@ LEMMA = re.compile(r"^(?: +(?=pub |abbrev ))?(?:(?:abbrev|unfoldable|pub|record|
 
 LAW_MODULES = sorted({path.relative_to(CRATES["fc_laws"] / "src").parts[0].removesuffix(".rt")
                       for path in (CRATES["fc_laws"] / "src").rglob("*.rt")} - {"lib"})
+
+
+@cache
+def text_of(path):
+    return path.read_text()
 
 
 def is_law(piece):
@@ -41,7 +47,7 @@ class Piece:
         self.crate, self.file, self.first, self.lines, self.owner = crate, file, first, lines, owner
         self.name = match[3] if match else None
         self.is_public, self.anchor, self.edits, self.proofs, self.cites = is_public, None, [], [], set()
-        self.doc, self.head, self.body = [], [], []
+        self.doc, self.head, self.body, self.around = [], [], [], ""  # around: the line of its impl or trait
 
     def part(self, indent):
         """Takes a function apart: its comment, its head with the clauses, its body."""
@@ -59,10 +65,11 @@ class Piece:
         return self.head[:place], self.head[place:]
 
 
-def end_of_head(lines, start):
+def end_of_head(lines, start, indent=""):
     """The place where the body begins, or the end of a head without one."""
     in_clauses, depth = False, 0  # depth: the braces of a clause that are open
-    for place, line in enumerate(lines[start:], start):
+    for place in range(start, len(lines)):
+        line = lines[place][len(indent):]
         in_clauses = in_clauses or CLAUSE.match(line) is not None
         depth += (line.count("{") - line.count("}")) * in_clauses
         if line in ("{", "{}"):
@@ -74,13 +81,13 @@ def end_of_head(lines, start):
 
 def end_of_function(lines, start, indent):
     """The place after the last line of the function that begins here."""
-    end = end_of_head([line[len(indent):] for line in lines], start)
+    end = end_of_head(lines, start, indent)
     last = lines[end - 1]
     if last.endswith((";", "{}")) or end == len(lines):
         return end
     if lines[end] == f"{indent}{{}}":
         return end + 1
-    return next(place for place, line in enumerate(lines[end:], end) if line == f"{indent}}}") + 1
+    return lines.index(f"{indent}}}", end) + 1
 
 
 def start_with_comment(lines, place, before):
@@ -92,11 +99,12 @@ def start_with_comment(lines, place, before):
 
 def pieces_of(crate, path, file):
     """The pieces of a file of code, in their order."""
-    lines, done, place, owner, shown = path.read_text().splitlines(), 0, 0, "", ""
+    lines, done, place, owner, shown, around = text_of(path).splitlines(), 0, 0, "", "", ""
     while place < len(lines):
         if found := OWNER.match(lines[place]):
             words = re.sub(r"^<[^>]*(?:<[^>]*>[^>]*)*>", "", found[3].strip()).partition(" where ")[0]
             owner, shown = words.split("{")[0].strip(), found[2] if found[2] == "impl" else found[1] + found[2]
+            around = lines[place]
         if not (found := FUNCTION.match(lines[place])):
             place += 1
             continue
@@ -107,6 +115,7 @@ def pieces_of(crate, path, file):
         is_public = found[2] == "pub " or bool(owner) and (" for " in owner or shown == "pub trait")
         piece = Piece(crate, file, start, lines[start:end], owner, found, is_public)
         piece.part(found[1])
+        piece.around = around if owner else ""
         yield piece
         done = place = end
     if any(line.strip(" }") for line in lines[done:]):
@@ -114,7 +123,7 @@ def pieces_of(crate, path, file):
 
 
 class Edit:
-    """A wrong body: what it says of itself by its words, and the texts that it replaces."""
+    """A mutant: what it says of itself by its words, and the texts that it replaces."""
 
     def __init__(self, crate, name, lines, is_must_fail):
         self.crate, self.name, self.is_must_fail, self.piece = crate, name, is_must_fail, None
@@ -124,7 +133,7 @@ class Edit:
 
 
 def edits_of(crate):
-    """The wrong bodies of a crate, those of must-fail first."""
+    """The mutants of a crate, those of must-fail first."""
     folder = CRATES[crate]
     for path in sorted((folder / "must-fail").glob("*.edit")):
         yield Edit(crate, path.stem, [line.removeprefix("# ") for line in path.read_text().splitlines()], True)
@@ -158,6 +167,7 @@ class Sources:
         self.pieces = {crate: list(self.pieces_in(crate)) for crate in CRATES}
         self.edits = {crate: list(edits_of(crate)) for crate in CRATES}
         self.proofs = {crate: list(proofs_of(crate)) for crate in CRATES}
+        self.functions = {crate: [piece for piece in pieces if piece.name] for crate, pieces in self.pieces.items()}
         for crate in CRATES:
             self.join(crate)
 
@@ -165,18 +175,15 @@ class Sources:
         folder = CRATES[crate] / "src"
         paths = [path for path in folder.rglob("*.rt") if "tests" not in path.with_suffix("").parts]
         for path in sorted(paths, key=lambda it: (it.stem != "lib", it.with_suffix("").parts)):
-            names = definitions.imports_of(path.read_text())
+            names = definitions.imports_of(text_of(path))
             for piece in pieces_of(crate, path, str(path.relative_to(folder))):
                 own = {**names, **definitions.imports_of("\n".join(piece.lines))}
                 clauses = "\n".join(piece.signature[1] if piece.name else piece.lines)
                 piece.names, piece.cites = own, self.definitions.homes_in(clauses, own)
                 yield piece
 
-    def functions(self, crate):
-        return [piece for piece in self.pieces[crate] if piece.name]
-
     def join(self, crate):
-        """Gives each function its wrong bodies and its proofs."""
+        """Gives each function its mutants and its proofs."""
         for edit in self.edits[crate]:
             edit.piece = self.function_around(crate, edit)
             if edit.piece:
@@ -188,11 +195,11 @@ class Sources:
                     proof.piece.proofs.append(proof)
 
     def function_around(self, crate, edit):
-        """The function that has the first text that the wrong body replaces."""
+        """The function that has the first text that the mutant replaces."""
         file, old = edit.said["file"], edit.said["old"]
-        text = (CRATES[crate] / file).read_text()
+        text = text_of(CRATES[crate] / file)
         line = text[:text.find(old) + len(old) - len(old.lstrip())].count("\n")
-        for piece in self.functions(crate):
+        for piece in self.functions[crate]:
             if f"src/{piece.file}" == file and piece.first <= line < piece.first + len(piece.lines):
                 return piece
         return None
@@ -204,5 +211,5 @@ class Sources:
             near = [part for part in parts[:-1] if any(part.startswith(word) and len(word) > 1 for word in owner)]
             files = piece.file.removesuffix(".rt").split("/")
             return (bool(near) == bool(owner), sum(part in files for part in parts[:-1]))
-        named = [piece for piece in self.functions(crate) if piece.name == parts[-1].lstrip("+")]
+        named = [piece for piece in self.functions[crate] if piece.name == parts[-1].lstrip("+")]
         return max(named, key=fits, default=None)
