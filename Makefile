@@ -49,7 +49,7 @@ book: needs-python3 ## makes linked pages on what is proved, and how, in build/b
 	@tools/book/make build/book
 	@echo "build/book/index.html is made: open it in a browser."
 
-paper: needs-pdflatex ## makes a paper of six pages on it, build/fcanon-paper.pdf
+paper: needs-python3 needs-pdflatex ## makes a paper of eight pages on it, build/fcanon-paper.pdf
 	@tools/paper build/fcanon-paper.pdf
 	@echo "build/fcanon-paper.pdf is made."
 
@@ -62,7 +62,7 @@ settled: all library needs-python3 needs-cc ## settles deals by proof, in build/
 unsolvable: all library needs-python3 needs-cc ## makes closed lists of the eight unsolvable deals, in build/deals
 	@tools/unsolvable build/deals
 
-test: needs-rt needs-python3 needs-cc ## proves all from nothing, tries wrong bodies, runs all tests
+test: needs-rt needs-python3 needs-cc ## proves all from nothing, tries mutants, runs all tests
 	@tests/all
 
 bench: library needs-python3 needs-cc ## measures records a second, memory and calls
@@ -78,10 +78,10 @@ chaos: library needs-python3 needs-cc ## tries input made by chance, for so many
 	@tests/library/chaos build
 	@tests/chaos build/fcanon $(MINUTES)
 
-edits: needs-rt needs-python3 ## tries all wrong bodies, or CRATE=fc_text, or MADE=60 that a machine makes
+edits: needs-rt needs-python3 ## has the prover refuse all mutants, or CRATE=fc_text, or MADE=60 that a machine makes
 	@made="$(MADE)"; tests/edits $${made:+--made $$made} $(CRATE)
 
-mutants: needs-rt needs-python3 needs-cc ## says which wrong bodies the test cases see, or of CRATE=.., MADE=60
+mutants: needs-rt needs-python3 needs-cc ## says which mutants the test cases kill, or of CRATE=.., MADE=60
 	@made="$(MADE)"; tests/mutants $${made:+--made $$made} $(CRATE)
 
 # Nothing is proved here, so that root needs no toolchain.
@@ -130,4 +130,4 @@ needs-fc-solve:
 needs-pdflatex:
 	@command -v pdflatex >/dev/null || { \
 		echo "This needs LaTeX: put the command pdflatex on the PATH (in Debian the packages" \
-			"texlive-latex-recommended, texlive-fonts-recommended and lmodern)." >&2; exit 1; }
+			"texlive-latex-recommended, texlive-fonts-recommended, texlive-pictures and lmodern)." >&2; exit 1; }

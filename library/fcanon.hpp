@@ -256,6 +256,16 @@ public:
         detail::must(fcanon_sums(number, &held, &made.held));
         return made;
     }
+    /* The renamings that with some orders lead from the board to itself: what clubs, diamonds, hearts and
+     * spades become, 0 to 3. The first changes nothing. */
+    std::vector<std::array<std::uint8_t, 4>> symmetries() const {
+        std::uint8_t suits[24][4];
+        std::uint32_t count;
+        detail::must(fcanon_symmetries(number, &held, suits, &count));
+        std::vector<std::array<std::uint8_t, 4>> made(count);
+        std::memcpy(made.data(), suits, 4 * count);
+        return made;
+    }
     /* The passage to another board; FCANON_APART is thrown where there is none. */
     Passage passage_to(const Board &other) const {
         if (number != other.number) throw Error(FCANON_APART);

@@ -1,12 +1,10 @@
 """Cases: a command, or an import, over a text in memory; what the rows want of them, and what the program does.
 
-Who answers them takes each as a line of JSON, and answers by one: the status, what is printed, or null where a run gives up,
-and what is said, both in base64.
+Who answers them takes each as a line: command, game, format, 1 for any size, else 0, and the text. It answers by a line: the
+status, what is printed, or `-` where a run gives up, and what is said. Texts are in hexadecimal digits.
 """
 
 import argparse
-import base64
-import json
 import random
 import subprocess
 from typing import NamedTuple
@@ -40,7 +38,7 @@ class Case(NamedTuple):
         return self.form if self.form in LINES else "unsaid"
 
     def line(self):
-        return json.dumps([*self[:4], base64.b64encode(self.text).decode()]) + "\n"
+        return f"{self.task} {self.game} {self.form} {int(self.any_size)} {self.text.hex()}\n"
 
 
 def options():
@@ -100,8 +98,8 @@ def by_driver(words, tried, **more):
     given = "".join(map(Case.line, tried))
     ended = subprocess.run(words, input=given, text=True, stdout=subprocess.PIPE, check=True, **more)
     for line in ended.stdout.splitlines():
-        status, output, said = json.loads(line)
-        yield Ended(status, None if output is None else base64.b64decode(output), base64.b64decode(said))
+        status, output, said = line.split(" ")
+        yield Ended(int(status), None if output == "-" else bytes.fromhex(output), bytes.fromhex(said))
 
 
 def wanted(program, others):

@@ -15,6 +15,7 @@ PUBLIC = re.compile(r"^( *)pub (?:const |unsafe |extern \"C\" )*fn (\w+)(.*?)^\1
 SEEN = re.compile(r"^(?:pub trait (\w+)|pub struct (\w+)|impl\b[^\n]* Model for (\w+)).*?^\}", re.M | re.S)
 METHOD = re.compile(r"^    fn (\w+)(.*?)(?:^    \{|;$)", re.M | re.S)  # of a trait
 GHOST = re.compile(r"ghost \w+ ?[:=] \{(.*?)\}", re.S)
+SIGN = re.compile(r"[{},]|[^{},]+")  # of the tree of a `use`
 
 
 class Definition:
@@ -28,17 +29,23 @@ class Definition:
         self.lines = len(text.splitlines())
 
 
-def used(tree, front=""):
-    """The names that the tree of a `use` brings in: the last of each path, or what comes after `as`, with its module."""
-    parts, depth, part = [], 0, ""
-    for sign in tree:
+def branches(tree):
+    """The parts of the tree of a `use` that its outer commas part."""
+    if "{" not in tree:
+        return tree.split(",")
+    parts, depth = [""], 0
+    for sign in SIGN.findall(tree):
         depth += (sign == "{") - (sign == "}")
         if sign == "," and not depth:
-            parts.append(part)
-            part = ""
+            parts.append("")
         else:
-            part += sign
-    for part in (it.strip() for it in [*parts, part]):
+            parts[-1] += sign
+    return parts
+
+
+def used(tree, front=""):
+    """The names that the tree of a `use` brings in: the last of each path, or what comes after `as`, with its module."""
+    for part in map(str.strip, branches(tree)):
         path, brace, inner = part.partition("{")
         if brace:
             yield from used(inner.rsplit("}", 1)[0], front + path)

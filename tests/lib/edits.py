@@ -1,4 +1,4 @@
-"""The wrong bodies of a crate, as its wrong-bodies.edits and the files of its folder must-fail have them."""
+"""The mutants of a crate, as its wrong-bodies.edits and the files of its folder must-fail have them."""
 
 import re
 
@@ -9,7 +9,7 @@ ITEM = re.compile(r"(?:pub(?:\((?:crate|super)\))? )?(?:static|const|struct|enum
 
 
 class Edit:
-    """A wrong body, or the right twin of one: its name and, for each text that it replaces, the file, the text and the new one.
+    """A mutant, or the control of one: its name and, for each text that it replaces, the file, the text and the new one.
 
     A twin may have an answer of its own in a file of proofs, where `\\n` stands for the end of a line.
     """
@@ -67,13 +67,13 @@ def pairs_of(lines, word="new"):
 
 
 def bodies_of(name, lines):
-    """The wrong body of these lines, and its right twin if they have one."""
+    """The mutant of these lines, and its control if they have one."""
     right = pairs_of(lines, "right")
     return [Edit(name, pairs_of(lines)), *([Edit(name, right, right=True)] if right else [])]
 
 
 def edits_of(crate):
-    """All edits of a crate, by name, each with its right twin if it has one."""
+    """All edits of a crate, by name, each with its control if it has one."""
     edits = {}
     listed = crate / "wrong-bodies.edits"
     for entry in listed.read_text().split("\nedit: ")[1:] if listed.exists() else []:

@@ -97,15 +97,6 @@ pub so_at : (keys : List BoardBytes) (place : ℕ) (blank : BoardBytes) (IsSo : 
 so_at keys place blank IsSo within so =
     (within, λ default. subst IsSo (get_or_default keys place blank default within) so)
 
-pub above_at : (keys : List BoardBytes) (place : ℕ) (blank blank' : BoardBytes) → place < length keys →
-    IsLess (all_bytes (get_or keys (place - 1) blank)) (all_bytes (get_or keys place blank')) → IsAbove keys place
-above_at keys place blank blank' within less before default next =
-    let earlier : place - 1 ≡ before = omega (arith, next) in
-    let inside : place - 1 < length keys = omega (arith, within) in
-    subst (λ key. IsLess (all_bytes (get_or keys before default)) (all_bytes key)) (get_or_default keys place blank' default within)
-    (subst (λ before. IsLess (all_bytes (get_or keys before default)) (all_bytes (get_or keys place blank'))) earlier
-    (subst (λ key. IsLess (all_bytes key) (all_bytes (get_or keys place blank'))) (get_or_default keys (place - 1) blank default inside) less))
-
 pub not_above_at : (keys : List BoardBytes) (place : ℕ) (blank blank' : BoardBytes) → place < length keys → 0 < place →
     ¬ IsLess (all_bytes (get_or keys (place - 1) blank)) (all_bytes (get_or keys place blank')) → ¬ IsAbove keys place
 not_above_at keys place blank blank' within later not_less above =

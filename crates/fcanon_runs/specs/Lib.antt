@@ -11,8 +11,8 @@ use Rattle.fc_collect.specs.declared.{
   streams.faults.RunFault.{RunFault, TheVariants.{Memory, Read, ReaderNeverEnds, TooLarge, Write}},
   streams.{faults.Summary.{Summary}, limits.Limits.{Limits}},
 }
-use Rattle.fc_import.specs.declared.{changes.Noted.TheVariants.{Doubts}, layout.LinesAre.{LinesAre}}
-use Rattle.fc_import.specs.declared.layout.LinesAre.TheVariants.{Columns, Rows, Unsaid}
+use Rattle.fc_import.specs.declared.options.LinesAre.{LinesAre, TheVariants.{Columns, Rows, Unsaid}}
+use Rattle.fc_import.specs.declared.options.Noted.TheVariants.{Doubts}
 use Rattle.fcanon_runs.specs.declared.output.Written.{Written}
 
 -- ======== The numbers by which C knows games, tasks, formats and faults. From: this project's profile.
@@ -68,26 +68,26 @@ FaultOf limits input answer = answer ≡ 13 → (front : List ℕ) × Begins fro
 
 -- ======== What an import of memory hands over. From: this project's profile.
 
--- this text is made of the input, and this is said of it
-pub record ImportOf (variant : Variant) (input text said : List ℕ) (summary : Summary) : Type 0 where
+-- this text is made of the input, whose lines of cards are said to be this, and this is said of it
+pub record ImportOf (variant : Variant) (lines : ℕ) (input text said : List ℕ) (summary : Summary) : Type 0 where
   pub few : length input ≤ most_bytes
-  pub makes : Makes variant Doubts input text said summary
+  pub makes : Makes variant (record { lines_are = lines_at lines; noted = Doubts }) input text said summary
 
 -- the output begins with what is made of the input, and the notes with what is said of it; both are as they were after that
-pub record HandsOverImport (variant : Variant) (input before after notes_before notes_after : List ℕ) (written : Written) (noted : ℕ) : Type 0 where
+pub record HandsOverImport (variant : Variant) (lines : ℕ) (input before after notes_before notes_after : List ℕ) (written : Written) (noted : ℕ) : Type 0 where
   pub text : List ℕ
   pub said : List ℕ
-  pub is_import : ImportOf variant input text said (counted written)
+  pub is_import : ImportOf variant lines input text said (counted written)
   pub long : length text ≡ written.length
   pub front : after ≡ text ++ drop written.length before
   pub said_long : length said ≡ noted
   pub said_front : notes_after ≡ said ++ drop noted notes_before
 
 -- what is made of the input, or what is said of it, has the length that is written, and is longer than its place
-pub record NeedsRoomForImport (variant : Variant) (input before notes_before : List ℕ) (written : Written) (noted : ℕ) : Type 0 where
+pub record NeedsRoomForImport (variant : Variant) (lines : ℕ) (input before notes_before : List ℕ) (written : Written) (noted : ℕ) : Type 0 where
   pub text : List ℕ
   pub said : List ℕ
-  pub is_import : ImportOf variant input text said (counted written)
+  pub is_import : ImportOf variant lines input text said (counted written)
   pub long : length text ≡ written.length
   pub said_long : length said ≡ noted
   pub longer : (length before < written.length) ⊎ (length notes_before < noted)

@@ -7,7 +7,7 @@ ghost use Rattle.fcanon_runs.specs.{NeedsRoomForImport};
 use crate::numbers::{DONE, NO_GAME, NO_ROOM, answer_to, lines_of};
 use crate::output::{Written, put_front};
 use fc_collect::{Counted, RunFault, Summary, Variant};
-use fc_import::{LinesAre, Noted, run_import};
+use fc_import::{ImportOptions, Noted, run_import};
 use std::alloc::Global;
 
 /// Makes a collection of this game of the text, as the program does, and puts it to the front of
@@ -26,9 +26,9 @@ pub extern "C" fn fcanon_import(
     written: &mut Written,
     noted: &mut usize,
 ) -> u32
-    ensures done { result ≡ 0 → HandsOverImport (variant_at game) input.now
+    ensures done { result ≡ 0 → HandsOverImport (variant_at game) lines input.now
         output.old output.new notes.old notes.new written.new noted.new }
-    ensures no_room { result ≡ 9 → NeedsRoomForImport (variant_at game) input.now
+    ensures no_room { result ≡ 9 → NeedsRoomForImport (variant_at game) lines input.now
         output.old notes.old written.new noted.new }
     ensures fault { result ≡ 13 → ImportFaultOf input.now }
     ensures no_game { 3 ≤ game → result ≡ 1 }
@@ -40,7 +40,7 @@ pub extern "C" fn fcanon_import(
     let Some(variant) = Variant::numbered(game) else {
         return NO_GAME;
     };
-    let imported = match import_over(alloc, variant, lines_of(lines), input) {
+    let imported = match import_over(alloc, variant, lines, input) {
         Ok(imported) => imported,
         Err(fault) => return answer_to(fault),
     };
@@ -67,25 +67,21 @@ struct Imported {
 fn import_over(
     alloc: Global,
     variant: Variant,
-    lines_are: LinesAre,
+    lines: u32,
     input: &[u8],
 ) -> Result<Imported, RunFault>
-    ensures done { IfOk result (λ imported. ImportOf variant input.now
+    ensures done { IfOk result (λ imported. ImportOf variant lines input.now
         imported.text.items imported.said.items imported.summary) }
     ensures fault { IfErr result (λ fault. fault_answer fault ≡ 13 → ImportFaultOf input.now) }
 {
+    let options = ImportOptions {
+        lines_are: lines_of(lines),
+        noted: Noted::Doubts,
+    };
     let mut reader = Counted::new(input);
     let mut writer = Counted::new(Vec::new(alloc));
     let mut said = Vec::new(alloc);
-    match run_import(
-        alloc,
-        variant,
-        lines_are,
-        Noted::Doubts,
-        &mut reader,
-        &mut writer,
-        &mut said,
-    ) {
+    match run_import(alloc, variant, options, &mut reader, &mut writer, &mut said) {
         Ok(summary) => Ok(Imported {
             text: writer.into_inner(),
             said,
