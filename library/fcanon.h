@@ -112,8 +112,8 @@ typedef struct fcanon_run_move {
 } fcanon_run_move;
 
 /* The sums of a board, 384 bytes: one for each renaming of suits that keeps the building rule, 8 in
- * FreeCell and 24 in the other games, in the ascending order of these, and 0 after them. Each is in two
- * words, the lower one first. */
+ * FreeCell and 24 in the other games, in the ascending order of these, and 0 after them: in FreeCell a
+ * search may keep the first 128 bytes alone. Each is in two words, the lower one first. */
 typedef struct fcanon_class_sums {
     uint64_t sums[24][2];
 } fcanon_class_sums;
@@ -224,11 +224,11 @@ FCANON_CALL uint32_t fcanon_hash(uint32_t game, const fcanon_board *board, uint8
 FCANON_CALL uint32_t fcanon_sums(uint32_t game, const fcanon_board *board, fcanon_class_sums *sums);
 
 /* Makes the sums those of the board on which this card, 1 to 52, lies on the one no more, but on the other:
- * of the board after a move of one card, if they were those of the board before. from is 0 to 53 and onto
- * 0 to 54: a card, or FCANON_ON_FOOT, FCANON_ON_CELL or, for onto alone, FCANON_ON_HOME. The card that it
- * lies on stands before it in its column. Other numbers are answered by FCANON_NO_MOVE; whether the card
- * lay there is not looked at. With from and onto exchanged the move is taken back, but from home. Of cards
- * that go from column to column together the first alone needs it: the others lie on what they lay on. */
+ * of the board after a move of one card, if they were those of the board before. from and onto are 0 to 54:
+ * a card, or FCANON_ON_FOOT, FCANON_ON_CELL or FCANON_ON_HOME. The card that it lies on stands before it in
+ * its column. Other numbers are answered by FCANON_NO_MOVE; whether the card lay there is not looked at.
+ * With from and onto exchanged the move is taken back. Of cards that go from column to column together the
+ * first alone needs it: the others lie on what they lay on. */
 FCANON_CALL uint32_t fcanon_move_sums(uint32_t game, uint8_t card, uint8_t from, uint8_t onto,
     fcanon_class_sums *sums);
 

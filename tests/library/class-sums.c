@@ -60,7 +60,10 @@ static void play(uint32_t game, state *it, const fcanon_move *move) {
     if (is_column(move->to)) onto = before_last(&it->board, move->to - '1', 0);
     if (move->to == 'h') onto = FCANON_ON_HOME;
     must(!fcanon_play(game, &it->board, move), "a listed move is refused");
+    fcanon_class_sums before = it->sums, back;
     must(!fcanon_move_sums(game, card, from, onto, &it->sums), "the sums are not moved");
+    back = it->sums;
+    must(!fcanon_move_sums(game, card, onto, from, &back) && !memcmp(&back, &before, sizeof back), "a move is not taken back");
 }
 
 /* An equivalent board, by a passage of chance. */

@@ -465,6 +465,6 @@ module _ (game : Game) (board : Board) (well : IsWellFormed game board) where
   can_move after move step = (
     omega arith,
     taken_card move.from step.card step.fits.0 step.offered.1,
-    lies_below move.from step.fits.0,
+    omega (arith, lies_below move.from step.fits.0),
     put_below move.to step.fits.1,
   )

@@ -39,8 +39,8 @@ impl ClassSums {
     }
 
     /// Makes them the sums of the board on which this card, 1 to 52 as in the bytes of a board, lies
-    /// on the one no more, but on the other: another card, [`ON_FOOT`], [`ON_CELL`] or, for `onto`
-    /// alone, [`ON_HOME`].
+    /// on the one no more, but on the other: another card, [`ON_FOOT`], [`ON_CELL`] or [`ON_HOME`].
+    /// With these two exchanged it is taken back.
     ///
     /// # Errors
     ///
