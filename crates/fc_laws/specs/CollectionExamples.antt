@@ -1,7 +1,7 @@
 -- Collections as keepers of FreeCell boards write them, and what is printed for them.
 use Rattle.std.specs.List.{flat_map, join_with_byte}
 use Rattle.std.specs.Prelude.{◌++◌, ◌∷◌, [], codes, List, replicate, ℕ}
-use Rattle.fc_board.specs.declared.rule.Variant.TheVariants.{FreeCell}
+use Rattle.{fc_board.specs.declared.rule.Variant.TheVariants.{FreeCell}, fc_card.specs.Types.{Text}}
 use Rattle.fc_text.specs.Bytes.{carriage_return, line_feed, tab}
 use Rattle.fc_record.specs.Grammar.{Contents, Heading}
 use Rattle.fc_record.specs.Printing.{canon_lines, check_lines, expand_lines, printed, show_lines}
@@ -13,153 +13,153 @@ use Rattle.fc_collect.specs.declared.commands.RunKind.{RunKind}
 use Rattle.fc_laws.specs.{CanonicalExamples.{clubs_king_text}, TextExamples.{all_home, lines_text}}
 
 -- what is printed for a collection with these lines, where records without a header are of FreeCell
-abbrev pub printed_for : (ℕ → Heading → Contents → List ℕ) → List ℕ → List ℕ
+abbrev pub printed_for : (ℕ → Heading → Contents → Text) → Text → Text
 printed_for lines collection = flat_map (printed lines FreeCell) (records_of collection)
 
-abbrev pub output_of_show : List ℕ → List ℕ
+abbrev pub output_of_show : Text → Text
 output_of_show collection = printed_for show_lines collection
 
-abbrev pub output_of_check : List ℕ → List ℕ
+abbrev pub output_of_check : Text → Text
 output_of_check collection = printed_for check_lines collection
 
-abbrev pub output_of_expand : List ℕ → List ℕ
+abbrev pub output_of_expand : Text → Text
 output_of_expand collection = printed_for expand_lines collection
 
-abbrev pub output_of_canon : List ℕ → List ℕ
+abbrev pub output_of_canon : Text → Text
 output_of_canon collection = printed_for canon_lines collection
 
-abbrev pub output_of_table : List ℕ → List ℕ
+abbrev pub output_of_table : Text → Text
 output_of_table collection = printed_for table_line collection
 
-abbrev pub output_of_json_table : List ℕ → List ℕ
+abbrev pub output_of_json_table : Text → Text
 output_of_json_table collection = printed_for table_object collection
 
 -- what is printed with these lines for each group
-abbrev pub printed_in_groups : (List Member → List ℕ) → List ℕ → List ℕ
+abbrev pub printed_in_groups : (List Member → Text) → Text → Text
 printed_in_groups lines collection = whole_output (printed (λ number heading contents. []) FreeCell) (grouped lines FreeCell) collection
 
-abbrev pub output_of_group : List ℕ → List ℕ
+abbrev pub output_of_group : Text → Text
 output_of_group collection = printed_in_groups group_lines collection
 
-abbrev pub output_of_share : List ℕ → List ℕ
+abbrev pub output_of_share : Text → Text
 output_of_share collection = printed_in_groups share_lines collection
 
 -- what is printed of each group's first record
-abbrev pub output_of_unique : List ℕ → List ℕ
+abbrev pub output_of_unique : Text → Text
 output_of_unique collection = unique_output FreeCell (records_of collection)
 
 -- what a run of this kind writes
-abbrev pub output_of_run : RunKind → List ℕ → List ℕ
+abbrev pub output_of_run : RunKind → Text → Text
 output_of_run kind collection =
     output_of_kind kind FreeCell (records_of collection) ++ ending_of_kind kind FreeCell (records_of collection)
 
 -- what it writes of a piece of a collection that begins with the record of this number, at this byte
-abbrev pub output_of_piece : RunKind → ℕ → ℕ → List ℕ → List ℕ
+abbrev pub output_of_piece : RunKind → ℕ → ℕ → Text → Text
 output_of_piece kind number place piece =
     let records = records_from (record largest { number = number; place = place }) piece in
     output_of_kind kind FreeCell records ++ ending_of_kind kind FreeCell records
 
 -- two boards that are one another's images, of which the second has a solution
-abbrev pub group_of_two : List ℕ
+abbrev pub group_of_two : Text
 group_of_two = lines_text (codes "@ freecell one" ∷ codes "Foundations: H-K C-K D-Q S-K" ∷ codes ": KD"
     ∷ codes "@ freecell two" ∷ codes "Foundations: H-K C-Q D-K S-K" ∷ codes ":" ∷ codes ":" ∷ codes ": KC" ∷ codes "> 3h" ∷ [])
 
 -- the won board with the empty list
-abbrev pub won_with_empty_list : List ℕ
+abbrev pub won_with_empty_list : Text
 won_with_empty_list = lines_text (all_home ∷ codes ">" ∷ [])
 
-abbrev pub bad_variant : List ℕ
+abbrev pub bad_variant : Text
 bad_variant = lines_text (codes "@ spider x" ∷ codes ": KC" ∷ [])
 
 -- a column after a list
-abbrev pub stray_column : List ℕ
+abbrev pub stray_column : Text
 stray_column = lines_text (all_home ∷ codes ">" ∷ codes ": KC" ∷ [])
 
 -- a board between two that are won misses a king
-abbrev pub refused_in_group : List ℕ
+abbrev pub refused_in_group : Text
 refused_in_group = lines_text (codes "@ freecell a" ∷ all_home ∷ codes "@ freecell b" ∷ codes "Foundations: H-K C-K D-K S-Q" ∷ codes "@ freecell a" ∷ all_home ∷ [])
 
 -- ---- what is printed for them
 
-abbrev pub won_passage : List ℕ
+abbrev pub won_passage : Text
 won_passage = codes "# renaming CDHS columns 12345678 cells abcd"
 
-abbrev pub group_of_two_shown : List ℕ
+abbrev pub group_of_two_shown : Text
 group_of_two_shown = lines_text (codes "@ freecell one" ∷ codes "Foundations: H-K C-K D-Q S-K" ∷ codes "Freecells: - - - -"
     ∷ codes ": KD" ∷ codes ":" ∷ codes ":" ∷ codes ":" ∷ codes ":" ∷ codes ":" ∷ codes ":" ∷ codes ":"
     ∷ codes "@ freecell two" ∷ codes "Foundations: H-K C-Q D-K S-K" ∷ codes "Freecells: - - - -"
     ∷ codes ":" ∷ codes ":" ∷ codes ": KC" ∷ codes ":" ∷ codes ":" ∷ codes ":" ∷ codes ":" ∷ codes ":" ∷ codes "> 3h" ∷ [])
 
-abbrev pub blank_lines_made_canonical : List ℕ
+abbrev pub blank_lines_made_canonical : Text
 blank_lines_made_canonical = lines_text (codes "Foundations: H-K C-K D-K S-T" ∷ codes "Freecells: - - - -"
     ∷ codes ":" ∷ codes ":" ∷ codes ":" ∷ codes ":" ∷ codes ":" ∷ codes ": JS" ∷ codes ": KS" ∷ codes ": QS"
     ∷ codes "# renaming SDHC columns 35678412 cells abcd" ∷ [])
 
-abbrev pub group_of_two_shared : List ℕ
+abbrev pub group_of_two_shared : Text
 group_of_two_shared = lines_text (codes "@ freecell one" ∷ codes "Foundations: H-K C-K D-Q S-K" ∷ codes "Freecells: - - - -"
     ∷ codes ": KD" ∷ codes ":" ∷ codes ":" ∷ codes ":" ∷ codes ":" ∷ codes ":" ∷ codes ":" ∷ codes ":" ∷ codes "> 1h"
     ∷ codes "@ freecell two" ∷ codes "Foundations: H-K C-Q D-K S-K" ∷ codes "Freecells: - - - -"
     ∷ codes ":" ∷ codes ":" ∷ codes ": KC" ∷ codes ":" ∷ codes ":" ∷ codes ":" ∷ codes ":" ∷ codes ":" ∷ codes "> 3h" ∷ [])
 
 -- the columns of a line, with a tab between two
-abbrev pub in_columns : List (List ℕ) → List ℕ
+abbrev pub in_columns : List Text → Text
 in_columns fields = join_with_byte tab fields
 
 -- the canonical text of both boards in one line
-abbrev pub group_of_two_board : List ℕ
+abbrev pub group_of_two_board : Text
 group_of_two_board = codes "Foundations: H-K C-K D-K S-Q  Freecells: - - - -  :  :  :  :  :  :  :  : KS"
 
-abbrev pub group_of_two_tabulated : List ℕ
+abbrev pub group_of_two_tabulated : Text
 group_of_two_tabulated = lines_text (
     in_columns (codes "one" ∷ codes "freecell" ∷ group_of_two_board ∷ codes "DSCH" ∷ codes "23456781" ∷ codes "abcd" ∷ codes "0" ∷ codes "-" ∷ [])
     ∷ in_columns (codes "two" ∷ codes "freecell" ∷ group_of_two_board ∷ codes "SDHC" ∷ codes "12456783" ∷ codes "abcd" ∷ codes "1" ∷ codes "1" ∷ []) ∷ [])
 
-abbrev pub group_of_two_in_json : List ℕ
+abbrev pub group_of_two_in_json : Text
 group_of_two_in_json =
     codes "{\"name\":\"one\",\"variant\":\"freecell\",\"board\":\"" ++ group_of_two_board ++ codes "\",\"renaming\":\"DSCH\",\"columns\":\"23456781\",\"cells\":\"abcd\",\"lists\":0,\"win\":null}\n"
     ++ codes "{\"name\":\"two\",\"variant\":\"freecell\",\"board\":\"" ++ group_of_two_board ++ codes "\",\"renaming\":\"SDHC\",\"columns\":\"12456783\",\"cells\":\"abcd\",\"lists\":1,\"win\":1}\n"
 
 -- two won boards of two games
-abbrev pub two_variants : List ℕ
+abbrev pub two_variants : Text
 two_variants = lines_text (codes "@ freecell a" ∷ all_home ∷ codes "@ bakers_game b" ∷ all_home ∷ [])
 
 -- ---- headers and lists
 
 -- a header of Eight Off, and one whose word follows the mark at once
-abbrev pub seven_header : List ℕ
+abbrev pub seven_header : Text
 seven_header = lines_text (codes "@ eight_off seven" ∷ [])
 
 -- a header with blanks, a tab and a carriage return, and no word
-abbrev pub empty_header : List ℕ
+abbrev pub empty_header : Text
 empty_header = codes "@ " ++ tab ∷ carriage_return ∷ line_feed ∷ []
 
 -- a header of FreeCell with a name of so many bytes
-abbrev pub header_with_name_of : ℕ → List ℕ
+abbrev pub header_with_name_of : ℕ → Text
 header_with_name_of bytes = codes "@ freecell " ++ replicate bytes 120
 
 -- a name with a byte that is not printed, and a word after it
-abbrev pub bad_name_and_word : List ℕ
+abbrev pub bad_name_and_word : Text
 bad_name_and_word = codes "@ freecell " ++ 127 ∷ codes " b"
 
 -- a king to go home from the third column
-abbrev pub solved_list : List ℕ
+abbrev pub solved_list : Text
 solved_list = lines_text (codes "Foundations: H-K C-Q D-K S-K" ∷ codes "Freecells: - - - -" ∷ codes ":" ∷ codes ":" ∷ codes ": KC" ∷ codes "> 3H" ∷ [])
 
-abbrev pub solved_list_made_canonical : List ℕ
+abbrev pub solved_list_made_canonical : Text
 solved_list_made_canonical = clubs_king_text ++ lines_text (codes "# renaming SDHC columns 12456783 cells abcd" ∷ codes "> 8h" ∷ [])
 
 -- the king of spades is to go home before the queen
-abbrev pub king_before_queen : List ℕ
+abbrev pub king_before_queen : Text
 king_before_queen = lines_text (codes "@ eight_off seven" ∷ codes "Foundations: H-K C-K D-K S-J" ∷ codes "Freecells: QS - - - - - - KS" ∷ codes "> ah" ∷ codes "# by hand" ∷ codes "> kh ah" ∷ [])
 
 -- a list with a word that is no move
-abbrev pub bad_word_in_a_list : List ℕ
+abbrev pub bad_word_in_a_list : Text
 bad_word_in_a_list = lines_text (all_home ∷ codes "> 1a" ∷ codes ">1a 1e" ∷ [])
 
 -- ---- a collection in which all differs
 
 -- a front of comments, boards of the three games, two that are not next to one another and are one another's images, and records with two faults; a list that is refused at its third move, and one of moves of several cards
-abbrev pub mixed : List ℕ
+abbrev pub mixed : Text
 mixed = lines_text (
     codes "# a front" ∷ [] ∷ codes "@ FreeCell !A" ∷ codes "Foundations: H-K C-Q D-K S-K" ∷ codes ":" ∷ codes ":" ∷ codes ": KC"
     ∷ codes "> 3a a3 4h" ∷ [] ∷ codes "> 3h" ∷ codes "@ bakers_game b~" ∷ codes "Foundations: H-Q C-J D-K S-K" ∷ codes ": KC"
@@ -170,7 +170,7 @@ mixed = lines_text (
     ∷ [])
 
 -- what each command prints for it
-abbrev pub mixed_shown : List ℕ
+abbrev pub mixed_shown : Text
 mixed_shown = lines_text (
     codes "@ freecell !A" ∷ codes "Foundations: H-K C-Q D-K S-K" ∷ codes "Freecells: - - - -" ∷ codes ":" ∷ codes ":" ∷ codes ": KC"
     ∷ codes ":" ∷ codes ":" ∷ codes ":" ∷ codes ":" ∷ codes ":" ∷ codes "> 3a a3 4h" ∷ codes "> 3h" ∷ codes "@ bakers_game b~"
@@ -182,7 +182,7 @@ mixed_shown = lines_text (
     ∷ codes ":" ∷ codes ":" ∷ codes ":" ∷ codes ":" ∷ codes "> ch ah" ∷ codes ">> 12"
     ∷ [])
 
-abbrev pub mixed_expanded : List ℕ
+abbrev pub mixed_expanded : Text
 mixed_expanded = lines_text (
     codes "@ freecell !A" ∷ codes "Foundations: H-K C-Q D-K S-K" ∷ codes "Freecells: - - - -" ∷ codes ":" ∷ codes ":" ∷ codes ": KC"
     ∷ codes ":" ∷ codes ":" ∷ codes ":" ∷ codes ":" ∷ codes ":" ∷ codes "# list 1 illegal 2 empty source" ∷ codes "> 3h" ∷ codes "@ bakers_game b~"
@@ -194,7 +194,7 @@ mixed_expanded = lines_text (
     ∷ codes ":" ∷ codes ":" ∷ codes ":" ∷ codes ":" ∷ codes "> ch ah" ∷ codes "# list 2 illegal 0 empty source"
     ∷ [])
 
-abbrev pub mixed_made_canonical : List ℕ
+abbrev pub mixed_made_canonical : Text
 mixed_made_canonical = lines_text (
     codes "@ freecell !A" ∷ codes "Foundations: H-K C-K D-K S-Q" ∷ codes "Freecells: - - - -" ∷ codes ":" ∷ codes ":" ∷ codes ":"
     ∷ codes ":" ∷ codes ":" ∷ codes ":" ∷ codes ":" ∷ codes ": KS" ∷ codes "# renaming SDHC columns 12456783 cells abcd"
@@ -208,13 +208,13 @@ mixed_made_canonical = lines_text (
     ∷ codes ":" ∷ codes ":" ∷ codes ":" ∷ codes ":" ∷ codes "# renaming CDSH columns 12345678 cells bdefgkac" ∷ codes "> kh gh" ∷ codes ">> 12"
     ∷ [])
 
-abbrev pub mixed_checked : List ℕ
+abbrev pub mixed_checked : Text
 mixed_checked = lines_text (
     codes "!A 1 illegal 2 empty source" ∷ codes "!A 2 wins 1" ∷ codes "b~ 1 wins 3" ∷ codes "3 1 wins 2"
     ∷ codes "# refused bad at 249: missing card KS" ∷ codes "# refused worse at 305: bad token" ∷ codes "e 1 wins 2" ∷ codes "e 2 illegal 0 empty source"
     ∷ [])
 
-abbrev pub mixed_in_groups : List ℕ
+abbrev pub mixed_in_groups : Text
 mixed_in_groups = lines_text (
     codes "# refused bad at 249: missing card KS" ∷ codes "# refused worse at 305: bad token" ∷ codes "@ freecell !A"
     ∷ codes "# members 2: !A 3" ∷ codes "Foundations: H-K C-K D-K S-Q" ∷ codes "Freecells: - - - -" ∷ codes ":" ∷ codes ":" ∷ codes ":"
@@ -224,7 +224,7 @@ mixed_in_groups = lines_text (
     ∷ codes "Freecells: - - - - - - KH QH" ∷ codes ":" ∷ codes ":" ∷ codes ":" ∷ codes ":" ∷ codes ":" ∷ codes ":" ∷ codes ":" ∷ codes ":"
     ∷ [])
 
-abbrev pub mixed_shared : List ℕ
+abbrev pub mixed_shared : Text
 mixed_shared = lines_text (
     codes "# refused bad at 249: missing card KS" ∷ codes "# refused worse at 305: bad token" ∷ codes "@ freecell !A"
     ∷ codes "Foundations: H-K C-Q D-K S-K" ∷ codes "Freecells: - - - -" ∷ codes ":" ∷ codes ":" ∷ codes ": KC" ∷ codes ":" ∷ codes ":"
@@ -236,7 +236,7 @@ mixed_shared = lines_text (
     ∷ codes ":" ∷ codes ":" ∷ codes ":" ∷ codes ":" ∷ codes "> ch ah"
     ∷ [])
 
-abbrev pub mixed_tabulated : List ℕ
+abbrev pub mixed_tabulated : Text
 mixed_tabulated = lines_text (
     in_columns (codes "!A" ∷ codes "freecell" ∷ group_of_two_board ∷ codes "SDHC" ∷ codes "12456783" ∷ codes "abcd" ∷ codes "2" ∷ codes "2" ∷ [])
     ∷ in_columns (codes "b~" ∷ codes "bakers_game" ∷ codes "Foundations: H-J C-K D-K S-Q  Freecells: - - - -  :  :  :  :  :  : KH  : KS  : QH"
@@ -247,7 +247,7 @@ mixed_tabulated = lines_text (
     ∷ codes "CDSH" ∷ codes "12345678" ∷ codes "bdefgkac" ∷ codes "2" ∷ codes "1" ∷ [])
     ∷ [])
 
-abbrev pub mixed_made_unique : List ℕ
+abbrev pub mixed_made_unique : Text
 mixed_made_unique = lines_text (
     codes "@ freecell !A" ∷ codes "Foundations: H-K C-Q D-K S-K" ∷ codes "Freecells: - - - -" ∷ codes ":" ∷ codes ":" ∷ codes ": KC"
     ∷ codes ":" ∷ codes ":" ∷ codes ":" ∷ codes ":" ∷ codes ":" ∷ codes "> 3a a3 4h" ∷ codes "> 3h" ∷ codes "@ bakers_game b~"
@@ -258,26 +258,26 @@ mixed_made_unique = lines_text (
     ∷ codes ":" ∷ codes ":" ∷ codes ":" ∷ codes ":" ∷ codes "> ch ah" ∷ codes ">> 12"
     ∷ [])
 
-abbrev pub mixed_compared : List ℕ
+abbrev pub mixed_compared : Text
 mixed_compared = lines_text (
     codes "b~ apart" ∷ codes "3 renaming DCSH columns 31245678 cells abcd"
     ∷ codes "# refused bad at 249: missing card KS" ∷ codes "# refused worse at 305: bad token" ∷ codes "e apart"
     ∷ [])
 
-abbrev pub mixed_symmetries : List ℕ
+abbrev pub mixed_symmetries : Text
 mixed_symmetries = lines_text (
     codes "!A renaming CDHS" ∷ codes "!A renaming CHDS" ∷ codes "b~ renaming CDHS" ∷ codes "b~ renaming CSHD" ∷ codes "3 renaming CDHS" ∷ codes "3 renaming SDHC"
     ∷ codes "# refused bad at 249: missing card KS" ∷ codes "# refused worse at 305: bad token"
     ∷ codes "e renaming CDHS" ∷ codes "e renaming CHDS" ∷ codes "e renaming DCHS" ∷ codes "e renaming DHCS" ∷ codes "e renaming HCDS" ∷ codes "e renaming HDCS"
     ∷ [])
 
-abbrev pub mixed_counted : List ℕ
+abbrev pub mixed_counted : Text
 mixed_counted = lines_text (
     codes "# refused bad at 249: missing card KS" ∷ codes "# refused worse at 305: bad token"
     ∷ codes "records 6 refused 2 groups 3 doubles 1 lists 6 wins 4 solved 3"
     ∷ [])
 
-abbrev pub refused_in_group_counted : List ℕ
+abbrev pub refused_in_group_counted : Text
 refused_in_group_counted = lines_text (
     codes "{\"refused\":\"b\",\"place\":84,\"reason\":\"missing card KS\"}" ∷ codes "{\"records\":3,\"refused\":1,\"groups\":1,\"doubles\":1,\"lists\":0,\"wins\":0,\"solved\":0}"
     ∷ [])

@@ -1,8 +1,9 @@
 -- Two deals as they are published, in the order in which they are dealt: row by row over the eight columns.
-use Rattle.std.specs.Prelude.{◌∷◌, [], List, ℕ}
+use Rattle.std.specs.Prelude.{◌∷◌, [], List}
+use Rattle.fc_card.specs.Types.{Card}
 
 -- JD 2D 9H JC 5D 7H 7C 5H and so on
-abbrev pub cards_of_deal_1 : List ℕ
+abbrev pub cards_of_deal_1 : List Card
 cards_of_deal_1 =
     41 ∷ 5 ∷ 34 ∷ 40 ∷ 17 ∷ 26 ∷ 24 ∷ 18 ∷
     49 ∷ 48 ∷ 35 ∷ 19 ∷ 1 ∷ 44 ∷ 50 ∷ 10 ∷
@@ -13,7 +14,7 @@ cards_of_deal_1 =
     23 ∷ 32 ∷ 6 ∷ 22 ∷ []
 
 -- 7D AD 5C 3S 5S 8C 2D AH and so on
-abbrev pub cards_of_deal_617 : List ℕ
+abbrev pub cards_of_deal_617 : List Card
 cards_of_deal_617 =
     25 ∷ 1 ∷ 16 ∷ 11 ∷ 19 ∷ 28 ∷ 5 ∷ 2 ∷
     37 ∷ 27 ∷ 45 ∷ 0 ∷ 21 ∷ 30 ∷ 3 ∷ 50 ∷

@@ -1,8 +1,9 @@
 -- What it means that `closed` names a record.
-use Rattle.std.specs.{List.{Contains}, Prelude.{◌++◌, ◌∷◌, ◌≡◌, List, ℕ}}
+use Rattle.std.specs.{List.{Contains}, Prelude.{◌++◌, ◌∷◌, ◌≡◌, List}}
+use Rattle.{fc_board.specs.declared.moves.Move.{Move}, fc_card.specs.Types.{Text}}
 use Rattle.fc_board.specs.{Boards.{Board}, Games.{game_of}, Play.{IsWon}, Steps.{Step}}
-use Rattle.{fc_board.specs.declared.moves.Move.{Move}, fc_canon.specs.{IsFirst}}
-use Rattle.{fc_bytes.specs.{legal_moves, move_bytes}, fc_closed.specs.{IsAmong}}
+use Rattle.{fc_bytes.specs.{legal_moves, move_bytes}, fc_canon.specs.{IsFirst}}
+use Rattle.fc_closed.specs.{IsAmong}
 use Rattle.fc_collect.specs.{Closed.{boards_of}, Groups.{Member, name_of_member}}
 use Rattle.fc_collect.specs.declared.commands.closed.Flaw.{Flaw, TheVariants.{Open, Won}}
 
@@ -27,7 +28,7 @@ IsFlawIn all member (Open bytes) =
     × IsFirst (LeadsAway all member) (legal_moves (game_of member.heading.variant) member.contents.board) move
 
 -- a member of this name has this flaw, and none before it has one
-pub record IsFirstFlawed (all : List Member) (name : List ℕ) (flaw : Flaw) : Type 0 where
+pub record IsFirstFlawed (all : List Member) (name : Text) (flaw : Flaw) : Type 0 where
   pub before : List Member
   pub member : Member
   pub rest : List Member

@@ -1,10 +1,11 @@
 //! Laws of cards, renamings and orders.
 ghost use Rattle.std.specs.{Cmp.Lexicographic.{slice_cmp}, List.{flat_map}, Ordering.{nat_cmp}};
-ghost use Rattle.std.specs.Prelude.{◌<◌, ◌↔◌, ◌∷◌, ◌≡◌, ◌≤◌, ◌⊎◌, [], codes, length, List, map};
+ghost use Rattle.std.specs.Prelude.{◌<◌, ◌↔◌, ◌∷◌, ◌≡◌, ◌≤◌, ◌⊎◌, [], codes, length, map};
 ghost use Rattle.std.specs.Prelude.{slice_get, slice_index, ℕ};
 ghost use Rattle.fc_card.specs.{CanReorder, card_code, card_of, card_text, inverse_order, IsCard};
 ghost use Rattle.fc_card.specs.{IsOrder, IsRed, IsRenaming, pick, places, rank_of, renamed_card};
 ghost use Rattle.fc_card.specs.{renamed_code, renaming_product, renaming_text, reordered, suit_of};
+ghost use Rattle.fc_card.specs.Types.{Card, Order, Renaming};
 ghost use Rattle.fc_laws.specs.BoardExamples.{dcsh, deck_text, first_to_end, first_two_swapped};
 ghost use Rattle.fc_laws.specs.BoardExamples.{hcsd};
 
@@ -54,30 +55,30 @@ pub fn items_are_where_the_order_says<U>(order: &Order, line: &ArrayVec<U, 8>, p
 
 /// A renaming keeps the rank of each card, and the image of a card of the deck is one.
 pub fn renaming_keeps_ranks()
-    ensures rank { (renaming : List ℕ) (card : ℕ) → IsRenaming renaming
+    ensures rank { (renaming : Renaming) (card : Card) → IsRenaming renaming
         → rank_of (renamed_card renaming card) ≡ rank_of card }
-    ensures suit { (renaming : List ℕ) (card : ℕ) → IsRenaming renaming
+    ensures suit { (renaming : Renaming) (card : Card) → IsRenaming renaming
         → suit_of (renamed_card renaming card) ≡ slice_index renaming (suit_of card) }
-    ensures in_deck { (renaming : List ℕ) (card : ℕ) → IsRenaming renaming → IsCard card
+    ensures in_deck { (renaming : Renaming) (card : Card) → IsRenaming renaming → IsCard card
         → IsCard (renamed_card renaming card) }
 {}
 
 /// No two cards have one image.
 pub fn renamed_apart()
-    ensures { (renaming : List ℕ) (card other : ℕ) → IsRenaming renaming
+    ensures { (renaming : Renaming) (card other : Card) → IsRenaming renaming
         → renamed_card renaming card ≡ renamed_card renaming other → card ≡ other }
 {}
 
 /// A card renamed by one renaming after another is renamed by their product.
 pub fn renamed_in_turn()
-    ensures { (first next : List ℕ) (card : ℕ) → IsRenaming first → IsRenaming next
+    ensures { (first next : Renaming) (card : Card) → IsRenaming first → IsRenaming next
         → renamed_card (renaming_product first next) card
         ≡ renamed_card next (renamed_card first card) }
 {}
 
 /// The renaming CDHS changes no card.
 pub fn renamed_by_identity()
-    ensures { (card : ℕ) → renamed_card (places 4) card ≡ card }
+    ensures { (card : Card) → renamed_card (places 4) card ≡ card }
 {}
 
 /// The deck is printed in the order of its numbers, suit after suit and rank after rank.
@@ -122,14 +123,14 @@ pub fn codes_are_of_cards(card: Card, other: Card)
 /// Each code from 1 to 52 is the code of a card.
 pub fn codes_name_cards()
     ensures { (code : ℕ) → 1 ≤ code → code ≤ 52
-        → (card : ℕ) × (card < 52) × (card_code card ≡ code) }
+        → (card : Card) × (card < 52) × (card_code card ≡ code) }
 {}
 
 /// The renamed code of a card is the code of the renamed card, and 0 stays.
 pub fn codes_are_renamed_as_cards()
-    ensures card { (renaming : List ℕ) (card : ℕ) → IsRenaming renaming
+    ensures card { (renaming : Renaming) (card : Card) → IsRenaming renaming
         → renamed_code renaming (card_code card) ≡ card_code (renamed_card renaming card) }
-    ensures none { (renaming : List ℕ) → renamed_code renaming 0 ≡ 0 }
+    ensures none { (renaming : Renaming) → renamed_code renaming 0 ≡ 0 }
 {}
 
 /// The codes of 2C, AC, KD and TS are 1, 33, 42 and 52. DCSH makes 2, 41, 0 and 51 of 1, 42, 0

@@ -1,8 +1,9 @@
 //! Laws of the hash of a board's class, and of the sums from which it is made.
-ghost use Rattle.std.specs.Prelude.{◌+◌, ◌∷◌, ◌≡◌, [], List, Some, ℕ};
+ghost use Rattle.std.specs.Prelude.{◌+◌, ◌<◌, ◌^◌, ◌∷◌, ◌≡◌, [], Some, ℕ};
+ghost use Rattle.{fc_board.specs.declared.moves.Move.{Move}, fc_card.specs.Types.{Card, Renaming}};
 ghost use Rattle.fc_board.specs.Boards.{Board, IsWellFormed};
 ghost use Rattle.fc_board.specs.{Games.{all_renamings, colour_renamings}, Steps.{card_at, Step}};
-ghost use Rattle.{fc_board.specs.declared.moves.Move.{Move}, fc_canon.specs.{Equivalent}};
+ghost use Rattle.fc_canon.specs.{Equivalent};
 ghost use Rattle.fc_bytes.specs.class_hash.{AreMoved, AreSums, CanMove, child_hash, class_hash};
 ghost use Rattle.fc_bytes.specs.class_hash.{class_sum, class_sums, hash_of_sums, lies_on};
 ghost use Rattle.fc_bytes.specs.class_hash.{moved_sum, put_onto, sums_in};
@@ -21,13 +22,13 @@ pub fn equivalent_boards_have_one_class_hash<R: Rule>()
 /// A move takes out of each sum what its card counts on what it lay on, and puts in what the card
 /// counts on what it lies on then. Both are numbers with which sums can be moved.
 pub fn moves_change_one_term<R: Rule>()
-    ensures sums { (board after : Board) (move : Move) (card : ℕ) (renaming : List ℕ)
+    ensures sums { (board after : Board) (move : Move) (card : Card) (renaming : Renaming)
         → IsWellFormed R.game board → Step R.game board move after
         → card_at board move.from ≡ Some card
         → class_sum after renaming
         ≡ moved_sum (card + 1) (lies_on board move.from) (put_onto board move.to) renaming
         (class_sum board renaming) }
-    ensures numbers { (board after : Board) (move : Move) (card : ℕ) → IsWellFormed R.game board
+    ensures numbers { (board after : Board) (move : Move) (card : Card) → IsWellFormed R.game board
         → Step R.game board move after → card_at board move.from ≡ Some card
         → CanMove (card + 1) (lies_on board move.from) (put_onto board move.to) }
 {}
@@ -35,13 +36,20 @@ pub fn moves_change_one_term<R: Rule>()
 /// Sums that are moved as the board is stay the sums of the board, and from the sums of a board its
 /// class hash is made: so a search needs no more than them.
 pub fn sums_stay_those_of_the_board<R: Rule>()
-    ensures moved { (board after : Board) (move : Move) (card : ℕ) (old new : ClassSums)
+    ensures moved { (board after : Board) (move : Move) (card : Card) (old new : ClassSums)
         → IsWellFormed R.game board → Step R.game board move after
         → card_at board move.from ≡ Some card → AreSums (class_sums R.renamings board) old
         → AreMoved R.renamings (card + 1) (lies_on board move.from) (put_onto board move.to) old new
         → AreSums (class_sums R.renamings after) new }
     ensures hash { (board : Board) (sums : ClassSums) → AreSums (class_sums R.renamings board) sums
         → hash_of_sums (sums_in R.renamings sums) ≡ class_hash R.renamings board }
+{}
+
+/// Sums are moved back by the same card, from what it lies on then onto what it lay on, home too.
+pub fn moved_sums_are_moved_back()
+    ensures numbers { (card from onto : ℕ) → CanMove card from onto → CanMove card onto from }
+    ensures sums { (renaming : Renaming) (card from onto sum : ℕ) → sum < 2 ^ 128
+        → moved_sum card onto from renaming (moved_sum card from onto renaming sum) ≡ sum }
 {}
 
 /// The hash that comes with a move, made of the sums of the board, is the class hash of the board

@@ -9,10 +9,10 @@ use Rattle.std.specs.{List.{find, fold}, Prelude.{◌++◌, ◌==◌, ◌∷◌,
 use Rattle.std.specs.Prelude.{Err, false, IfSome, if◌then◌else◌, is_ok, List, map, None, Ok, Option}
 use Rattle.std.specs.Prelude.{option_and_then, option_map, pos, Result, Some, true, ℕ}
 use Rattle.std.specs.Str.{bytes_eq, Parse.{digits_value, without_leading_sign}}
+use Rattle.{fc_card.specs.Types.{Text}, fc_text.specs.{Bytes.{line_feed}, Printed.{text_of}}}
 use Rattle.fc_board.specs.Games.{Game, game_of, variant_word, variants}
 use Rattle.fc_board.specs.declared.rule.Variant.TheVariants.{BakersGame, EightOff, FreeCell}
 use Rattle.fc_board.specs.declared.rule.Variant.{Variant}
-use Rattle.fc_text.specs.{Bytes.{line_feed}, Printed.{text_of}}
 use Rattle.{fc_deal.specs.{deal, dealt_board, IsDealNumber}, fc_import.specs.Import.{ImportFits}}
 use Rattle.fc_collect.specs.Limits.{AreCountable, fault_words, largest, most_countable, standard}
 use Rattle.fc_collect.specs.Promises.{ResultFits, Transfer, WritesAsCounted, WritesText}
@@ -296,11 +296,11 @@ status_of (Ok summary) = if summary.refused == 0 then 0 else 1
 status_of (Err fault) = 3
 
 -- a line on standard error
-abbrev pub error_line : List ℕ → List ℕ
+abbrev pub error_line : Text → Text
 error_line words = codes "fcanon: " ++ words ++ line_feed ∷ []
 
 -- the line on standard error after a run or a write: none where it succeeded
-abbrev pub fault_line : {A : Type 0} → Result A RunFault → List ℕ
+abbrev pub fault_line : {A : Type 0} → Result A RunFault → Text
 fault_line (Ok _) = []
 fault_line (Err fault) = error_line (fault_words fault)
 
@@ -312,19 +312,19 @@ AsksForText error = (kind_of error ≡ DisplayHelp) ⊎ (kind_of error ≡ Displ
 pub record Ended (W : Type 0) : Type 0 where
   pub output : Stream W
   pub status : ℕ
-  pub message : List ℕ
+  pub message : Text
 
 -- the text was to go to the stream, and this came of it
-pub record WritesTo {T A : Type 0} (stream : Stream T) (text : List ℕ) (result : Result A RunFault) : Type 0 where
+pub record WritesTo {T A : Type 0} (stream : Stream T) (text : Text) (result : Result A RunFault) : Type 0 where
   pub counted : WritesAsCounted stream.old stream.new result
   pub bytes : WritesText text (stream.bytes (inner_of stream.old)) (stream.bytes (inner_of stream.new)) result
 
 -- the text went to the stream, which was flushed once; or a beginning of it did, and then a write or the flush failed
-abbrev pub TriesToWrite : {T : Type 0} → Stream T → (text : List ℕ) → Type 0
+abbrev pub TriesToWrite : {T : Type 0} → Stream T → (text : Text) → Type 0
 TriesToWrite stream text = (result : Result ⊤ RunFault) × WritesTo stream text result
 
 -- the text was to be written to the output: the status is 0 where it was, 3 at a fault
-abbrev pub EndsWriting : {W : Type 0} → (text : List ℕ) → Ended W → Type 0
+abbrev pub EndsWriting : {W : Type 0} → (text : Text) → Ended W → Type 0
 EndsWriting text ended = (result : Result ⊤ RunFault) × (ended.status ≡ (if is_ok result then 0 else 3))
     × (ended.message ≡ fault_line result) × WritesTo ended.output text result
 
@@ -343,19 +343,19 @@ EndsDeal dealt.BakersGame = EndsDealing (game_of BakersGame)
 -- the parser gave no command: the text that was asked for went to the output, or the words were refused, or there was no memory for the parser's text
 abbrev pub EndsParsing : {W : Type 0} → Error → Ended W → Type 0
 EndsParsing error ended =
-    (AsksForText error × ((text : List ℕ) × EndsWriting text ended))
+    (AsksForText error × ((text : Text) × EndsWriting text ended))
     ⊎ ((¬ AsksForText error) × (ended.output.new ≡ ended.output.old) × (ended.status ≡ 2))
     ⊎ ((ended.output.new ≡ ended.output.old) × (ended.status ≡ 3) × (ended.message ≡ error_line (fault_words run.Memory)))
 
 -- a run read the input and wrote to the output, within these limits; what it says of the input comes before the line of a fault
-abbrev pub EndsRun : {R W : Type 0} → Limits → (said : List ℕ) → (Transfer → Result Summary RunFault → Type 0) → Stream R → Ended W → Type 0
+abbrev pub EndsRun : {R W : Type 0} → Limits → (said : Text) → (Transfer → Result Summary RunFault → Type 0) → Stream R → Ended W → Type 0
 EndsRun limits said Fits input ended = (result : Result Summary RunFault) × (ended.status ≡ status_of result)
     × (ended.message ≡ said ++ fault_line result) × RunsWithin limits Fits input ended.output result
 
 -- how a job ended, or that there was none
 abbrev pub EndsJob : {R W : Type 0} → Option Job → Stream R → Ended W → Type 0
 EndsJob (Some (job.Run kind variant limits)) input ended = EndsRun limits [] (ResultFits limits (printing_of kind variant)) input ended
-EndsJob (Some (job.Import variant lines_are noted)) input ended = (said : List ℕ) × EndsRun standard said (ImportFits variant (record { lines_are = lines_are; noted = noted }) said) input ended
+EndsJob (Some (job.Import variant lines_are noted)) input ended = (said : Text) × EndsRun standard said (ImportFits variant (record { lines_are = lines_are; noted = noted }) said) input ended
 EndsJob (Some (job.Deal game number)) input ended = (input.new ≡ input.old) × EndsDeal game number ended
 EndsJob None input ended = (input.new ≡ input.old) × (ended.output.new ≡ ended.output.old) × (ended.status ≡ 2)
 
@@ -369,7 +369,7 @@ EndsBy (Err (Parser error)) input ended = (input.new ≡ input.old) × EndsParsi
 -- the program read these words, and ended with this status, by what they ask for
 pub record EndsProgram {R W E : Type 0} (words : List Text) (input : Stream R) (output : Stream W) (errors : Stream E) (status : ℕ) : Type 0 where
   pub answer : Result (Option Request) WordsFault
-  pub message : List ℕ
+  pub message : Text
   pub reads : Reads words answer
   pub ends : EndsBy answer input (record { output = output; status = status; message = message })
   pub said : TriesToWrite errors message

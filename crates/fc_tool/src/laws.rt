@@ -7,9 +7,9 @@ ghost use Rattle.clap.specs.declared.error.kind.ErrorKind.TheVariants.{ValueVali
 ghost use Rattle.clap.specs.Words.{kind_of, Text};
 ghost use Rattle.std.specs.{Io.KnownBytes.{Appends}, Prelude.{◌++◌, ◌<◌, ◌∷◌, ◌≡◌, ◌≢◌, [], codes}};
 ghost use Rattle.std.specs.Prelude.{Err, IsSome, List, None, Ok, Option, Result, Some, ℕ};
-ghost use Rattle.{fc_board.specs.Games.{Game}, fc_text.specs.Printed.{text_of}};
+ghost use Rattle.{fc_board.specs.Games.{Game}, fc_card.specs.Types.{Text}};
 ghost use Rattle.fc_board.specs.declared.rule.Variant.TheVariants.{BakersGame, EightOff, FreeCell};
-ghost use Rattle.fc_deal.specs.{deal, dealt_board, IsDealNumber};
+ghost use Rattle.{fc_deal.specs.{deal, dealt_board, IsDealNumber}, fc_text.specs.Printed.{text_of}};
 ghost use Rattle.fc_collect.specs.{Limits.{largest, standard}, Records.{records_from}};
 ghost use Rattle.fc_collect.specs.Runs.{ending_of_kind, output_of_kind};
 ghost use Rattle.fc_collect.specs.Streams.{counts_of, inner_of};
@@ -342,7 +342,7 @@ pub fn good_runs_say_nothing()
 /// What was to be said on standard error and did not go there whole shows in its counts: a write or
 /// the flush failed. So nothing said is lost in silence.
 pub fn nothing_said_is_lost_in_silence<Er: Write>(silent: &Counted<Er>, said: &Counted<Er>)
-    ensures { (text : List ℕ)
+    ensures { (text : Text)
         → TriesToWrite (record { bytes = Er.contents; old = silent.now; new = said.now }) text
         → (counts_of said.now).failures ≡ (counts_of silent.now).failures
         → Appends (Er.contents (inner_of silent.now)) (Er.contents (inner_of said.now)) text }
@@ -351,7 +351,7 @@ pub fn nothing_said_is_lost_in_silence<Er: Write>(silent: &Counted<Er>, said: &C
 /// A deal that ends well has written the board of its number, whole, and nothing is said. So an
 /// output that stays as it was does not fit, nor a text that is not that board's.
 pub fn a_deal_that_ends_well_is_written<Wr: Write>(before: &Counted<Wr>, after: &Counted<Wr>)
-    ensures written { (game : Game) (number : ℕ) (message : List ℕ)
+    ensures written { (game : Game) (number : ℕ) (message : Text)
         → EndsDealing game number
         (record {
           output = record { bytes = Wr.contents; old = before.now; new = after.now };
@@ -361,7 +361,7 @@ pub fn a_deal_that_ends_well_is_written<Wr: Write>(before: &Counted<Wr>, after: 
         → (message ≡ []) × IsDealNumber number
         × Appends (Wr.contents (inner_of before.now)) (Wr.contents (inner_of after.now))
         (text_of (dealt_board game.cells (deal number))) }
-    ensures moved { (game : Game) (number : ℕ) (message held : List ℕ)
+    ensures moved { (game : Game) (number : ℕ) (message held : Text)
         → EndsDealing game number
         (record {
           output = record { bytes = Wr.contents; old = before.now; new = after.now };
@@ -384,7 +384,7 @@ pub fn a_program_that_ends_well_has_written_what_is_due<Rd: Read, Wr: Write, Er:
     silent: &Counted<Er>,
     said: &Counted<Er>,
 )
-    ensures { (task : Task) (kind : RunKind) (called : Text) (status : ℕ) (read held : List ℕ)
+    ensures { (task : Task) (kind : RunKind) (called : Text) (status : ℕ) (read held : Text)
         → run_of_task Lines task ≡ Some kind
         → EndsProgram (called ∷ command_of task ∷ [])
         (record { bytes = Rd.remaining; old = input.now; new = left.now })

@@ -1,13 +1,13 @@
 //! The program: what its words ask for, one run, and how it ends.
 ghost use Rattle.std.specs.{declared.io.ErrorKind.TheVariants.{OutOfMemory}, Io.KnownBytes.{Keeps}};
 ghost use Rattle.std.specs.IoError.{error_kind};
-ghost use Rattle.std.specs.Prelude.{◌++◌, ◌<◌, ◌≡◌, ◌≢◌, ◌≤◌, ◌⊎◌, [], codes, length, List, map, ℕ};
+ghost use Rattle.std.specs.Prelude.{◌++◌, ◌<◌, ◌≡◌, ◌≢◌, ◌≤◌, ◌⊎◌, [], codes, length, map};
 ghost use Rattle.std.specs.String.{string_bytes};
+ghost use Rattle.{fc_card.specs.Types.{Text}, fc_import.specs.Import.{ImportFits}};
 ghost use Rattle.fc_collect.specs.Limits.{fault_words, standard};
 ghost use Rattle.fc_collect.specs.Promises.{WritesAsCounted, WritesText};
 ghost use Rattle.fc_collect.specs.Streams.{HasRoom, inner_of};
 ghost use Rattle.fc_collect.specs.declared.streams.faults.RunFault.TheVariants.{Memory};
-ghost use Rattle.fc_import.specs.Import.{ImportFits};
 ghost use Rattle.fc_tool.specs.{AsksForImport, AsksToImport, CountsUpTo, deal_job, EndsBy};
 ghost use Rattle.fc_tool.specs.{EndsDeal, EndsDealing, EndsJob, EndsParsing, EndsProgram, EndsRun};
 ghost use Rattle.fc_tool.specs.{EndsWriting, error_line, fault_line, IsImport, job_of, Reads};
@@ -106,7 +106,7 @@ impl Asked {
         requires input_low { HasRoom input.old }
         requires output_low { HasRoom output.old }
         requires errors_low { HasRoom errors.old }
-        ensures ends { (message : List ℕ)
+        ensures ends { (message : Text)
             × EndsBy self.now (record { bytes = Rd.remaining; old = input.old; new = input.new })
             (record {
               output = record { bytes = Wr.contents; old = output.old; new = output.new };
@@ -191,7 +191,7 @@ fn run_job<Rd: Read, Wr: Write, Er: Write>(
     requires output_low { HasRoom output.old }
     requires errors_low { HasRoom errors.old }
     requires countable { CountsUpTo job }
-    ensures ends { (message : List ℕ)
+    ensures ends { (message : Text)
         × EndsJob job (record { bytes = Rd.remaining; old = input.old; new = input.new })
         (record {
           output = record { bytes = Wr.contents; old = output.old; new = output.new };
@@ -229,7 +229,7 @@ fn import<Rd: Read, Wr: Write, Er: Write>(
     requires input_low { HasRoom input.old }
     requires output_low { HasRoom output.old }
     requires errors_low { HasRoom errors.old }
-    ensures { (message : List ℕ) × ((said : List ℕ)
+    ensures { (message : Text) × ((said : Text)
         × EndsRun standard said (ImportFits variant options said)
         (record { bytes = Rd.remaining; old = input.old; new = input.new })
         (record {
@@ -301,7 +301,7 @@ fn end_parsing<Wr: Write, Er: Write>(
 ) -> u8
     requires output_low { HasRoom output.old }
     requires errors_low { HasRoom errors.old }
-    ensures ends { (message : List ℕ)
+    ensures ends { (message : Text)
         × EndsParsing error.now
         (record {
           output = record { bytes = Wr.contents; old = output.old; new = output.new };

@@ -1,7 +1,7 @@
 -- The numbers by which C knows games, tasks and formats, and what a run over memory hands over.
 use Rattle.std.specs.Prelude.{◌++◌, ◌<◌, ◌==◌, ◌∷◌, ◌≡◌, ◌≤◌, ◌⊎◌, [], drop, if◌then◌else◌, length}
-use Rattle.std.specs.Prelude.{List, slice_index_or, ℕ}
-use Rattle.{fc_board.specs.declared.rule.Variant.{Variant}, fc_import.specs.Import.{Makes}}
+use Rattle.std.specs.Prelude.{slice_index_or, ℕ}
+use Rattle.{fc_board.specs.declared.rule.Variant.{Variant}, fc_card.specs.Types.{Text}}
 use Rattle.fc_collect.specs.Limits.{largest, most_bytes, standard}
 use Rattle.fc_collect.specs.{Promises.{Begins, IsWithinLimits}, Runs.{count_format}}
 use Rattle.fc_collect.specs.declared.{
@@ -11,9 +11,9 @@ use Rattle.fc_collect.specs.declared.{
   streams.faults.RunFault.{RunFault, TheVariants.{Memory, Read, ReaderNeverEnds, TooLarge, Write}},
   streams.{faults.Summary.{Summary}, limits.Limits.{Limits}},
 }
+use Rattle.{fc_import.specs.Import.{Makes}, fcanon_runs.specs.declared.output.Written.{Written}}
 use Rattle.fc_import.specs.declared.options.LinesAre.{LinesAre, TheVariants.{Columns, Rows, Unsaid}}
 use Rattle.fc_import.specs.declared.options.Noted.TheVariants.{Doubts}
-use Rattle.fcanon_runs.specs.declared.output.Written.{Written}
 
 -- ======== The numbers by which C knows games, tasks, formats and faults. From: this project's profile.
 
@@ -49,34 +49,34 @@ abbrev pub counted : Written → Summary
 counted written = record { records = written.records; refused = written.refused }
 
 -- the output begins with a text as is asked for, and is as it was after it
-pub record HandsOver (IsOutput : List ℕ → Summary → Type 0) (before after : List ℕ) (written : Written) : Type 0 where
-  pub text : List ℕ
+pub record HandsOver (IsOutput : Text → Summary → Type 0) (before after : Text) (written : Written) : Type 0 where
+  pub text : Text
   pub is_output : IsOutput text (counted written)
   pub long : length text ≡ written.length
   pub front : after ≡ text ++ drop written.length before
 
 -- a text as is asked for has the length that is written, and is longer than the output
-pub record NeedsRoom (IsOutput : List ℕ → Summary → Type 0) (before : List ℕ) (written : Written) : Type 0 where
-  pub text : List ℕ
+pub record NeedsRoom (IsOutput : Text → Summary → Type 0) (before : Text) (written : Written) : Type 0 where
+  pub text : Text
   pub is_output : IsOutput text (counted written)
   pub long : length text ≡ written.length
   pub longer : length before < written.length
 
 -- an input that is refused as too large has a beginning that no run takes within these limits
-abbrev pub FaultOf : Limits → List ℕ → ℕ → Type 0
-FaultOf limits input answer = answer ≡ 13 → (front : List ℕ) × Begins front input × (¬ IsWithinLimits limits front)
+abbrev pub FaultOf : Limits → Text → ℕ → Type 0
+FaultOf limits input answer = answer ≡ 13 → (front : Text) × Begins front input × (¬ IsWithinLimits limits front)
 
 -- ======== What an import of memory hands over. From: this project's profile.
 
 -- this text is made of the input, whose lines of cards are said to be this, and this is said of it
-pub record ImportOf (variant : Variant) (lines : ℕ) (input text said : List ℕ) (summary : Summary) : Type 0 where
+pub record ImportOf (variant : Variant) (lines : ℕ) (input text said : Text) (summary : Summary) : Type 0 where
   pub few : length input ≤ most_bytes
   pub makes : Makes variant (record { lines_are = lines_at lines; noted = Doubts }) input text said summary
 
 -- the output begins with what is made of the input, and the notes with what is said of it; both are as they were after that
-pub record HandsOverImport (variant : Variant) (lines : ℕ) (input before after notes_before notes_after : List ℕ) (written : Written) (noted : ℕ) : Type 0 where
-  pub text : List ℕ
-  pub said : List ℕ
+pub record HandsOverImport (variant : Variant) (lines : ℕ) (input before after notes_before notes_after : Text) (written : Written) (noted : ℕ) : Type 0 where
+  pub text : Text
+  pub said : Text
   pub is_import : ImportOf variant lines input text said (counted written)
   pub long : length text ≡ written.length
   pub front : after ≡ text ++ drop written.length before
@@ -84,14 +84,14 @@ pub record HandsOverImport (variant : Variant) (lines : ℕ) (input before after
   pub said_front : notes_after ≡ said ++ drop noted notes_before
 
 -- what is made of the input, or what is said of it, has the length that is written, and is longer than its place
-pub record NeedsRoomForImport (variant : Variant) (lines : ℕ) (input before notes_before : List ℕ) (written : Written) (noted : ℕ) : Type 0 where
-  pub text : List ℕ
-  pub said : List ℕ
+pub record NeedsRoomForImport (variant : Variant) (lines : ℕ) (input before notes_before : Text) (written : Written) (noted : ℕ) : Type 0 where
+  pub text : Text
+  pub said : Text
   pub is_import : ImportOf variant lines input text said (counted written)
   pub long : length text ≡ written.length
   pub said_long : length said ≡ noted
   pub longer : (length before < written.length) ⊎ (length notes_before < noted)
 
 -- an input that is refused as too large has more bytes than an import takes
-abbrev pub ImportFaultOf : List ℕ → Type 0
+abbrev pub ImportFaultOf : Text → Type 0
 ImportFaultOf input = most_bytes < length input

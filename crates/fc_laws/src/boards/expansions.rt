@@ -1,12 +1,12 @@
 //! Laws of the moves of one card that moves of several are short for.
 ghost use Rattle.std.specs.Prelude.{◌*◌, ◌++◌, ◌<◌, ◌^◌, ◌↔◌, ◌∷◌, ◌≡◌, ◌≢◌, ◌≤◌, length, List};
 ghost use Rattle.std.specs.Prelude.{true, ℕ};
+ghost use Rattle.{fc_board.specs.declared.run_move.RunMove.{RunMove}, fc_card.specs.Types.{Pile}};
 ghost use Rattle.fc_board.specs.Boards.{Board, IsWellFormed};
 ghost use Rattle.fc_board.specs.Moves.{expansion, half, OneCard, Runs};
 ghost use Rattle.fc_board.specs.Play.{Expands, expansion_of, expansions, Legal, Plays, Wins};
 ghost use Rattle.fc_board.specs.Steps.{capacity, column_at, Confined, free_cells, is_run};
 ghost use Rattle.fc_board.specs.Steps.{last_card, MayFollow, run_moved, RunStep, spare_columns};
-ghost use Rattle.fc_board.specs.declared.run_move.RunMove.{RunMove};
 
 use fc_board::Rule;
 
@@ -23,7 +23,7 @@ pub fn tokens_expand<R: Rule>()
 /// The expansion of a run that is within the capacity, to a column with cards or an empty one, is
 /// legal and confined, and takes the run over.
 pub fn expansions_go_over<R: Rule>()
-    ensures plays { (board : Board) (from to first : ℕ) (under later : List ℕ)
+    ensures plays { (board : Board) (from to first : ℕ) (under later : Pile)
         → IsWellFormed R.game board → from ≢ to → from < 8 → to < 8
         → column_at board from ≡ under ++ first ∷ later → is_run R.game (first ∷ later) ≡ true
         → MayFollow R.game first (last_card (column_at board to))
@@ -32,7 +32,7 @@ pub fn expansions_go_over<R: Rule>()
         (OneCard (expansion (free_cells R.game board) (length (first ∷ later)) from to
         (spare_columns board to)))
         (run_moved board from to (length (first ∷ later))) }
-    ensures confined { (board : Board) (from to first : ℕ) (under later : List ℕ)
+    ensures confined { (board : Board) (from to first : ℕ) (under later : Pile)
         → IsWellFormed R.game board → from ≢ to → from < 8 → to < 8
         → column_at board from ≡ under ++ first ∷ later → is_run R.game (first ∷ later) ≡ true
         → MayFollow R.game first (last_card (column_at board to))

@@ -1,9 +1,9 @@
 //! Laws of what `closed` finds of a collection.
 ghost use Rattle.std.specs.List.{Contains, count_by};
 ghost use Rattle.std.specs.Prelude.{◌++◌, ◌<◌, ◌↔◌, ◌≡◌, All, codes, length, List, Some, ℕ};
+ghost use Rattle.{fc_board.specs.declared.rule.Variant.{Variant}, fc_card.specs.Types.{Text}};
 ghost use Rattle.fc_board.specs.{Games.{game_of}, Play.{IsWon}, Steps.{Step}};
-ghost use Rattle.{fc_board.specs.declared.rule.Variant.{Variant}, fc_canon.specs.{Equivalent}};
-ghost use Rattle.fc_bytes.specs.{legal_moves, move_bytes};
+ghost use Rattle.{fc_bytes.specs.{legal_moves, move_bytes}, fc_canon.specs.{Equivalent}};
 ghost use Rattle.fc_closed.specs.{IsClosed, IsUnsolvable};
 ghost use Rattle.fc_record.specs.{Printing.{is_refused}, RecordTexts.{RecordText}};
 ghost use Rattle.fc_collect.specs.Closed.{boards_of, Closed, finding_of, Flawed, Refused};
@@ -20,21 +20,21 @@ ghost use Rattle.fc_laws.specs.Findings.{IsFirstFlawed, IsShutIn};
 /// the board of any accepted record, and none is refused. It writes that exactly where it ends with
 /// status 0, for which nothing may count as refused.
 pub fn what_is_written_closed_is_unsolvable()
-    ensures unsolvable { (limits : Limits) (variant : Variant) (read written rest : List ℕ)
+    ensures unsolvable { (limits : Limits) (variant : Variant) (read written rest : Text)
         (summary : Summary)
         → OutputOf limits (printing_of (runs.Closed Words) variant) read written summary
         → written ≡ codes "closed" ++ rest
         → All (λ member. IsUnsolvable (game_of member.heading.variant) member.contents.board)
         (members_among variant (records_from limits read)) }
-    ensures none_refused { (limits : Limits) (variant : Variant) (read written rest : List ℕ)
+    ensures none_refused { (limits : Limits) (variant : Variant) (read written rest : Text)
         (summary : Summary)
         → OutputOf limits (printing_of (runs.Closed Words) variant) read written summary
         → written ≡ codes "closed" ++ rest
         → count_by (is_refused variant) (records_from limits read) ≡ 0 }
-    ensures status { (limits : Limits) (variant : Variant) (read written : List ℕ)
+    ensures status { (limits : Limits) (variant : Variant) (read written : Text)
         (summary : Summary)
         → OutputOf limits (printing_of (runs.Closed Words) variant) read written summary
-        → (summary.refused ≡ 0) ↔ ((rest : List ℕ) × (written ≡ codes "closed" ++ rest)) }
+        → (summary.refused ≡ 0) ↔ ((rest : Text) × (written ≡ codes "closed" ++ rest)) }
 {}
 
 /// A collection is found closed exactly where no record is refused and, in each game by itself, no
@@ -57,7 +57,7 @@ pub fn closed_is_found_exactly()
 /// where `open` names it with a move, that is the first of its legal moves that leads to a board
 /// which is equivalent to none of its game's. None is in the way where refused records are counted.
 pub fn what_is_named_is_in_the_way_first()
-    ensures named { (variant : Variant) (records : List RecordText) (name : List ℕ) (flaw : Flaw)
+    ensures named { (variant : Variant) (records : List RecordText) (name : Text) (flaw : Flaw)
         → finding_of (summary_of variant records) (members_among variant records)
         ≡ Flawed name flaw
         → IsFirstFlawed (members_among variant records) name flaw }

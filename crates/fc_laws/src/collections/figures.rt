@@ -4,8 +4,8 @@ ghost use Rattle.std.specs.Fmt.{decimal};
 ghost use Rattle.std.specs.List.{All, Contains, count_by, filter, flat_map, list_any};
 ghost use Rattle.std.specs.Prelude.{◌++◌, ◌+◌, ◌<◌, ◌^◌, ◌↔◌, ◌∷◌, ◌≡◌, [], Bool, codes, false};
 ghost use Rattle.std.specs.Prelude.{length, List, map, slice_index_or, Some, true, ℕ};
+ghost use Rattle.{fc_board.specs.declared.rule.Variant.{Variant}, fc_card.specs.Types.{Text}};
 ghost use Rattle.fc_board.specs.{Games.{game_of}, Moves.{move_count, MoveList}, Play.{Wins}};
-ghost use Rattle.fc_board.specs.declared.rule.Variant.{Variant};
 ghost use Rattle.fc_text.specs.Bytes.{blank, line_feed};
 ghost use Rattle.fc_record.specs.{Printing.{verdict_line}, RecordTexts.{RecordText}};
 ghost use Rattle.fc_collect.specs.Groups.{belong_together, figures, figures_object, groups_of};
@@ -26,14 +26,14 @@ pub fn each_record_is_counted_once()
 /// a group.
 pub fn one_more_record_is_a_group_or_a_double()
     ensures double { (summary : Summary) (members : List Member) (member : Member)
-        (before after : List ℕ)
+        (before after : Text)
         → list_any (λ other. belong_together other member) members ≡ true
         → map (λ figure. figure.1) (figures summary members) ≡ before
         → map (λ figure. figure.1) (figures summary (members ++ member ∷ [])) ≡ after
         → (slice_index_or after 2 0 ≡ slice_index_or before 2 0)
         × (slice_index_or after 3 0 ≡ slice_index_or before 3 0 + 1) }
     ensures group { (summary : Summary) (members : List Member) (member : Member)
-        (before after : List ℕ)
+        (before after : Text)
         → list_any (λ other. belong_together other member) members ≡ false
         → map (λ figure. figure.1) (figures summary members) ≡ before
         → map (λ figure. figure.1) (figures summary (members ++ member ∷ [])) ≡ after
@@ -49,7 +49,7 @@ pub fn solved_groups_have_a_list_that_wins()
         → map (λ figure. figure.1) (figures summary members) ≡ numbers
         → slice_index_or numbers 4 0
         ≡ length (flat_map (λ member. member.contents.lists) members) }
-    ensures wins { (summary : Summary) (variant : Variant) (collection : List ℕ) (numbers : List ℕ)
+    ensures wins { (summary : Summary) (variant : Variant) (collection : Text) (numbers : List ℕ)
         → map (λ figure. figure.1)
         (figures summary (members_among variant (records_of collection))) ≡ numbers
         → (test : Member → MoveList → Bool)
@@ -61,7 +61,7 @@ pub fn solved_groups_have_a_list_that_wins()
         → Contains member.contents.lists list
         → (test member list ≡ true)
         ↔ Wins (game_of member.heading.variant) member.contents.board list) }
-    ensures solved { (summary : Summary) (variant : Variant) (collection : List ℕ)
+    ensures solved { (summary : Summary) (variant : Variant) (collection : Text)
         (numbers : List ℕ)
         → map (λ figure. figure.1)
         (figures summary (members_among variant (records_of collection))) ≡ numbers
@@ -83,7 +83,7 @@ pub fn figures_are_json_texts()
         → map (λ figure. figure.1) (figures summary members)
         ≡ records ∷ refused ∷ groups ∷ doubles ∷ lists ∷ wins ∷ solved ∷ []
         → All (λ figure. figure.1 < 2 ^ 64) (figures summary members)
-        → (line : List ℕ) × (figures_object (figures summary members) ≡ line ++ line_feed ∷ [])
+        → (line : Text) × (figures_object (figures summary members) ≡ line ++ line_feed ∷ [])
         × (document line ≡ Some (object (member_of (codes "records") (number (decimal records))
         (member_of (codes "refused") (number (decimal refused))
         (member_of (codes "groups") (number (decimal groups))

@@ -1,22 +1,23 @@
 //! Laws of groups.
 ghost use Rattle.std.specs.{List.{Contains, filter}, Prelude.{◌↔◌, ◌∷◌, ◌≡◌, [], length, List}};
 ghost use Rattle.std.specs.Prelude.{map, slice_get, Some, take, true, ℕ};
+ghost use Rattle.{fc_board.specs.declared.rule.Variant.{Variant}, fc_card.specs.Types.{Text}};
 ghost use Rattle.fc_board.specs.{Boards.{IsWellFormed}, Games.{game_of}};
 ghost use Rattle.fc_board.specs.Moves.{ListFits, MoveList};
-ghost use Rattle.{fc_board.specs.declared.rule.Variant.{Variant}, fc_canon.specs.{Equivalent}};
+ghost use Rattle.fc_canon.specs.{Equivalent};
 ghost use Rattle.fc_collect.specs.Groups.{belong_together, groups_of, leaders_after, Member};
 ghost use Rattle.fc_collect.specs.{Groups.{members_among}, Records.{records_of}};
 
 /// The accepted records of a collection have well-formed boards and lists of moves of their games,
 /// and no two of them have one number.
 pub fn accepted_records_are_sound()
-    ensures boards { (variant : Variant) (collection : List ℕ) (member : Member)
+    ensures boards { (variant : Variant) (collection : Text) (member : Member)
         → Contains (members_among variant (records_of collection)) member
         → IsWellFormed (game_of member.heading.variant) member.contents.board }
-    ensures lists { (variant : Variant) (collection : List ℕ) (member : Member) (list : MoveList)
+    ensures lists { (variant : Variant) (collection : Text) (member : Member) (list : MoveList)
         → Contains (members_among variant (records_of collection)) member
         → Contains member.contents.lists list → ListFits (game_of member.heading.variant) list }
-    ensures numbers { (variant : Variant) (collection : List ℕ) (member other : Member)
+    ensures numbers { (variant : Variant) (collection : Text) (member other : Member)
         → Contains (members_among variant (records_of collection)) member
         → Contains (members_among variant (records_of collection)) other
         → member.number ≡ other.number → member ≡ other }
@@ -26,7 +27,7 @@ pub fn accepted_records_are_sound()
 /// their boards are equivalent in its game; a group has accepted records alone, and no record
 /// is in two groups.
 pub fn groups_are_classes()
-    ensures together { (variant : Variant) (collection : List ℕ) (member other : Member)
+    ensures together { (variant : Variant) (collection : Text) (member other : Member)
         → Contains (members_among variant (records_of collection)) member
         → Contains (members_among variant (records_of collection)) other
         → ((group : List Member)

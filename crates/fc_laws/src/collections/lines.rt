@@ -1,9 +1,9 @@
 //! Laws of what a record says and of what is printed for it.
 ghost use Rattle.std.specs.{List.{All, find}, Prelude.{◌++◌, ◌+◌, ◌↔◌, ◌∷◌, ◌≡◌, ◌≢◌, ◌≤◌, ◌⊎◌}};
-ghost use Rattle.std.specs.Prelude.{[], Err, false, List, None, Ok, Option, Some, true, ℕ};
+ghost use Rattle.std.specs.Prelude.{[], Err, false, None, Ok, Option, Some, true, ℕ};
+ghost use Rattle.{fc_board.specs.declared.rule.Variant.{Variant}, fc_card.specs.Types.{Text}};
 ghost use Rattle.fc_board.specs.{Boards.{Board, IsWellFormed}, Games.{Game, game_of, renamings_of}};
 ghost use Rattle.fc_board.specs.Moves.{MoveList};
-ghost use Rattle.fc_board.specs.declared.rule.Variant.{Variant};
 ghost use Rattle.fc_text.specs.{Bytes.{line_feed, number_sign}, Faults.{first_fault}};
 ghost use Rattle.fc_text.specs.Lines.{lines_from};
 ghost use Rattle.fc_text.specs.Notation.{BadTokenAt, IsRunToken, IsToken, TooManyAt};
@@ -25,7 +25,7 @@ ghost use Rattle.fc_collect.specs.Records.{if_record, records_of};
 /// A record is accepted exactly where its header says something, its board text spells a board and
 /// the lines from the first list on are lists, blank or comments.
 pub fn accepted_records_say_what_they_spell()
-    ensures { (variant : Variant) (bytes : List ℕ) (heading : Heading) (contents : Contents)
+    ensures { (variant : Variant) (bytes : Text) (heading : Heading) (contents : Contents)
         → reading_of variant bytes ≡ Accepted heading contents
         ↔ RecordSays variant bytes heading contents }
 {}
@@ -33,7 +33,7 @@ pub fn accepted_records_say_what_they_spell()
 /// A record is refused for its first fault: that of its header; else that of its board text; else
 /// that of the first line, from the first list on, that is neither a list nor blank nor a comment.
 pub fn records_are_refused_for_their_first_fault()
-    ensures { (variant : Variant) (bytes : List ℕ) (name : Option (List ℕ)) (fault : RecordFault)
+    ensures { (variant : Variant) (bytes : Text) (name : Option Text) (fault : RecordFault)
         → reading_of variant bytes ≡ Refused name fault
         ↔ IsFaulty variant bytes name fault }
 {}
@@ -42,12 +42,12 @@ pub fn records_are_refused_for_their_first_fault()
 /// the game is the one that is handed in. Any other header is refused at the place where it is
 /// bad.
 pub fn headers_say_their_game_and_name()
-    ensures says { (variant : Variant) (bytes : List ℕ) (heading : Heading)
+    ensures says { (variant : Variant) (bytes : Text) (heading : Heading)
         → heading_of variant bytes ≡ Ok heading ↔ HeaderSays variant bytes heading }
-    ensures bad { (variant : Variant) (bytes : List ℕ) (fault : RecordFault)
+    ensures bad { (variant : Variant) (bytes : Text) (fault : RecordFault)
         → heading_of variant bytes ≡ Err fault
         ↔ ((place : ℕ) × (fault ≡ fault_at place BadHeader) × BadHeaderAt bytes place) }
-    ensures either { (variant : Variant) (bytes : List ℕ)
+    ensures either { (variant : Variant) (bytes : Text)
         → ((heading : Heading) × HeaderSays variant bytes heading)
         ⊎ ((place : ℕ) × BadHeaderAt bytes place) }
 {}
@@ -64,14 +64,14 @@ pub fn canonical_lines_are_canonical()
 /// A collection in which no line begins with `@` or `>` is one board: its text spells it, or it is
 /// refused for the first fault of the text.
 pub fn a_board_alone()
-    ensures one_record { (text : List ℕ) → header_starts text ≡ []
+    ensures one_record { (text : Text) → header_starts text ≡ []
         → records_of text ≡ if_record (record { number = 1; start = 0; bytes = text }) }
-    ensures spelled { (variant : Variant) (text : List ℕ) → header_starts text ≡ []
+    ensures spelled { (variant : Variant) (text : Text) → header_starts text ≡ []
         → find (λ line. begins_with list_mark line.bytes) (lines_from 0 text) ≡ None
         → (board : Board) → Spells (game_of variant) text board
         → reading_of variant text
         ≡ Accepted (without_header variant) (record { board = board; lists = [] }) }
-    ensures faulty { (variant : Variant) (text : List ℕ) → header_starts text ≡ []
+    ensures faulty { (variant : Variant) (text : Text) → header_starts text ≡ []
         → find (λ line. begins_with list_mark line.bytes) (lines_from 0 text) ≡ None
         → (fault : FoundFault) → first_fault (game_of variant) text ≡ Some fault
         → reading_of variant text
@@ -80,7 +80,7 @@ pub fn a_board_alone()
 
 /// A comment after an accepted record that a line feed ends changes nothing of what it says.
 pub fn comments_say_nothing()
-    ensures { (variant : Variant) (bytes comment : List ℕ) (heading : Heading) (contents : Contents)
+    ensures { (variant : Variant) (bytes comment : Text) (heading : Heading) (contents : Contents)
         → ends_line bytes ≡ true → All (λ byte. byte ≢ line_feed) comment
         → reading_of variant bytes ≡ Accepted heading contents
         → reading_of variant (bytes ++ (number_sign ∷ comment ++ line_feed ∷ []))
@@ -90,14 +90,14 @@ pub fn comments_say_nothing()
 /// What `show` prints for an accepted record is read as that record again: with its header and the
 /// name that it was printed with, whichever game is handed in, or without one as before.
 pub fn shown_records_are_read_again()
-    ensures with_header { (variant other : Variant) (number : ℕ) (bytes : List ℕ)
+    ensures with_header { (variant other : Variant) (number : ℕ) (bytes : Text)
         (heading : Heading)
         (contents : Contents)
         → reading_of variant bytes ≡ Accepted heading contents → heading.has_header ≡ true
         → number ≤ most_countable
         → reading_of other (show_lines number heading contents)
         ≡ Accepted (with_header heading.variant (Some (name_of number heading.name))) contents }
-    ensures without_header { (variant : Variant) (number : ℕ) (bytes : List ℕ) (heading : Heading)
+    ensures without_header { (variant : Variant) (number : ℕ) (bytes : Text) (heading : Heading)
         (contents : Contents)
         → reading_of variant bytes ≡ Accepted heading contents → heading.has_header ≡ false
         → reading_of variant (show_lines number heading contents) ≡ Accepted heading contents }
@@ -106,21 +106,21 @@ pub fn shown_records_are_read_again()
 /// A line is read as the moves that it lists after its marks. It is refused at its first word that
 /// is no move of the game, or that is one too many: at its place after one mark, and after two.
 pub fn lists_are_refused_at_their_words()
-    ensures listed { (game : Game) (place : ℕ) (line : List ℕ) (list : MoveList) → game.cells ≤ 8
+    ensures listed { (game : Game) (place : ℕ) (line : Text) (list : MoveList) → game.cells ≤ 8
         → list_read game place line ≡ Ok list ↔ IsList game line list }
-    ensures bad_token { (game : Game) (place at : ℕ) (text : List ℕ) → game.cells ≤ 8
+    ensures bad_token { (game : Game) (place at : ℕ) (text : Text) → game.cells ≤ 8
         → begins_with list_mark text ≡ false → BadTokenAt (IsToken game) text at
         → list_read game place (list_mark ∷ text)
         ≡ Err (record { place = place + 1 + at; kind = BadToken }) }
-    ensures too_many { (game : Game) (place at : ℕ) (text : List ℕ) → game.cells ≤ 8
+    ensures too_many { (game : Game) (place at : ℕ) (text : Text) → game.cells ≤ 8
         → begins_with list_mark text ≡ false → TooManyAt (IsToken game) text at
         → list_read game place (list_mark ∷ text)
         ≡ Err (record { place = place + 1 + at; kind = TooManyMoves }) }
-    ensures bad_run { (game : Game) (place at : ℕ) (text : List ℕ) → game.cells ≤ 8
+    ensures bad_run { (game : Game) (place at : ℕ) (text : Text) → game.cells ≤ 8
         → BadTokenAt (IsRunToken game) text at
         → list_read game place (list_mark ∷ list_mark ∷ text)
         ≡ Err (record { place = place + 2 + at; kind = BadToken }) }
-    ensures too_many_runs { (game : Game) (place at : ℕ) (text : List ℕ) → game.cells ≤ 8
+    ensures too_many_runs { (game : Game) (place at : ℕ) (text : Text) → game.cells ≤ 8
         → TooManyAt (IsRunToken game) text at
         → list_read game place (list_mark ∷ list_mark ∷ text)
         ≡ Err (record { place = place + 2 + at; kind = TooManyMoves }) }

@@ -1,12 +1,12 @@
 //! Laws of the lists of a record: what `check` and `expand` print for each.
 ghost use Rattle.std.specs.{Fmt.{decimal}, List.{Contains}, Prelude.{◌++◌, ◌+◌, ◌<◌, ◌↔◌, ◌∷◌}};
 ghost use Rattle.std.specs.Prelude.{◌≡◌, ◌≤◌, [], codes, length, List, true, ℕ};
+ghost use Rattle.{fc_card.specs.Types.{Text}, fc_text.specs.Bytes.{blank, line_feed, number_sign}};
 ghost use Rattle.fc_board.specs.{Boards.{Board}, Games.{game_of}};
 ghost use Rattle.fc_board.specs.Moves.{move_count, MoveList, OneCard};
 ghost use Rattle.fc_board.specs.Play.{Legal, list_verdict, Plays, RefusedAt, Wins};
 ghost use Rattle.fc_board.specs.Steps.{step_reason};
 ghost use Rattle.fc_board.specs.declared.{fault.StepFault.{StepFault}, rule.Variant.{Variant}};
-ghost use Rattle.fc_text.specs.Bytes.{blank, line_feed, number_sign};
 ghost use Rattle.fc_record.specs.{Grammar.{begins_with, Heading}, Printing.{check_lines}};
 ghost use Rattle.fc_record.specs.Printing.{expand_lines, expanded_line, list_line, name_of};
 ghost use Rattle.fc_record.specs.Printing.{one_card_moves, verdict_line};
@@ -16,7 +16,7 @@ ghost use Rattle.fc_collect.specs.{Groups.{Member, members_among}, Records.{reco
 /// it is legal exactly if it is and does not win, and that it is illegal at a move for a reason
 /// exactly if the game refuses that move for that reason.
 pub fn check_says_what_lists_do()
-    ensures wins { (variant : Variant) (collection name : List ℕ) (member : Member) (number : ℕ)
+    ensures wins { (variant : Variant) (collection name : Text) (member : Member) (number : ℕ)
         (list : MoveList)
         → Contains (members_among variant (records_of collection)) member
         → Contains member.contents.lists list
@@ -24,7 +24,7 @@ pub fn check_says_what_lists_do()
         ≡ name ++ blank ∷ decimal number ++ codes " wins " ++ decimal (move_count list)
         ++ line_feed ∷ []
         ↔ Wins (game_of member.heading.variant) member.contents.board list }
-    ensures legal { (variant : Variant) (collection name : List ℕ) (member : Member) (number : ℕ)
+    ensures legal { (variant : Variant) (collection name : Text) (member : Member) (number : ℕ)
         (list : MoveList)
         → Contains (members_among variant (records_of collection)) member
         → Contains member.contents.lists list
@@ -33,7 +33,7 @@ pub fn check_says_what_lists_do()
         ++ line_feed ∷ []
         ↔ (Legal (game_of member.heading.variant) member.contents.board list
         × ¬ Wins (game_of member.heading.variant) member.contents.board list) }
-    ensures illegal { (variant : Variant) (collection name : List ℕ) (member : Member)
+    ensures illegal { (variant : Variant) (collection name : Text) (member : Member)
         (number index : ℕ) (list : MoveList) (fault : StepFault)
         → Contains (members_among variant (records_of collection)) member
         → Contains member.contents.lists list → index < move_count list
@@ -48,7 +48,7 @@ pub fn check_says_what_lists_do()
 /// for a reason, or too long, exactly if it is. The verdict on the moves is that on the list, and
 /// they lead to the board to which the list leads.
 pub fn expand_prints_legal_lists()
-    ensures listed { (variant : Variant) (collection : List ℕ) (member : Member) (number : ℕ)
+    ensures listed { (variant : Variant) (collection : Text) (member : Member) (number : ℕ)
         (list : MoveList)
         → Contains (members_among variant (records_of collection)) member
         → Contains member.contents.lists list
@@ -58,7 +58,7 @@ pub fn expand_prints_legal_lists()
         ↔ (Legal (game_of member.heading.variant) member.contents.board list
         × length (one_card_moves (game_of member.heading.variant) member.contents.board list)
         ≤ 4096) }
-    ensures comment { (variant : Variant) (collection : List ℕ) (member : Member) (number : ℕ)
+    ensures comment { (variant : Variant) (collection : Text) (member : Member) (number : ℕ)
         (list : MoveList)
         → Contains (members_among variant (records_of collection)) member
         → Contains member.contents.lists list
@@ -67,7 +67,7 @@ pub fn expand_prints_legal_lists()
         ↔ ¬ (Legal (game_of member.heading.variant) member.contents.board list
         × length (one_card_moves (game_of member.heading.variant) member.contents.board list)
         ≤ 4096) }
-    ensures illegal { (variant : Variant) (collection : List ℕ) (member : Member)
+    ensures illegal { (variant : Variant) (collection : Text) (member : Member)
         (number index : ℕ) (list : MoveList) (fault : StepFault)
         → Contains (members_among variant (records_of collection)) member
         → Contains member.contents.lists list → index < move_count list
@@ -75,7 +75,7 @@ pub fn expand_prints_legal_lists()
         ≡ codes "# list " ++ decimal number ++ codes " illegal " ++ decimal index
         ++ blank ∷ step_reason fault ++ line_feed ∷ []
         ↔ RefusedAt (game_of member.heading.variant) member.contents.board list index fault }
-    ensures too_long { (variant : Variant) (collection : List ℕ) (member : Member) (number : ℕ)
+    ensures too_long { (variant : Variant) (collection : Text) (member : Member) (number : ℕ)
         (list : MoveList)
         → Contains (members_among variant (records_of collection)) member
         → Contains member.contents.lists list
@@ -84,14 +84,14 @@ pub fn expand_prints_legal_lists()
         ↔ (Legal (game_of member.heading.variant) member.contents.board list
         × 4096 < length (one_card_moves (game_of member.heading.variant) member.contents.board
         list)) }
-    ensures verdict { (variant : Variant) (collection : List ℕ) (member : Member) (list : MoveList)
+    ensures verdict { (variant : Variant) (collection : Text) (member : Member) (list : MoveList)
         → Contains (members_among variant (records_of collection)) member
         → Contains member.contents.lists list
         → Legal (game_of member.heading.variant) member.contents.board list
         → list_verdict (game_of member.heading.variant) member.contents.board
         (OneCard (one_card_moves (game_of member.heading.variant) member.contents.board list))
         ≡ list_verdict (game_of member.heading.variant) member.contents.board list }
-    ensures leads { (variant : Variant) (collection : List ℕ) (member : Member) (after : Board)
+    ensures leads { (variant : Variant) (collection : Text) (member : Member) (after : Board)
         (list : MoveList)
         → Contains (members_among variant (records_of collection)) member
         → Plays (game_of member.heading.variant) member.contents.board list after

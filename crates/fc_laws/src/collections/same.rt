@@ -1,9 +1,9 @@
 //! Laws of what `same` prints.
-ghost use Rattle.std.specs.Prelude.{◌++◌, ◌↔◌, ◌∷◌, ◌≡◌, [], codes, List, None, Option, Some, ℕ};
+ghost use Rattle.std.specs.Prelude.{◌++◌, ◌↔◌, ◌∷◌, ◌≡◌, [], codes, List, None, Option, Some};
+ghost use Rattle.{fc_board.specs.declared.rule.Variant.{Variant}, fc_card.specs.Types.{Text}};
 ghost use Rattle.fc_board.specs.{Boards.{IsWellFormed}, Games.{game_of}};
 ghost use Rattle.fc_board.specs.Passages.{Carries, Passage};
-ghost use Rattle.{fc_board.specs.declared.rule.Variant.{Variant}, fc_text.specs.Bytes.{line_feed}};
-ghost use Rattle.fc_canon.specs.{Equivalent};
+ghost use Rattle.{fc_canon.specs.{Equivalent}, fc_text.specs.Bytes.{line_feed}};
 ghost use Rattle.fc_record.specs.Grammar.{Accepted, Contents, Heading, reading_of, Refused};
 ghost use Rattle.fc_record.specs.Printing.{name_of, passage_words, refusal_line};
 ghost use Rattle.fc_record.specs.RecordTexts.{RecordText};
@@ -55,7 +55,7 @@ pub fn one_more_record_is_led_to_or_apart()
         → same_output variant (records ++ text ∷ []) ≡ same_output variant records
         ++ name_of text.number heading.name ++ codes " apart" ++ line_feed ∷ [] }
     ensures refused { (variant : Variant) (records : List RecordText) (text : RecordText)
-        (name : Option (List ℕ)) (fault : RecordFault)
+        (name : Option Text) (fault : RecordFault)
         → reading_of variant text.bytes ≡ Refused name fault
         → same_output variant (records ++ text ∷ []) ≡ same_output variant records
         ++ refusal_line text name fault }

@@ -1,8 +1,8 @@
 //! Laws of the solutions that the members of a group share.
-ghost use Rattle.std.specs.{List.{Contains}, Prelude.{◌++◌, ◌≡◌, List, None, Some, ℕ}};
+ghost use Rattle.std.specs.{List.{Contains}, Prelude.{◌++◌, ◌≡◌, List, None, Some}};
+ghost use Rattle.{fc_board.specs.declared.rule.Variant.{Variant}, fc_card.specs.Types.{Text}};
 ghost use Rattle.fc_board.specs.{Games.{game_of}, Moves.{MoveList}, Play.{Wins}};
-ghost use Rattle.{fc_board.specs.declared.rule.Variant.{Variant}, fc_canon.specs.{IsFirst}};
-ghost use Rattle.fc_record.specs.Printing.{list_line};
+ghost use Rattle.{fc_canon.specs.{IsFirst}, fc_record.specs.Printing.{list_line}};
 ghost use Rattle.fc_collect.specs.Groups.{groups_of, Member, member_lines, members_among};
 ghost use Rattle.fc_collect.specs.Groups.{owner_among, solution_line, solution_of};
 ghost use Rattle.fc_collect.specs.Records.{records_of};
@@ -10,14 +10,14 @@ ghost use Rattle.fc_collect.specs.Records.{records_of};
 /// Where no list of a group wins from its own board, none of the members gets a list. Where one
 /// does, each of them gets one, and it wins from the member's own board.
 pub fn solutions_are_shared()
-    ensures none { (variant : Variant) (collection : List ℕ) (group : List Member)
+    ensures none { (variant : Variant) (collection : Text) (group : List Member)
         → Contains (groups_of (members_among variant (records_of collection))) group
         → ((member : Member) (list : MoveList) → Contains group member
         → Contains member.contents.lists list
         → ¬ Wins (game_of member.heading.variant) member.contents.board list)
         → (member : Member) → Contains group member
         → member_lines (owner_among group) member ≡ member_lines None member }
-    ensures solved { (variant : Variant) (collection : List ℕ) (group : List Member)
+    ensures solved { (variant : Variant) (collection : Text) (group : List Member)
         (winner : Member) (winning : MoveList)
         → Contains (groups_of (members_among variant (records_of collection))) group
         → Contains group winner → Contains winner.contents.lists winning
@@ -33,7 +33,7 @@ pub fn solutions_are_shared()
 pub fn the_first_solution_is_shared()
     ensures owner { (members : List Member) (owner : Member) → owner_among members ≡ Some owner
         → IsFirst (λ member. (list : MoveList) × (solution_of member ≡ Some list)) members owner }
-    ensures list { (variant : Variant) (collection : List ℕ) (member : Member) (list : MoveList)
+    ensures list { (variant : Variant) (collection : Text) (member : Member) (list : MoveList)
         → Contains (members_among variant (records_of collection)) member
         → solution_of member ≡ Some list
         → IsFirst (Wins (game_of member.heading.variant) member.contents.board)

@@ -1,7 +1,6 @@
 //! Laws of what `unique` prints.
-ghost use Rattle.std.specs.List.{All, flat_map};
-ghost use Rattle.std.specs.Prelude.{◌++◌, ◌∷◌, ◌≡◌, [], false, List, true, ℕ};
-ghost use Rattle.fc_board.specs.declared.rule.Variant.{Variant};
+ghost use Rattle.std.specs.{List.{All, flat_map}, Prelude.{◌++◌, ◌∷◌, ◌≡◌, [], false, List, true}};
+ghost use Rattle.{fc_board.specs.declared.rule.Variant.{Variant}, fc_card.specs.Types.{Text}};
 ghost use Rattle.fc_record.specs.Printing.{is_refused, show_lines};
 ghost use Rattle.fc_record.specs.RecordTexts.{ends_line, header_mark, RecordText};
 ghost use Rattle.fc_collect.specs.Groups.{leaders_after, members_among, unique_output};
@@ -11,13 +10,13 @@ ghost use Rattle.fc_collect.specs.Records.{finished_records, outputs_after, reco
 /// What is printed for records is printed for each by those before it; where it goes by none of
 /// them, it is what each record alone gets.
 pub fn outputs_follow_one_another()
-    ensures one { (output_of : List RecordText → RecordText → List ℕ) (earlier : List RecordText)
+    ensures one { (output_of : List RecordText → RecordText → Text) (earlier : List RecordText)
         (text : RecordText) → outputs_after output_of earlier (text ∷ []) ≡ output_of earlier text }
-    ensures more { (output_of : List RecordText → RecordText → List ℕ)
+    ensures more { (output_of : List RecordText → RecordText → Text)
         (earlier texts more : List RecordText)
         → outputs_after output_of earlier (texts ++ more) ≡ outputs_after output_of earlier texts
         ++ outputs_after output_of (earlier ++ texts) more }
-    ensures alone { (output_of : RecordText → List ℕ) (texts : List RecordText)
+    ensures alone { (output_of : RecordText → Text) (texts : List RecordText)
         → outputs_after (λ earlier. output_of) [] texts ≡ flat_map output_of texts }
 {}
 
@@ -25,20 +24,20 @@ pub fn outputs_follow_one_another()
 /// before; and what has been printed where a read fails is all that is printed for what comes
 /// before the last header, and begins what is printed for all that might have come.
 pub fn outputs_are_joined()
-    ensures joined { (output_of : List RecordText → RecordText → List ℕ) (x y : List ℕ)
+    ensures joined { (output_of : List RecordText → RecordText → Text) (x y : Text)
         → ends_line x ≡ true → Begins (outputs_after output_of [] (records_of x))
         (outputs_after output_of [] (records_of (x ++ header_mark ∷ y))) }
-    ensures finished { (output_of : List RecordText → RecordText → List ℕ) (x y : List ℕ)
+    ensures finished { (output_of : List RecordText → RecordText → Text) (x y : Text)
         → Begins (outputs_after output_of [] (finished_records x))
         (outputs_after output_of [] (finished_records (x ++ y))) }
-    ensures begun { (output_of : List RecordText → RecordText → List ℕ) (x y : List ℕ)
+    ensures begun { (output_of : List RecordText → RecordText → Text) (x y : Text)
         → Begins (outputs_after output_of [] (finished_records x))
         (outputs_after output_of [] (records_of (x ++ y))) }
-    ensures failed { (output_of : List RecordText → RecordText → List ℕ) (x y : List ℕ)
+    ensures failed { (output_of : List RecordText → RecordText → Text) (x y : Text)
         → ends_line x ≡ true → header_starts (header_mark ∷ y) ≡ 0 ∷ []
         → outputs_after output_of [] (finished_records (x ++ header_mark ∷ y))
         ≡ outputs_after output_of [] (records_of x) }
-    ensures failed_early { (output_of : List RecordText → RecordText → List ℕ) (x : List ℕ)
+    ensures failed_early { (output_of : List RecordText → RecordText → Text) (x : Text)
         → header_starts x ≡ [] → outputs_after output_of [] (finished_records x) ≡ [] }
 {}
 

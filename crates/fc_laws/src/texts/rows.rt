@@ -1,7 +1,7 @@
 //! Laws of the lines of a board's text and of what they hold.
 ghost use Rattle.std.specs.Prelude.{◌++◌, ◌+◌, ◌<◌, ◌∷◌, ◌≡◌, ◌≢◌, [], codes, length, List, map};
 ghost use Rattle.std.specs.{Prelude.{Some, ℕ}, Str.{str_to_ascii_uppercase}};
-ghost use Rattle.fc_board.specs.Games.{freecell, Game};
+ghost use Rattle.{fc_board.specs.Games.{freecell, Game}, fc_card.specs.Types.{Card, Text}};
 ghost use Rattle.fc_text.specs.{Bytes.{carriage_return, line_feed}, Faults.{first_fault}};
 ghost use Rattle.fc_text.specs.Lines.{lines_from, moved, trim_carriage_return};
 ghost use Rattle.fc_text.specs.Rows.{line_of, Row, rows_of};
@@ -15,8 +15,8 @@ ghost use Rattle.fc_laws.specs.TextExamples.{blank_after_a_comment, blank_eighth
 /// A blank line is an empty column exactly where a line that is neither blank nor a comment comes
 /// before it and fewer than eight columns do; comments are skipped.
 pub fn rows_follow_from_the_lines_before()
-    ensures rows { (text : List ℕ) → AreRows (map line_of (lines_from 0 text)) (rows_of text) }
-    ensures no_others { (text : List ℕ) (rows : List Row)
+    ensures rows { (text : Text) → AreRows (map line_of (lines_from 0 text)) (rows_of text) }
+    ensures no_others { (text : Text) (rows : List Row)
         → AreRows (map line_of (lines_from 0 text)) rows → rows ≡ rows_of text }
 {}
 
@@ -44,11 +44,11 @@ pub fn each_name_is_read()
 
 /// A missing card is at the length of the text, and every other fault within it.
 pub fn faults_have_their_places()
-    ensures missing { (game : Game) (text : List ℕ) (place card : ℕ)
+    ensures missing { (game : Game) (text : Text) (place card : ℕ)
         → first_fault game text ≡ Some (record { place = place; kind = MissingCard card })
         → place ≡ length text }
-    ensures others { (game : Game) (text : List ℕ) (fault : BoardFault)
-        → first_fault game text ≡ Some fault → ((card : ℕ) → fault.kind ≢ MissingCard card)
+    ensures others { (game : Game) (text : Text) (fault : BoardFault)
+        → first_fault game text ≡ Some fault → ((card : Card) → fault.kind ≢ MissingCard card)
         → fault.place < length text }
 {}
 
@@ -56,10 +56,10 @@ pub fn faults_have_their_places()
 /// feed, and then those of the second one moved on; and a line reads alike with a carriage return
 /// at its end and without.
 pub fn lines_join()
-    ensures joined { (text next : List ℕ) → lines_from 0 (text ++ line_feed ∷ next)
+    ensures joined { (text next : Text) → lines_from 0 (text ++ line_feed ∷ next)
         ≡ lines_from 0 (text ++ line_feed ∷ [])
         ++ map (moved (length text + 1)) (lines_from 0 next) }
-    ensures returns { (start : ℕ) (bytes : List ℕ) → trim_carriage_return bytes ≡ bytes
+    ensures returns { (start : ℕ) (bytes : Text) → trim_carriage_return bytes ≡ bytes
         → line_of (record { start = start; bytes = bytes ++ carriage_return ∷ [] })
         ≡ line_of (record { start = start; bytes = bytes }) }
 {}
@@ -67,10 +67,10 @@ pub fn lines_join()
 /// Texts that differ in the case of letters alone have the same first fault and give the same
 /// board.
 pub fn both_cases_are_read()
-    ensures faults { (game : Game) (text other : List ℕ)
+    ensures faults { (game : Game) (text other : Text)
         → str_to_ascii_uppercase text ≡ str_to_ascii_uppercase other
         → first_fault game text ≡ first_fault game other }
-    ensures boards { (game : Game) (text other : List ℕ)
+    ensures boards { (game : Game) (text other : Text)
         → str_to_ascii_uppercase text ≡ str_to_ascii_uppercase other
         → board_of game text ≡ board_of game other }
 {}

@@ -1,6 +1,7 @@
 //! Laws of the notation of moves of several cards.
 ghost use Rattle.std.specs.{List.{sum_by}, Prelude.{◌++◌, ◌+◌, ◌<◌, ◌↔◌, ◌∷◌, ◌≡◌, ◌≤◌, ◌⊎◌, []}};
 ghost use Rattle.std.specs.Prelude.{All, codes, IsFalse, length, List, map, None, Some, take, ℕ};
+ghost use Rattle.fc_card.specs.Types.{Order, Text};
 ghost use Rattle.fc_board.specs.{Games.{eight_off, freecell, Game}, Moves.{is_column_to_column}};
 ghost use Rattle.fc_board.specs.Moves.{ListFits, move_between, MoveList, OneCard, RunFits, Runs};
 ghost use Rattle.fc_board.specs.Passages.{AreOrders, run_image};
@@ -16,37 +17,37 @@ ghost use Rattle.fc_laws.specs.BoardExamples.{run_of_three_home, three_cards_and
 /// A word is a token of just the move of several cards that its characters name, and so of one at
 /// most.
 pub fn words_name_runs()
-    ensures named { (game : Game) (word : List ℕ) (move : RunMove) → game.cells ≤ 8
+    ensures named { (game : Game) (word : Text) (move : RunMove) → game.cells ≤ 8
         → IsRunToken game word move ↔ run_named game word ≡ Some move }
-    ensures one_move { (game : Game) (word : List ℕ) (move other : RunMove) → game.cells ≤ 8
+    ensures one_move { (game : Game) (word : Text) (move other : RunMove) → game.cells ≤ 8
         → IsRunToken game word move → IsRunToken game word other → move ≡ other }
 {}
 
 /// A text does exactly one of three: it lists moves of several cards, or it has a bad token at some
 /// place, or it has too many words from some place on.
 pub fn texts_list_runs_or_fail()
-    ensures one_of_three { (game : Game) (text : List ℕ) → game.cells ≤ 8
+    ensures one_of_three { (game : Game) (text : Text) → game.cells ≤ 8
         → ((moves : List RunMove) × Listed (IsRunToken game) text moves)
         ⊎ ((place : ℕ) × BadTokenAt (IsRunToken game) text place)
         ⊎ ((place : ℕ) × TooManyAt (IsRunToken game) text place) }
-    ensures listed_or_bad { (game : Game) (text : List ℕ) (moves : List RunMove) (place : ℕ)
+    ensures listed_or_bad { (game : Game) (text : Text) (moves : List RunMove) (place : ℕ)
         → Listed (IsRunToken game) text moves → ¬ BadTokenAt (IsRunToken game) text place }
-    ensures listed_or_too_many { (game : Game) (text : List ℕ) (moves : List RunMove) (place : ℕ)
+    ensures listed_or_too_many { (game : Game) (text : Text) (moves : List RunMove) (place : ℕ)
         → Listed (IsRunToken game) text moves → ¬ TooManyAt (IsRunToken game) text place }
-    ensures bad_or_too_many { (game : Game) (text : List ℕ) (place other : ℕ)
+    ensures bad_or_too_many { (game : Game) (text : Text) (place other : ℕ)
         → BadTokenAt (IsRunToken game) text place → ¬ TooManyAt (IsRunToken game) text other }
 {}
 
 /// A text lists one list of moves of several cards at most, has its bad token at one place, and its
 /// first word too many at one place.
 pub fn texts_of_runs_have_one_reading()
-    ensures one_list { (game : Game) (text : List ℕ) (moves other : List RunMove) → game.cells ≤ 8
+    ensures one_list { (game : Game) (text : Text) (moves other : List RunMove) → game.cells ≤ 8
         → Listed (IsRunToken game) text moves → Listed (IsRunToken game) text other
         → moves ≡ other }
-    ensures one_bad_token { (game : Game) (text : List ℕ) (place other : ℕ)
+    ensures one_bad_token { (game : Game) (text : Text) (place other : ℕ)
         → BadTokenAt (IsRunToken game) text place → BadTokenAt (IsRunToken game) text other
         → place ≡ other }
-    ensures one_word_too_many { (game : Game) (text : List ℕ) (place other : ℕ)
+    ensures one_word_too_many { (game : Game) (text : Text) (place other : ℕ)
         → TooManyAt (IsRunToken game) text place → TooManyAt (IsRunToken game) text other
         → place ≡ other }
 {}
@@ -54,7 +55,7 @@ pub fn texts_of_runs_have_one_reading()
 /// A game has the columns and cells of the moves of several cards that a text lists, and their
 /// numbers of cards are those of runs.
 pub fn listed_runs_fit()
-    ensures { (game : Game) (text : List ℕ) (moves : List RunMove)
+    ensures { (game : Game) (text : Text) (moves : List RunMove)
         → Listed (IsRunToken game) text moves → All (RunFits game) moves }
 {}
 
@@ -72,9 +73,9 @@ pub fn prints_list_their_runs()
 
 /// A bad token and a first word too many are within the text, of moves of several cards too.
 pub fn faults_of_runs_are_in_the_text()
-    ensures bad_token { (game : Game) (text : List ℕ) (place : ℕ)
+    ensures bad_token { (game : Game) (text : Text) (place : ℕ)
         → BadTokenAt (IsRunToken game) text place → place < length text }
-    ensures too_many { (game : Game) (text : List ℕ) (place : ℕ)
+    ensures too_many { (game : Game) (text : Text) (place : ℕ)
         → TooManyAt (IsRunToken game) text place → place < length text }
 {}
 
@@ -90,7 +91,7 @@ pub fn sizes_of_printed_runs()
 
 /// The image of what a text lists as moves of several cards may be printed and read again.
 pub fn images_of_runs_are_read_again()
-    ensures { (game : Game) (text columns cells : List ℕ) (moves : List RunMove) → game.cells ≤ 8
+    ensures { (game : Game) (text : Text) (columns cells : Order) (moves : List RunMove) → game.cells ≤ 8
         → AreOrders game columns cells → Listed (IsRunToken game) text moves
         → Listed (IsRunToken game) (print (Runs (map (run_image columns cells) moves)))
         (map (run_image columns cells) moves) }
@@ -106,15 +107,15 @@ pub fn prints_spell_one_list_of_runs()
 /// A text that lists moves of one card lists the same moves as moves of several cards, where those
 /// from column to column are runs of no stated number, and is printed alike.
 pub fn moves_are_runs()
-    ensures listed { (game : Game) (text : List ℕ) (moves : List Move)
+    ensures listed { (game : Game) (text : Text) (moves : List Move)
         → Listed (IsToken game) text moves
         → Listed (IsRunToken game) text (map as_run moves) }
     ensures printed { (moves : List Move)
         → print (Runs (map as_run moves)) ≡ print (OneCard moves) }
-    ensures of_one_card { (game : Game) (word : List ℕ) (move : Move)
+    ensures of_one_card { (game : Game) (word : Text) (move : Move)
         → IsRunToken game word (One move)
         ↔ (IsToken game word move × IsFalse (is_column_to_column move)) }
-    ensures of_columns { (game : Game) (word : List ℕ) (from to : ℕ)
+    ensures of_columns { (game : Game) (word : Text) (from to : ℕ)
         → IsRunToken game word (Run from to None)
         ↔ IsToken game word (move_between (FromColumn from) (ToColumn to)) }
 {}
@@ -122,7 +123,7 @@ pub fn moves_are_runs()
 /// A token of a run of no stated number, and `v` with the digit of 1 to 13 cards after it, is a
 /// token of the same run with that number of cards.
 pub fn runs_take_each_count()
-    ensures { (game : Game) (word : List ℕ) (from to count : ℕ) → 1 ≤ count → count ≤ 13
+    ensures { (game : Game) (word : Text) (from to count : ℕ) → 1 ≤ count → count ≤ 13
         → IsRunToken game word (Run from to None)
         → IsRunToken game (word ++ count_suffix (Some count)) (Run from to (Some count)) }
 {}
