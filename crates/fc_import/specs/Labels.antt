@@ -2,38 +2,38 @@
 use Rattle.std.specs.{List.{before_first, list_any}, Prelude.{◌&&◌, ◌-◌, ◌==◌, ◌||◌, ◌∷◌, [], Bool}}
 use Rattle.std.specs.Prelude.{codes, false, if◌then◌else◌, length, List, map, nat_le, nat_lt}
 use Rattle.std.specs.{Prelude.{slice_index, true, ℕ}, Str.{str_eq_ignore_ascii_case}}
+use Rattle.{fc_card.specs.Types.{Text}, fc_import.specs.Scan.{parts_words, uncommented, word_at}}
 use Rattle.fc_text.specs.{Bytes.{colon}, Lines.{Piece, with_end, words_from}}
-use Rattle.fc_import.specs.Scan.{parts_words, uncommented, word_at}
 use Rattle.fc_import.specs.declared.labels.LabelKind.{LabelKind, TheVariants.{Bare, Cells, Column}}
 use Rattle.fc_import.specs.declared.labels.LabelKind.TheVariants.{Columns, Foundations, Unknown}
 
 -- -------- The table of names, in any case.
 
-abbrev pub foundations_names : List (List ℕ)
+abbrev pub foundations_names : List Text
 foundations_names = codes "foundations" ∷ codes "foundation" ∷ codes "founds" ∷ codes "found" ∷ codes "decks" ∷ codes "deck" ∷ codes "home" ∷ []
 
-abbrev pub cells_names : List (List ℕ)
+abbrev pub cells_names : List Text
 cells_names = codes "freecells" ∷ codes "freecell" ∷ codes "fc" ∷ codes "cells" ∷ codes "cell" ∷ codes "reserve" ∷ codes "reserves" ∷ []
 
 -- of one column, before its number
-abbrev pub column_names : List (List ℕ)
+abbrev pub column_names : List Text
 column_names = codes "column" ∷ codes "col" ∷ codes "stack" ∷ codes "pile" ∷ codes "cascade" ∷ []
 
 -- of all columns, in a line of its own
-abbrev pub columns_names : List (List ℕ)
+abbrev pub columns_names : List Text
 columns_names = codes "columns" ∷ codes "tableau" ∷ codes "stacks" ∷ codes "piles" ∷ codes "cascades" ∷ codes "board" ∷ []
 
-abbrev pub is_among : (word : List ℕ) → (names : List (List ℕ)) → Bool
+abbrev pub is_among : (word : Text) → (names : List Text) → Bool
 is_among word names = list_any (str_eq_ignore_ascii_case word) names
 
 -- -------- Labels.
 
 -- a digit from 1 to 8
-abbrev pub is_column_number : List ℕ → Bool
+abbrev pub is_column_number : Text → Bool
 is_column_number word = length word == 1 && nat_le 0x31 (slice_index word 0) && nat_le (slice_index word 0) 0x38
 
 -- what one word says that comes before a colon
-abbrev pub said_by_one : List ℕ → LabelKind
+abbrev pub said_by_one : Text → LabelKind
 said_by_one word =
     if is_among word foundations_names then Foundations
     else if is_among word cells_names then Cells
@@ -42,7 +42,7 @@ said_by_one word =
     else Unknown
 
 -- and what two words say: `Free cells`, `Home cells`, and a column with its number
-abbrev pub said_by_two : (first second : List ℕ) → LabelKind
+abbrev pub said_by_two : (first second : Text) → LabelKind
 said_by_two first second =
     if is_among second (codes "cells" ∷ codes "cell" ∷ []) then (if is_among first (codes "free" ∷ []) then Cells else if is_among first (codes "home" ∷ []) then Foundations else Unknown)
     else if is_among first column_names && is_column_number second then Column (slice_index second 0 - 0x30)
@@ -56,21 +56,21 @@ said_by_words words =
     else Unknown
 
 -- without a colon, the number of a column with a dot or a bracket
-abbrev pub is_numbered : (text : List ℕ) → (word : Piece × ℕ) → Bool
+abbrev pub is_numbered : (text : Text) → (word : Piece × ℕ) → Bool
 is_numbered text word =
     let mark = slice_index text word.1 in
     is_column_number word.0.bytes && (mark == 0x2E || mark == 0x29)
 
-abbrev pub said_by_front : (text : List ℕ) → List (Piece × ℕ) → LabelKind
+abbrev pub said_by_front : (text : Text) → List (Piece × ℕ) → LabelKind
 said_by_front text [] = Bare
 said_by_front text (word ∷ words) = if is_numbered text word then Column (slice_index word.0.bytes 0 - 0x30) else Bare
 
 -- the words of a text
-abbrev pub all_words : List ℕ → List (Piece × ℕ)
+abbrev pub all_words : Text → List (Piece × ℕ)
 all_words text = map with_end (words_from parts_words 0 text)
 
 -- what a line before a comment begins with
-abbrev pub label_of : (text : List ℕ) → LabelKind
+abbrev pub label_of : (text : Text) → LabelKind
 label_of text =
     let front = before_first (λ byte. byte == colon) text in
     if length front == length text then said_by_front text (all_words text) else said_by_words (all_words front)
@@ -81,7 +81,7 @@ says Bare has_colon = has_colon
 says (Column number) has_colon = true
 says kind has_colon = false
 
-abbrev pub says_column : List ℕ → Bool
+abbrev pub says_column : Text → Bool
 says_column line =
     let text = uncommented line in
     says (label_of text) (nat_lt (length (before_first (λ byte. byte == colon) text)) (length text))

@@ -1,10 +1,11 @@
 -- Where an import is in its text, and what is said of a place there.
 use Rattle.std.specs.{Fmt.{decimal}, List.{count_by, prefix_len}, Option.{unwrap_or}}
 use Rattle.std.specs.Prelude.{◌++◌, ◌+◌, ◌-◌, ◌<◌, ◌==◌, ◌^◌, ◌||◌, ◌∷◌, ◌≡◌, ◌⊎◌, [], All, Bool}
-use Rattle.std.specs.Prelude.{codes, drop, Err, false, if◌then◌else◌, IsTrue, length, List, min}
-use Rattle.std.specs.Prelude.{None, not, Ok, Option, Result, take, ℕ}
+use Rattle.std.specs.Prelude.{codes, drop, Err, false, if◌then◌else◌, IsTrue, length, min, None}
+use Rattle.std.specs.Prelude.{not, Ok, Option, Result, take, ℕ}
 use Rattle.std.specs.Str.{bytes_eq, str_eq_ignore_ascii_case}
-use Rattle.fc_board.specs.{Boards.{Board}, declared.rule.Variant.{Variant}, Games.{variant_word}}
+use Rattle.{fc_board.specs.{Boards.{Board}, Games.{variant_word}}, fc_card.specs.Types.{Text}}
+use Rattle.fc_board.specs.declared.rule.Variant.{Variant}
 use Rattle.fc_text.specs.{Bytes.{line_feed}, Notation.{separates_tokens}}
 use Rattle.fc_record.specs.Grammar.{begins_with, Heading, heading_of, list_mark}
 use Rattle.fc_record.specs.declared.record.RecordFault.{RecordFault}
@@ -41,7 +42,7 @@ plus one more = record {
 
 -- the name that the last header gives, the number of its line, and that of the next line
 pub record Place : Type 0 where
-  pub name : List ℕ
+  pub name : Text
   pub header : ℕ
   pub line : ℕ
 
@@ -59,33 +60,33 @@ pub record State : Type 0 where
 abbrev pub first_state : ImportOptions → State
 first_state options = record { options = options; last = None; begun = false; goes_on = false; other_game = false; place = record { name = []; header = 0; line = 1 }; named = 0; tally = tally_of Passed }
 
-abbrev pub line_feeds : List ℕ → ℕ
+abbrev pub line_feeds : Text → ℕ
 line_feeds text = count_by (λ byte. byte == line_feed) text
 
-abbrev pub line_after : (line : ℕ) → (text : List ℕ) → ℕ
+abbrev pub line_after : (line : ℕ) → (text : Text) → ℕ
 line_after line text = counted (line + line_feeds text)
 
 -- the rule before a solution of Freecell Solver
-abbrev pub is_rule : (piece : List ℕ) → Bool
+abbrev pub is_rule : (piece : Text) → Bool
 is_rule piece = bytes_eq (take 10 piece) (codes "-=-=-=-=-=")
 
 -- whether a solution has begun after a piece of this fate: after its rule, with words and blank lines
-abbrev pub begun_after : Fate → (begun : Bool) → (piece : List ℕ) → Bool
+abbrev pub begun_after : Fate → (begun : Bool) → (piece : Text) → Bool
 begun_after Passed begun piece = begun || is_rule piece
 begun_after LeftOut begun piece = begun
 begun_after fate begun piece = false
 
 -- the lines of a list that no mark begins, no move in words, and no sentence of Freecell Solver's, as where a board is won and its list has no moves
-abbrev pub is_unmarked : (piece : List ℕ) → Bool
+abbrev pub is_unmarked : (piece : Text) → Bool
 is_unmarked piece = not (begins_with list_mark piece || is_in_words piece || bytes_eq (take 5 piece) (codes "This "))
 
-abbrev pub goes_on_after : Fate → (piece : List ℕ) → Bool
+abbrev pub goes_on_after : Fate → (piece : Text) → Bool
 goes_on_after AList piece = is_unmarked piece
 goes_on_after RefusedList piece = is_unmarked piece
 goes_on_after fate piece = false
 
 -- the state after the lines of a piece of this fate, with this last board
-abbrev pub after : State → (piece : List ℕ) → (last : Option Board) → Fate → State
+abbrev pub after : State → (piece : Text) → (last : Option Board) → Fate → State
 after state piece last fate = record state {
   last = last;
   begun = begun_after fate state.begun piece;
@@ -96,21 +97,21 @@ after state piece last fate = record state {
 }
 
 -- the name that a header gives, or nothing
-abbrev pub name_by : Result Heading RecordFault → List ℕ
+abbrev pub name_by : Result Heading RecordFault → Text
 name_by (Ok heading) = unwrap_or heading.name []
 name_by (Err fault) = []
 
 -- the first word of a text
-abbrev pub first_word : List ℕ → List ℕ
+abbrev pub first_word : Text → Text
 first_word text =
     let rest = drop (prefix_len separates_tokens text) text in
     take (prefix_len (λ byte. not (separates_tokens byte)) rest) rest
 
 -- the first word after the mark of a header names the game, in any case
-abbrev pub names_game : Variant → (line : List ℕ) → Bool
+abbrev pub names_game : Variant → (line : Text) → Bool
 names_game variant line = str_eq_ignore_ascii_case (first_word (drop 1 line)) (variant_word variant)
 
-abbrev pub after_heading : Variant → State → (line : List ℕ) → State
+abbrev pub after_heading : Variant → State → (line : Text) → State
 after_heading variant state line = record state {
   last = None;
   begun = false;
@@ -123,19 +124,19 @@ after_heading variant state line = record state {
 -- -------- What is said. From: this project's profile; editors open a file at NAME:LINE:COLUMN.
 
 -- NAME and the line counted from its header, or the line alone
-abbrev pub place_text : Place → (line column : ℕ) → List ℕ
+abbrev pub place_text : Place → (line column : ℕ) → Text
 place_text place line column =
     (if length place.name == 0 then decimal line else place.name ++ codes ":" ++ decimal (line - place.header)) ++ codes ":" ++ decimal column
 
 -- a line that names one of the lines of the piece, and says in printing ASCII what is to be said of it
-pub record IsNote (place : Place) (piece said : List ℕ) : Type 0 where
+pub record IsNote (place : Place) (piece said : Text) : Type 0 where
   pub at : ℕ
   pub column : ℕ
-  pub words : List ℕ
+  pub words : Text
   pub within : (at ≡ 0) ⊎ (at < length piece)
   pub printing : All (λ byte. IsTrue (is_between 0x20 0x7E byte)) words
   pub is : said ≡ codes "fcanon: " ++ place_text place (line_after place.line (take at piece)) column ++ codes ": " ++ words ++ line_feed ∷ []
 
 -- nothing is said where this is so, and else there is a note
-abbrev pub SaysUnless : (holds : Type 0) → Place → (piece said : List ℕ) → Type 0
+abbrev pub SaysUnless : (holds : Type 0) → Place → (piece said : Text) → Type 0
 SaysUnless holds place piece said = (holds × (said ≡ [])) ⊎ ((¬ holds) × IsNote place piece said)

@@ -8,7 +8,7 @@ use Rattle.std.specs.Prelude.{count_by, drop, false, if◌then◌else◌, length
 use Rattle.std.specs.Prelude.{nat_lt, None, not, Option, slice_index, slice_index_or, Some, take}
 use Rattle.std.specs.Prelude.{true, ℕ}
 use Rattle.std.specs.Str.{bytes_eq, str_eq_ignore_ascii_case, str_to_ascii_lowercase}
-use Rattle.fc_board.specs.Games.{Game}
+use Rattle.{fc_board.specs.Games.{Game}, fc_card.specs.Types.{Card, Text}}
 use Rattle.fc_text.specs.Bytes.{blank, colon, dash, is_gap, number_sign}
 use Rattle.fc_text.specs.Lines.{Piece, with_end, words_from}
 use Rattle.fc_text.specs.Notation.{cell_letters, column_digits, count_letter, home_letter}
@@ -22,31 +22,31 @@ abbrev pub parts_words : ℕ → Bool
 parts_words byte = not (is_ascii_alphanumeric byte || nat_le 128 byte)
 
 -- the line before a comment
-abbrev pub uncommented : List ℕ → List ℕ
+abbrev pub uncommented : Text → Text
 uncommented line = before_first (λ byte. byte == number_sign) line
 
 -- each with the place of its end
-abbrev pub words_of : List ℕ → List (Piece × ℕ)
+abbrev pub words_of : Text → List (Piece × ℕ)
 words_of line = map with_end (words_from parts_words 0 (uncommented line))
 
 -- -------- The cards that they name.
 
 -- a word names a card as a board's text spells it, or with its suit first
-abbrev pub named_card : List ℕ → Option ℕ
+abbrev pub named_card : Text → Option Card
 named_card word = option_or (card_spelled word) (card_spelled (drop 1 word ++ take 1 word))
 
-abbrev pub cards_in : List ℕ → List ℕ
+abbrev pub cards_in : Text → List Card
 cards_in line = flat_map (λ word. option_to_list (named_card word.0.bytes)) (words_of line)
 
 -- a header names none
-abbrev pub named_cards : List ℕ → List ℕ
+abbrev pub named_cards : Text → List Card
 named_cards line = if begins_with header_mark line then [] else cards_in line
 
 -- -------- The moves that they name: `2a`, `23v2`, `2->6`, `5 to a`, with numbers and labels before them, as `12. 2a` and `Solution: 2a`.
 
 -- what words name so far: the moves, each after a blank; the pile that a move is from whose target comes next, and whether its arrow has a point; whether each word is of a move; how many moves are no numbers: none, one, or more; and whether one of those came before any other word
 pub record Said : Type 0 where
-  pub moves : List ℕ
+  pub moves : Text
   pub from : Option ℕ
   pub pointed : Bool
   pub all : Bool
@@ -57,39 +57,39 @@ abbrev pub nothing_said : Said
 nothing_said = record { moves = []; from = None; pointed = false; all = true; sure = 0; led = false }
 
 -- the next mark after blanks and tabs
-abbrev pub after_gap : List ℕ → List ℕ
+abbrev pub after_gap : Text → Text
 after_gap rest = drop (prefix_len is_gap rest) rest
 
 -- it is an arrow, a dash, or `to` and a blank
-abbrev pub is_arrow : List ℕ → Bool
+abbrev pub is_arrow : Text → Bool
 is_arrow next =
     let mark = slice_index next 0 in
     mark == dash || mark == 0x3D || mark == 0x3E || bytes_eq (take 3 next) (codes "to ")
 
 -- it is an arrow with a point, as `->`, `=>` and `>`
-abbrev pub is_pointed : List ℕ → Bool
+abbrev pub is_pointed : Text → Bool
 is_pointed next = slice_index next 0 == 0x3E || slice_index next 1 == 0x3E
 
-abbrev pub is_number : List ℕ → Bool
+abbrev pub is_number : Text → Bool
 is_number word = list_all is_ascii_digit word
 
 -- what a solution may be called, before a colon
-abbrev pub solution_names : List (List ℕ)
+abbrev pub solution_names : List Text
 solution_names = codes "solution" ∷ codes "moves" ∷ codes "move" ∷ []
 
 -- a number, or a name of a solution, with a colon after it; or a number with a dot or a bracket
-abbrev pub is_label : (word after : List ℕ) → Bool
+abbrev pub is_label : (word after : Text) → Bool
 is_label word after =
     let mark = slice_index after 0 in
     if is_number word then mark == colon || mark == 0x2E || mark == 0x29
     else mark == colon && list_any (str_eq_ignore_ascii_case word) solution_names
 
 -- a digit and a letter
-abbrev pub is_sure : List ℕ → Bool
+abbrev pub is_sure : Text → Bool
 is_sure word = not (is_number word) && not (list_all is_ascii_alphabetic word)
 
 -- the move is the next one
-abbrev pub with_move : Said → (word : List ℕ) → (sure : Bool) → Said
+abbrev pub with_move : Said → (word : Text) → (sure : Bool) → Said
 with_move said word sure = record {
   moves = said.moves ++ (blank ∷ str_to_ascii_lowercase word);
   from = None;
@@ -100,15 +100,15 @@ with_move said word sure = record {
 }
 
 -- moves that are not parted, as `3a3b5c`
-abbrev pub is_glued : Game → List ℕ → Bool
+abbrev pub is_glued : Game → Text → Bool
 is_glued game word = nat_le 4 (length word) && is_sure (take 2 word) && is_some (run_named game (take 2 word)) && is_some (run_named game (take 2 (drop 2 word)))
 
 -- a card that goes somewhere, as `KC to a`, in capitals
-abbrev pub is_card_move : (word next : List ℕ) → Bool
+abbrev pub is_card_move : (word next : Text) → Bool
 is_card_move word next = is_some (named_card word) && not (list_any is_ascii_lowercase word) && (is_pointed next || bytes_eq (take 3 next) (codes "to "))
 
 -- a move in a form that is not read
-abbrev pub is_unread : Game → (word next : List ℕ) → Bool
+abbrev pub is_unread : Game → (word next : Text) → Bool
 is_unread game word next = is_some (run_named game word) || is_glued game word || is_card_move word next
 
 -- the next word is of no move, or of one in a form that is not read
@@ -116,36 +116,36 @@ abbrev pub with_other : Said → (unread : Bool) → Said
 with_other said unread = record said { from = None; pointed = false; all = false; led = said.led || unread }
 
 -- a word where no target comes next
-abbrev pub after_first : Game → Said → (word next : List ℕ) → Said
+abbrev pub after_first : Game → Said → (word next : Text) → Said
 after_first game said word next =
     if is_some (run_named game word) && not (is_pointed next) then with_move said word (is_sure word)
     else if length word == 1 && is_arrow next then record said { from = Some (slice_index word 0); pointed = is_pointed next }
     else with_other said (is_unread game word next)
 
 -- the letters of a pile and of the target after an arrow
-abbrev pub after_letters : Game → Said → (letters : List ℕ) → Said
+abbrev pub after_letters : Game → Said → (letters : Text) → Said
 after_letters game said letters =
     if is_some (run_named game letters) then with_move said letters (said.pointed || is_sure letters) else with_other said false
 
 -- a word where the target of a move from this pile comes next
-abbrev pub after_arrow : Game → Said → (from : ℕ) → (word : List ℕ) → Said
+abbrev pub after_arrow : Game → Said → (from : ℕ) → (word : Text) → Said
 after_arrow game said from word =
     if bytes_eq word (codes "to") then said
     else if length word == 1 then after_letters game said (from ∷ word)
     else with_other said false
 
-abbrev pub after_next : Game → Said → Option ℕ → (word next : List ℕ) → Said
+abbrev pub after_next : Game → Said → Option ℕ → (word next : Text) → Said
 after_next game said None word next = after_first game said word next
 after_next game said (Some from) word next = after_arrow game said from word
 
 -- where dots come next, moves are left out
-abbrev pub has_dots : (next : List ℕ) → Bool
+abbrev pub has_dots : (next : Text) → Bool
 has_dots next = bytes_eq (take 3 next) (codes "...")
 
-abbrev pub before_dots : Said → (next : List ℕ) → Said
+abbrev pub before_dots : Said → (next : Text) → Said
 before_dots said next = if has_dots next then with_other said false else said
 
-abbrev pub after_word : Game → (text : List ℕ) → Said → Piece × ℕ → Said
+abbrev pub after_word : Game → (text : Text) → Said → Piece × ℕ → Said
 after_word game text said word =
     let after = drop word.1 text in
     let next = after_gap after in
@@ -154,7 +154,7 @@ after_word game text said word =
 -- -------- The move that a line of Freecell Solver's says, as `Move 2 cards from stack 0 to stack 5`.
 
 -- the column of `stack 0`, the cell of `freecell 0`, and `the foundations`
-abbrev pub pile_said : (kind number : List ℕ) → ℕ
+abbrev pub pile_said : (kind number : Text) → ℕ
 pile_said kind number =
     let place = slice_index number 0 - 0x30 in
     if bytes_eq kind (codes "stack") then slice_index_or column_digits place 0x3F
@@ -163,21 +163,21 @@ pile_said kind number =
     else 0x3F
 
 -- the number of cards, where it is said to be 2 to 9
-abbrev pub count_said : List ℕ → Option ℕ
+abbrev pub count_said : Text → Option ℕ
 count_said (digit ∷ []) = if nat_le 0x32 digit && nat_le digit 0x39 then Some digit else None
 count_said _ = None
 
-abbrev pub with_count : Option ℕ → List ℕ
+abbrev pub with_count : Option ℕ → Text
 with_count None = []
 with_count (Some digit) = count_letter ∷ digit ∷ []
 
-abbrev pub move_said : (count from_kind from_number to_kind to_number : List ℕ) → List ℕ
+abbrev pub move_said : (count from_kind from_number to_kind to_number : Text) → Text
 move_said count from_kind from_number to_kind to_number =
     let source = pile_said from_kind from_number in
     let target = pile_said to_kind to_number in
     source ∷ target ∷ (if is_ascii_digit source && is_ascii_digit target then with_count (count_said count) else [])
 
-abbrev pub word_at : List (Piece × ℕ) → ℕ → List ℕ
+abbrev pub word_at : List (Piece × ℕ) → ℕ → Text
 word_at words place = slice_index_or (map (λ word. word.0.bytes) words) place []
 
 -- `Move`, a number and `cards`, `from` and a pile, `to` and a pile
@@ -186,16 +186,16 @@ is_said words =
     bytes_eq (word_at words 0) (codes "Move") && bytes_eq (word_at words 3) (codes "from") && bytes_eq (word_at words 6) (codes "to") && length words == 9
 
 -- the word, after a blank, if it is a move
-abbrev pub if_move : Game → List ℕ → List ℕ
+abbrev pub if_move : Game → Text → Text
 if_move game word = if is_some (run_named game word) then blank ∷ word else []
 
-abbrev pub solver_said : Game → List (Piece × ℕ) → List ℕ
+abbrev pub solver_said : Game → List (Piece × ℕ) → Text
 solver_said game words =
     if is_said words then if_move game (move_said (word_at words 1) (word_at words 4) (word_at words 5) (word_at words 7) (word_at words 8)) else []
 
 -- -------- All that a line says of moves.
 
-abbrev pub said_in : Game → List ℕ → Said
+abbrev pub said_in : Game → Text → Said
 said_in game line =
     let solver = solver_said game (words_of line) in
     if length solver == 0 then fold (after_word game (uncommented line)) nothing_said (words_of line)
@@ -206,7 +206,7 @@ abbrev pub is_number_alone : List (Piece × ℕ) → Bool
 is_number_alone words = length words == 1 && list_all (λ word. is_number word.0.bytes) words
 
 -- the line begins as fcanon's lists do, or each of its words is of a move; a number alone is none
-abbrev pub is_list : Game → List ℕ → Bool
+abbrev pub is_list : Game → Text → Bool
 is_list game line =
     let said = said_in game line in
     slice_index line 0 == 0x3E || (said.all && is_none said.from && nat_lt 0 (length said.moves) && not (is_number_alone (words_of line)))
@@ -214,21 +214,21 @@ is_list game line =
 -- -------- A solution in Freecell Solver's words, with boards between its moves. From: what `fc-solve -sam` prints.
 
 -- the text begins with a move in words, or before its letters
-abbrev pub is_in_words : (text : List ℕ) → Bool
+abbrev pub is_in_words : (text : Text) → Bool
 is_in_words text = bytes_eq (take 5 text) (codes "Move ") || bytes_eq (take 5 text) (codes "Move:")
 
 -- one sign, a ten, the name of a line, or a card in capitals
-abbrev pub is_drawn_word : List ℕ → Bool
+abbrev pub is_drawn_word : Text → Bool
 is_drawn_word word =
     length word == 1 || bytes_eq word (codes "10") || bytes_eq word (codes "Foundations") || bytes_eq word (codes "Freecells")
     || (is_some (named_card word) && not (list_any is_ascii_lowercase word))
 
 -- a line of a drawn board
-abbrev pub is_drawn : (line : List ℕ) → Bool
+abbrev pub is_drawn : (line : Text) → Bool
 is_drawn line = list_all (λ word. is_drawn_word word.0.bytes) (words_of line)
 
 -- the line lists moves: in a solution in words, no line of a drawn board does
-abbrev pub lists_moves : Game → (in_words : Bool) → (line : List ℕ) → Bool
+abbrev pub lists_moves : Game → (in_words : Bool) → (line : Text) → Bool
 lists_moves game in_words line = is_list game line && not (in_words && is_drawn line)
 
 -- -------- How many moves a line names, and whether they may be cut into signs.
@@ -243,13 +243,13 @@ abbrev pub are_single : Game → List (Piece × ℕ) → Bool
 are_single game words = nat_le 4 (length words) && list_all (λ word. length word.0.bytes == 1) words && begins_single game words
 
 -- how many moves its words name, among others too
-abbrev pub moves_in : Game → List ℕ → ℕ
+abbrev pub moves_in : Game → Text → ℕ
 moves_in game line = count_by (λ byte. byte == blank) (said_in game line).moves
 
 -- -------- What a line may be that no board and no list is made of.
 
 -- a line of other words names few moves: less than four, by at most half of its words, but for a number alone; one at most that is no number, and that not first; and it has no moves in forms that are not read
-pub record HasFewMoves (game : Game) (line : List ℕ) : Type 0 where
+pub record HasFewMoves (game : Game) (line : Text) : Type 0 where
   pub few : moves_in game line < 4
   pub half : (2 * moves_in game line ≤ length (words_of line)) ⊎ (is_number_alone (words_of line) ≡ true)
   pub sure : (said_in game line).sure ≤ 1
@@ -257,17 +257,17 @@ pub record HasFewMoves (game : Game) (line : List ℕ) : Type 0 where
   pub parted : are_single game (words_of line) ≡ false
 
 -- a line passes in silence that names no card, is no list, and names few moves: so a solution never does
-pub record IsQuiet (game : Game) (line : List ℕ) : Type 0 where
+pub record IsQuiet (game : Game) (line : Text) : Type 0 where
   pub no_card : named_cards line ≡ []
   pub no_list : is_list game line ≡ false
   pub few_moves : HasFewMoves game line
 
 -- at most half of the words of the line name cards
-abbrev pub HasFewCards : (line : List ℕ) → Type 0
+abbrev pub HasFewCards : (line : Text) → Type 0
 HasFewCards line = 2 * length (named_cards line) ≤ length (words_of line)
 
 -- a line is left out with a note that has few cards, is no list, and names few moves
-pub record IsProse (game : Game) (line : List ℕ) : Type 0 where
+pub record IsProse (game : Game) (line : Text) : Type 0 where
   pub few : HasFewCards line
   pub no_list : is_list game line ≡ false
   pub few_moves : HasFewMoves game line

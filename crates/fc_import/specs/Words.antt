@@ -3,19 +3,19 @@ use Rattle.std.specs.{Char.Utf16.{utf16_lossy_chars}, List.{flat_map}, Prelude.{
 use Rattle.std.specs.Prelude.{◌++◌, ◌+◌, ◌-◌, ◌/◌, ◌==◌, ◌||◌, ◌∷◌, [], Bool, codes, drop, false}
 use Rattle.std.specs.Prelude.{if◌then◌else◌, List, nat_le, None, Option, slice_index, Some, suc}
 use Rattle.std.specs.{Prelude.{true, zero, ℕ}, Str.{encode_utf8_all}}
+use Rattle.{fc_card.specs.Types.{Card, Text}, fc_import.specs.Scan.{named_cards}}
 use Rattle.fc_text.specs.{Bytes.{blank, line_feed}, Lines.{lines_from}}
-use Rattle.fc_import.specs.Scan.{named_cards}
 
 -- -------- The text that the bytes of a file are. From: Unicode's UTF-16 and UTF-8, and the byte order mark.
 
 -- the units of two bytes, of which the first is the high one or the low one; a byte alone at the end is a sign that cannot be read
-abbrev pub units_of : Bool → List ℕ → List ℕ
+abbrev pub units_of : Bool → Text → List ℕ
 units_of high_first [] = []
 units_of high_first (byte ∷ []) = 0xFFFD ∷ []
 units_of high_first (first ∷ second ∷ rest) = (if high_first then 256 * first + second else 256 * second + first) ∷ units_of high_first rest
 
 -- UTF-16 by its mark, and else the bytes as they are
-abbrev pub decoded : List ℕ → List ℕ
+abbrev pub decoded : Text → Text
 decoded bytes =
     if slice_index bytes 0 == 0xFF && slice_index bytes 1 == 0xFE then encode_utf8_all (utf16_lossy_chars (units_of false (drop 2 bytes)))
     else if slice_index bytes 0 == 0xFE && slice_index bytes 1 == 0xFF then encode_utf8_all (utf16_lossy_chars (units_of true (drop 2 bytes)))
@@ -39,7 +39,7 @@ number_of first second third fourth =
     else (first, 1)
 
 -- `-` for hyphens, dashes and the sign of minus; three dots for the ellipsis; a blank for the spaces and the other marks of general punctuation, the no-break space, and the space as wide as a sign of Chinese; and `>` for arrows
-abbrev pub mark_for : ℕ → Option (List ℕ)
+abbrev pub mark_for : ℕ → Option Text
 mark_for number =
     if is_between 0x2010 0x2015 number || number == 0x2212 then Some (0x2D ∷ [])
     else if number == 0x2026 then Some (0x2E ∷ 0x2E ∷ 0x2E ∷ [])
@@ -54,7 +54,7 @@ mark_for number =
 -- a line feed for line tabulation, form feed and carriage return, next line, and the separators of lines and of paragraphs;
 -- nothing for marks that no reader sees: of direction, of joining, of how a sign looks, the soft hyphen and the byte order mark;
 -- a mark for dashes, spaces and arrows
-abbrev pub stands_for : ℕ → Option (List ℕ)
+abbrev pub stands_for : ℕ → Option Text
 stands_for number =
     if is_between 0x2660 0x2667 number then Some (slice_index (codes "SHDC") (number % 4) ∷ [])
     else if is_between 0x1F0A0 0x1F0DF number && (is_between 1 11 (number % 16) || is_between 13 14 (number % 16))
@@ -66,12 +66,12 @@ stands_for number =
     else mark_for number
 
 -- a byte by itself, or a sign of so many bytes with what stands for it
-abbrev pub sign_by : ℕ → ℕ → Option (List ℕ) → ℕ × List ℕ
+abbrev pub sign_by : ℕ → ℕ → Option Text → ℕ × Text
 sign_by first count None = (1, first ∷ [])
 sign_by first count (Some letters) = (count, letters)
 
 -- how many bytes the sign at the front has, and what stands for it; a carriage return before a line feed is nothing
-abbrev pub sign_of : ℕ → ℕ → ℕ → ℕ → ℕ × List ℕ
+abbrev pub sign_of : ℕ → ℕ → ℕ → ℕ → ℕ × Text
 sign_of first second third fourth =
     if first == 0x0D && second == line_feed then (1, [])
     else let number = number_of first second third fourth in sign_by first number.1 (stands_for number.0)
@@ -79,7 +79,7 @@ sign_of first second third fourth =
 -- ---- a text
 
 -- what stands for the text after so many bytes of it, which belong to a sign before
-abbrev pub text_after : ℕ → List ℕ → List ℕ
+abbrev pub text_after : ℕ → Text → Text
 text_after skipped [] = []
 text_after zero (byte ∷ rest) =
     let sign = sign_of byte (slice_index rest 0) (slice_index rest 1) (slice_index rest 2) in
@@ -87,19 +87,19 @@ text_after zero (byte ∷ rest) =
 text_after (suc skipped) (byte ∷ rest) = text_after skipped rest
 
 -- the text of a file, with a line feed at the end of each line and letters for the signs of suits
-abbrev pub text_read : List ℕ → List ℕ
+abbrev pub text_read : Text → Text
 text_read bytes = text_after 0 (decoded bytes)
 
 -- -------- The cards of lines. From: how sites, books and solvers write them.
 
 -- cards in one place and then 52, which is no card, as their end; nothing where there are none
-abbrev pub ended : List ℕ → List ℕ
+abbrev pub ended : List Card → List ℕ
 ended [] = []
 ended (card ∷ cards) = card ∷ cards ++ 52 ∷ []
 
 -- the cards that each line of a text names, and all of them in their order
-abbrev pub named_lines : List ℕ → List ℕ
+abbrev pub named_lines : Text → List ℕ
 named_lines text = flat_map (λ line. ended (named_cards line.bytes)) (lines_from 0 text)
 
-abbrev pub named_in : List ℕ → List ℕ
+abbrev pub named_in : Text → List Card
 named_in text = flat_map (λ line. named_cards line.bytes) (lines_from 0 text)

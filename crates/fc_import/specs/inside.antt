@@ -2,8 +2,9 @@
 use Rattle.std.specs.{Io.KnownBytes.{Appends, Consumes, IsAtEnd}, Prelude.{◌++◌, ◌+◌, ◌<◌, ◌||◌}}
 use Rattle.std.specs.Prelude.{◌↔◌, ◌≡◌, ◌≢◌, ◌≤◌, [], ⊤, Bool, drop, Err, false, if◌then◌else◌}
 use Rattle.std.specs.Prelude.{length, List, map, Ok, Option, Result, take, true, ℕ}
+use Rattle.{fc_board.specs.declared.rule.Variant.{Variant}, fc_card.specs.Types.{Card, Text}}
 use Rattle.fc_board.specs.{Boards.{Board}, Games.{Game}, Moves.{MoveList, OneCard, Runs}}
-use Rattle.{fc_board.specs.declared.rule.Variant.{Variant}, fc_record.specs.RecordTexts.{ends_line}}
+use Rattle.fc_record.specs.RecordTexts.{ends_line}
 use Rattle.fc_collect.specs.{Limits.{most_bytes}, Promises.{Begins}, Streams.{CallCounts}}
 use Rattle.fc_collect.specs.declared.streams.faults.RunFault.{RunFault, TheVariants.{Memory, Read}}
 use Rattle.fc_collect.specs.declared.streams.faults.RunFault.TheVariants.{ReaderNeverEnds, TooLarge}
@@ -26,7 +27,7 @@ is_alone byte = is_between 0 10 byte || is_between 14 127 byte
 -- -------- Cards of a line, a column or a row.
 
 -- with an end after them, if they are to have one
-abbrev pub part : (is_ended : Bool) → List ℕ → List ℕ
+abbrev pub part : (is_ended : Bool) → List Card → List ℕ
 part is_ended cards = if is_ended then ended cards else cards
 
 -- -------- What taking one piece of a text adds.
@@ -38,53 +39,53 @@ abbrev pub state_of : {R : Type 0} → Made R → State
 state_of made = record { options = made.options; last = made.last; begun = made.begun; goes_on = made.goes_on; other_game = made.other_game; place = place_of made.walk; named = made.named; tally = made.tally }
 
 -- this was made of the text
-abbrev pub IsMade : {R : Type 0} → Variant → ImportOptions → Game → List ℕ → Made R → Type 0
+abbrev pub IsMade : {R : Type 0} → Variant → ImportOptions → Game → Text → Made R → Type 0
 IsMade variant options game text made = Imported variant options game text (state_of made) made.written.items made.notes.items
 
 -- the piece is read as what was written and said more
-abbrev pub Takes : {R : Type 0} → Variant → Game → (piece : List ℕ) → (old new : Made R) → Type 0
+abbrev pub Takes : {R : Type 0} → Variant → Game → (piece : Text) → (old new : Made R) → Type 0
 Takes variant game piece old new =
-    (more : List ℕ) × (says : List ℕ) × Reading variant game (state_of old) piece (state_of new) more says
+    (more : Text) × (says : Text) × Reading variant game (state_of old) piece (state_of new) more says
     × (new.written.items ≡ old.written.items ++ more) × (new.notes.items ≡ old.notes.items ++ says)
 
 -- what is to be said of a board that the lines are read as is said, and nothing written
-pub record Says {R : Type 0} (game : Game) (piece : List ℕ) (board : Board) (old new : Made R) : Type 0 where
-  pub said : List ℕ
+pub record Says {R : Type 0} (game : Game) (piece : Text) (board : Board) (old new : Made R) : Type 0 where
+  pub said : Text
   pub notes : new.notes.items ≡ old.notes.items ++ said
   pub is : SaysUnless (BoardNeedsNoNote old.options.noted game piece board) (place_of old.walk) piece said
   pub state : state_of new ≡ state_of old
   pub written : new.written.items ≡ old.written.items
 
 -- the name of a header is taken, and nothing written or said
-pub record TakesName {R : Type 0} (variant : Variant) (line : List ℕ) (old new : Made R) : Type 0 where
+pub record TakesName {R : Type 0} (variant : Variant) (line : Text) (old new : Made R) : Type 0 where
   pub state : state_of new ≡ after_heading variant (state_of old) line
   pub written : new.written.items ≡ old.written.items
   pub notes : new.notes.items ≡ old.notes.items
 
 -- so many bytes are whole lines at the front of the text
-pub record AreWhole (text : List ℕ) (len : ℕ) : Type 0 where
+pub record AreWhole (text : Text) (len : ℕ) : Type 0 where
   pub some : 0 < len
   pub within : len ≤ length text
   pub whole : len < length text → ends_line (take len text) ≡ true
 
 -- the bytes are taken after all that was taken before
-abbrev pub GoesOn : {R : Type 0} → Variant → Game → (bytes : List ℕ) → (old new : Made R) → Type 0
+abbrev pub GoesOn : {R : Type 0} → Variant → Game → (bytes : Text) → (old new : Made R) → Type 0
 GoesOn variant game bytes old new =
-    (options : ImportOptions) (before : List ℕ) → ends_line before ≡ true → IsMade variant options game before old → IsMade variant options game (before ++ bytes) new
+    (options : ImportOptions) (before : Text) → ends_line before ≡ true → IsMade variant options game before old → IsMade variant options game (before ++ bytes) new
 
 -- so many bytes at the front of the text are taken, which are whole lines
-pub record TakesFirst {R : Type 0} (variant : Variant) (game : Game) (text : List ℕ) (len : ℕ) (old new : Made R) : Type 0 where
+pub record TakesFirst {R : Type 0} (variant : Variant) (game : Game) (text : Text) (len : ℕ) (old new : Made R) : Type 0 where
   pub lines : AreWhole text len
   pub takes : GoesOn variant game (take len text) old new
 
 -- they are written as they are, in silence
-pub record TakesAsItIs {R : Type 0} (variant : Variant) (game : Game) (text : List ℕ) (len : ℕ) (old new : Made R) : Type 0 where
+pub record TakesAsItIs {R : Type 0} (variant : Variant) (game : Game) (text : Text) (len : ℕ) (old new : Made R) : Type 0 where
   pub takes : TakesFirst variant game text len old new
   pub written : new.written.items ≡ old.written.items ++ take len text
   pub notes : new.notes.items ≡ old.notes.items
 
 -- and the text goes on as fcanon prints it
-pub record KeepsFirst {R : Type 0} (variant : Variant) (game : Game) (text : List ℕ) (len : ℕ) (old new : Made R) : Type 0 where
+pub record KeepsFirst {R : Type 0} (variant : Variant) (game : Game) (text : Text) (len : ℕ) (old new : Made R) : Type 0 where
   pub written : new.written.items ≡ old.written.items ++ take len text
   pub notes : new.notes.items ≡ old.notes.items
   pub goes_on : IsPrinted variant game new.last (drop len text)
@@ -95,8 +96,8 @@ form_of (OneCard moves) = InOneCard
 form_of (Runs moves) = InRuns
 
 -- one note more was put
-abbrev pub PutsNote : Place → (piece old new : List ℕ) → Type 0
-PutsNote place piece old new = (said : List ℕ) × IsNote place piece said × (new ≡ old ++ said)
+abbrev pub PutsNote : Place → (piece old new : Text) → Type 0
+PutsNote place piece old new = (said : Text) × IsNote place piece said × (new ≡ old ++ said)
 
 -- -------- What the stages of a run promise: reading, and writing what was made.
 
@@ -107,7 +108,7 @@ more_counts (Err Read) = record { failures = 1; fills = 0; ends = 0; flushes = 0
 more_counts result = record { failures = 0; fills = 1; ends = 0; flushes = 0 }
 
 -- how what one read gave goes with its result: it was put after these bytes, or it was the end, or it was not taken
-abbrev pub MoreFits : (given old new : List ℕ) → (left : Option (List ℕ)) → Result Bool RunFault → Type 0
+abbrev pub MoreFits : (given old new : Text) → (left : Option Text) → Result Bool RunFault → Type 0
 MoreFits given old new left (Ok true) = (new ≡ old ++ given) × (length new ≤ most_bytes)
 MoreFits given old new left (Ok false) = (given ≡ []) × (new ≡ old) × IsAtEnd left
 MoreFits given old new left (Err TooLarge) = most_bytes < length old + length given
@@ -115,34 +116,34 @@ MoreFits given old new left (Err Write) = ⊥
 MoreFits given old new left (Err ReaderNeverEnds) = ⊥
 MoreFits given old new left (Err fault) = length old + length given ≤ most_bytes
 
-pub record ReadsMore (input left : Option (List ℕ)) (old new : List ℕ) (result : Result Bool RunFault) : Type 0 where
-  pub given : List ℕ
+pub record ReadsMore (input left : Option Text) (old new : Text) (result : Result Bool RunFault) : Type 0 where
+  pub given : Text
   pub consumed : Consumes input left given
   pub fits : MoreFits given old new left result
 
 -- how what was read goes with how reading ended: these bytes are all of it, or there was a fault
-abbrev pub ReadingFits : (read bytes : List ℕ) → (left : Option (List ℕ)) → Result ⊤ RunFault → Type 0
+abbrev pub ReadingFits : (read bytes : Text) → (left : Option Text) → Result ⊤ RunFault → Type 0
 ReadingFits read bytes left (Ok _) = (bytes ≡ read) × (length read ≤ most_bytes) × IsAtEnd left
 ReadingFits read bytes left (Err fault) = (fault ≢ Write) × ((fault ≡ TooLarge) ↔ (most_bytes < length read))
 
-pub record ReadsToEnd (input left : Option (List ℕ)) (bytes : List ℕ) (result : Result ⊤ RunFault) : Type 0 where
-  pub read : List ℕ
+pub record ReadsToEnd (input left : Option Text) (bytes : Text) (result : Result ⊤ RunFault) : Type 0 where
+  pub read : Text
   pub consumed : Consumes input left read
   pub fits : ReadingFits read bytes left result
 
 -- how what was written and said of these bytes goes with the result, once they were read: what was made of them or, where a write failed, a beginning of it; else nothing, as there was no memory
-abbrev pub MadeFits : Variant → ImportOptions → (bytes written said : List ℕ) → Result Summary RunFault → Type 0
+abbrev pub MadeFits : Variant → ImportOptions → (bytes written said : Text) → Result Summary RunFault → Type 0
 MadeFits variant options bytes written said (Ok summary) = Makes variant options bytes written said summary
-MadeFits variant options bytes written said (Err Write) = (made : List ℕ) × (summary : Summary) × Makes variant options bytes made said summary × Begins written made
+MadeFits variant options bytes written said (Err Write) = (made : Text) × (summary : Summary) × Makes variant options bytes made said summary × Begins written made
 MadeFits variant options bytes written said (Err Memory) = (written ≡ []) × (said ≡ [])
 MadeFits variant options bytes written said (Err fault) = ⊥
 
 -- what was made of these bytes went out
-pub record WritesMade (variant : Variant) (options : ImportOptions) (bytes : List ℕ) (before after : Option (List ℕ)) (said : List ℕ) (result : Result Summary RunFault) : Type 0 where
-  pub written : List ℕ
+pub record WritesMade (variant : Variant) (options : ImportOptions) (bytes : Text) (before after : Option Text) (said : Text) (result : Result Summary RunFault) : Type 0 where
+  pub written : Text
   pub appended : Appends before after written
   pub fits : MadeFits variant options bytes written said result
 
 -- the bytes, with a question mark for each that does not print
-abbrev pub printing : List ℕ → List ℕ
+abbrev pub printing : Text → Text
 printing words = map (λ byte. if is_between 0x20 0x7E byte then byte else 0x3F) words

@@ -1,16 +1,18 @@
 //! The cards and the moves that words name, and those of a board in the orders in which lines name
 //! them.
 ghost use Rattle.std.specs.{List.{flat_map}, Option.{option_to_list}, Prelude.{◌++◌, ◌↔◌, ◌≡◌}};
-ghost use Rattle.std.specs.Prelude.{◌≢◌, ◌≤◌, [], All, IfOk, IsTrue, length, List, map, OnOk};
+ghost use Rattle.std.specs.Prelude.{◌≢◌, ◌≤◌, ◌⊎◌, [], All, IfOk, IsTrue, length, List, map, OnOk};
 ghost use Rattle.std.specs.Prelude.{slice_get, ℕ};
 ghost use Rattle.{fc_board.specs.Boards.{IsWellFormed}, fc_card.specs.{places}};
 ghost use Rattle.fc_text.specs.Lines.{with_end, words_from};
 ghost use Rattle.fc_import.specs.Import.{AreIn, ArePacked, by_columns, in_cells, in_row, IsPacked};
-ghost use Rattle.fc_import.specs.{Import.{lines_in}, inside.{part}};
+ghost use Rattle.fc_import.specs.{Import.{lines_in, lines_of}, inside.{part}};
 ghost use Rattle.fc_import.specs.Scan.{named_card, named_cards, parts_words};
 ghost use Rattle.fc_import.specs.Words.{ended, named_lines};
+ghost use Rattle.fc_import.specs.declared.layout.Layout.TheVariants.{ColumnsInLine};
 
 use crate::layout::Layout;
+use crate::marks::ends_column;
 use crate::scan::named_card;
 use crate::words::{Words, uncommented};
 use fc_board::{Board, Rule};
@@ -85,21 +87,53 @@ fn push_named(cards: &mut Vec<Card>, word: &[u8]) -> Result<(), AllocError>
     Ok(())
 }
 
-/// Whether lines that name these cards name those of the board in this layout, and those of the
-/// cells in a line before or after them.
+/// Whether the lines, which name these cards, name those of the board in this layout, and those of
+/// the cells in a line before or after them.
 pub(crate) fn are_in<R: Rule>(
+    alloc: Global,
+    layout: Layout,
+    piece: &[u8],
+    named: &[u8],
+    board: &Board<R>,
+) -> Result<bool, AllocError>
+    requires { named.now ≡ named_lines piece.now }
+    ensures { IfOk result (λ are. IsTrue are → AreIn layout piece.now board.now) }
+{
+    if layout != Layout::ColumnsInLine {
+        return have_cards(alloc, layout, named, board);
+    }
+    let columns = columns_of_line(alloc, piece)?;
+    let named = named_lines(alloc, columns.as_slice())?;
+    have_cards(alloc, layout, named.as_slice(), board)
+}
+
+// Whether these are the cards of the columns as lines name them in this layout, before or after those
+// of the cells.
+fn have_cards<R: Rule>(
     alloc: Global,
     layout: Layout,
     named: &[u8],
     board: &Board<R>,
 ) -> Result<bool, AllocError>
-    ensures { IfOk result (λ are. IsTrue are → (piece : List ℕ) → named.now ≡ named_lines piece
-        → AreIn layout piece board.now) }
+    ensures { IfOk result (λ have. IsTrue have
+        → (named.now ≡ ended (in_cells board.now) ++ lines_in layout board.now)
+        ⊎ (named.now ≡ lines_in layout board.now ++ ended (in_cells board.now))) }
 {
     let cells = line_of_cells(alloc, board)?;
     let lines = lines_in(alloc, layout, board)?;
     let (cells, lines) = (cells.as_slice(), lines.as_slice());
     Ok(is_joined(named, cells, lines) || is_joined(named, lines, cells))
+}
+
+// The line, with a line feed for each mark that ends a column.
+fn columns_of_line(alloc: Global, line: &[u8]) -> Result<Vec<u8>, AllocError>
+    ensures { IfOk result (λ lines. lines.items ≡ lines_of ColumnsInLine line.now) }
+{
+    let mut lines = Vec::new(alloc);
+    for byte in line {
+        lines.push(if ends_column(*byte) { b'\n' } else { *byte })?;
+    }
+    Ok(lines)
 }
 
 fn is_joined(whole: &[u8], first: &[u8], second: &[u8]) -> bool
@@ -118,7 +152,7 @@ pub(crate) fn by_columns<R: Rule>(alloc: Global, board: &Board<R>) -> Result<Vec
     ensures well_formed { IsWellFormed R.game board.now }
 {
     let mut cards = line_of_cells(alloc, board)?;
-    push_columns(&mut cards, board, true)?;
+    push_columns(&mut cards, board)?;
     Ok(cards)
 }
 
@@ -139,12 +173,8 @@ fn lines_in<R: Rule>(alloc: Global, layout: Layout, board: &Board<R>) -> Result<
 {
     let mut cards = Vec::with_capacity(alloc, MOST)?;
     match layout {
-        Layout::Columns => push_columns(&mut cards, board, true)?,
+        Layout::Columns | Layout::ColumnsInLine => push_columns(&mut cards, board)?,
         Layout::Rows => push_rows(alloc, &mut cards, board, true)?,
-        Layout::ColumnsInLine => {
-            push_columns(&mut cards, board, false)?;
-            push_end(&mut cards)?;
-        }
         Layout::Deal => {
             push_rows(alloc, &mut cards, board, false)?;
             push_end(&mut cards)?;
@@ -163,20 +193,15 @@ fn push_end(cards: &mut Vec<u8>) -> Result<(), AllocError>
     Ok(())
 }
 
-// Appends the cards of the columns, one column after another, each with an end if they are to have
-// one.
-fn push_columns<R: Rule>(
-    cards: &mut Vec<u8>,
-    board: &Board<R>,
-    are_ended: bool,
-) -> Result<(), AllocError>
+// Appends the cards of each column, with an end after them.
+fn push_columns<R: Rule>(cards: &mut Vec<u8>, board: &Board<R>) -> Result<(), AllocError>
     ensures { OnOk result (cards.new.items
-        ≡ cards.old.items ++ flat_map (part are_ended) board.now.columns) }
+        ≡ cards.old.items ++ flat_map ended board.now.columns) }
 {
     // The board has eight columns.
     let _ = board.heights();
     for index in 0..8 {
-        push_part(cards, board.column(index), are_ended)?;
+        push_part(cards, board.column(index), true)?;
     }
     Ok(())
 }

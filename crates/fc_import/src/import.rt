@@ -1,7 +1,8 @@
 //! Importing a text, piece by piece. What the lines look like is a guess, of which nothing is
 //! promised; what is made of them is tested before it is written.
 ghost use Rattle.std.specs.Prelude.{◌++◌, ◌<◌, ◌≡◌, ◌≢◌, ◌≤◌, [], false, IfOk, IfSome, IsNone};
-ghost use Rattle.std.specs.Prelude.{IsTrue, length, List, None, OnOk, Some, take, true, ℕ};
+ghost use Rattle.std.specs.Prelude.{IsTrue, length, None, OnOk, Some, take, true, ℕ};
+ghost use Rattle.fc_card.specs.Types.{Text};
 ghost use Rattle.fc_board.specs.Boards.{Board as AnyBoard, IsWellFormed};
 ghost use Rattle.fc_board.specs.{Moves.{move_count, MoveList}, Play.{Legal}};
 ghost use Rattle.fc_text.specs.{Notation.{most_moves}, Printed.{text_of}, Spelling.{Spells}};
@@ -147,7 +148,7 @@ impl<R: Rule> Importer<R> {
         ensures taken { IfOk result (λ taken. IfSome taken (λ len.
             TakesAsItIs R.VARIANT R.game text.now len self.old.made self.new.made)) }
         ensures kept { IfOk result (λ taken. IsNone taken → self.new.made ≡ self.old.made) }
-        ensures found { (name : List ℕ) (board : AnyBoard) (rest : List ℕ) → is_name name ≡ true
+        ensures found { (name : Text) (board : AnyBoard) (rest : Text) → is_name name ≡ true
             → name ≢ [] → IsWellFormed R.game board
             → text.now ≡ header_text R.VARIANT name ++ (text_of board ++ rest) → IfOk result
             (λ taken. (taken ≡ Some (length (header_text R.VARIANT name ++ text_of board)))
@@ -169,7 +170,7 @@ impl<R: Rule> Importer<R> {
         ensures taken { IfOk result (λ taken. IfSome taken (λ len.
             TakesAsItIs R.VARIANT R.game text.now len self.old.made self.new.made)) }
         ensures kept { IfOk result (λ taken. IsNone taken → self.new.made ≡ self.old.made) }
-        ensures found { (board : AnyBoard) (list : MoveList) (rest : List ℕ)
+        ensures found { (board : AnyBoard) (list : MoveList) (rest : Text)
             → self.old.made.last ≡ Some board → Legal R.game board list
             → move_count list ≤ most_moves → text.now ≡ list_line list ++ rest → IfOk result
             (λ taken. (taken ≡ Some (length (list_line list)))

@@ -1,11 +1,11 @@
 //! Laws of texts, and of the words that name cards.
 ghost use Rattle.std.specs.{Fmt.{decimal}, List.{Contains, fold}, Prelude.{◌++◌, ◌<◌, ◌∷◌, ◌≡◌}};
-ghost use Rattle.std.specs.Prelude.{◌≢◌, ◌⊎◌, [], codes, false, if◌then◌else◌, List, None, Option};
-ghost use Rattle.std.specs.Prelude.{Some, true, ℕ};
+ghost use Rattle.std.specs.Prelude.{◌≢◌, ◌⊎◌, [], codes, false, if◌then◌else◌, None, Option, Some};
+ghost use Rattle.std.specs.Prelude.{true, ℕ};
+ghost use Rattle.{fc_board.specs.declared.rule.Variant.{Variant}, fc_card.specs.Types.{Text}};
 ghost use Rattle.fc_board.specs.Boards.{Board};
 ghost use Rattle.fc_board.specs.Games.{bakers_game, eight_off, freecell, Game, game_of};
 ghost use Rattle.fc_board.specs.Moves.{MoveList};
-ghost use Rattle.fc_board.specs.declared.rule.Variant.{Variant};
 ghost use Rattle.fc_text.specs.{Bytes.{line_feed}, Lines.{lines_from, Piece}, Spelling.{board_of}};
 ghost use Rattle.fc_record.specs.{Grammar.{begins_with, heading_of}, RecordTexts.{header_mark}};
 ghost use Rattle.fc_collect.specs.declared.streams.faults.Summary.{Summary};
@@ -76,8 +76,8 @@ pub fn words_name_moves()
 /// No list passes in silence, no line that begins with a move, none with two moves among a word
 /// more, and none with four moves or with moves that are not parted.
 pub fn solutions_are_not_quiet()
-    ensures lists { (game : Game) (line : List ℕ) → is_list game line ≡ true → ¬ IsQuiet game line }
-    ensures among { (game : Game) (line : List ℕ) → 3 < moves_in game line → ¬ IsQuiet game line }
+    ensures lists { (game : Game) (line : Text) → is_list game line ≡ true → ¬ IsQuiet game line }
+    ensures among { (game : Game) (line : Text) → 3 < moves_in game line → ¬ IsQuiet game line }
     ensures foreign { ¬ IsQuiet freecell (codes "3a 3b zz") }
     ensures first { ¬ IsQuiet freecell (codes "3a zz") }
     ensures labelled { ¬ IsQuiet freecell (codes "Solution: 3a 3b, won") }
@@ -93,7 +93,7 @@ pub fn solutions_are_not_quiet()
 /// Where nothing is written for a piece, and nothing said of it, no line of it lists moves; but for
 /// the last board once more, after the rule that begins a solution.
 pub fn no_solution_passes_in_silence()
-    ensures { (variant : Variant) (game : Game) (state next : State) (piece : List ℕ) (line : Piece)
+    ensures { (variant : Variant) (game : Game) (state next : State) (piece : Text) (line : Piece)
         → Contains (lines_from 0 piece) line → is_list game line.bytes ≡ true
         → Reading variant game state piece next [] [] → state.begun ≡ true }
 {}
@@ -101,14 +101,14 @@ pub fn no_solution_passes_in_silence()
 /// After lines of a solution that no mark begins comes a board, a list with a mark, or a line that
 /// has no words: so a solution is not cut.
 pub fn solutions_are_whole()
-    ensures { (variant : Variant) (game : Game) (state next : State) (piece written said : List ℕ)
+    ensures { (variant : Variant) (game : Game) (state next : State) (piece written said : Text)
         → state.goes_on ≡ true → ¬ IsApart state piece
         → Reading variant game state piece next written said
         → (next.last ≡ None) ⊎ (written ≢ []) ⊎ (state.begun ≡ true) }
 {}
 
 /// A line of columns names the cards of one, and a line of rows one card of each column; one line has
-/// the columns one after another, or the rows. Lines that are said to be columns are no rows, and of
+/// the columns, each up to a mark, or the rows one after another. Lines that are said to be columns are no rows, and of
 /// those that are said to be rows one has a number or a colon before its cards, if they are columns.
 pub fn lines_are_in_layouts()
     ensures columns { lines_in Columns (record {
@@ -125,7 +125,7 @@ pub fn lines_are_in_layouts()
       heights = [];
       cells = [];
       columns = (51 ∷ 47 ∷ []) ∷ [] ∷ (50 ∷ []) ∷ [];
-    }) ≡ 51 ∷ 47 ∷ 50 ∷ 52 ∷ [] }
+    }) ≡ 51 ∷ 47 ∷ 52 ∷ 50 ∷ 52 ∷ [] }
     ensures deal { lines_in Deal (record {
       heights = [];
       cells = [];
@@ -133,7 +133,17 @@ pub fn lines_are_in_layouts()
     }) ≡ 51 ∷ 50 ∷ 47 ∷ 52 ∷ [] }
     ensures cut { ¬ AreIn Columns (codes "KH" ++ line_feed ∷ codes "KS")
         (record { heights = []; cells = []; columns = (50 ∷ 51 ∷ []) ∷ [] }) }
-    ensures no_rows { (piece : List ℕ) → may_be AsColumns Rows piece ≡ false }
+    ensures cut_in_line { ¬ AreIn ColumnsInLine (codes "KH|KS")
+        (record { heights = []; cells = []; columns = (50 ∷ 51 ∷ []) ∷ [] }) }
+    ensures joined_in_line { ¬ AreIn ColumnsInLine (codes "KH KS")
+        (record { heights = []; cells = []; columns = (50 ∷ []) ∷ (51 ∷ []) ∷ [] }) }
+    ensures parted { AreIn ColumnsInLine (codes "[KH];KS/QH|QS")
+        (record {
+          heights = [];
+          cells = [];
+          columns = (50 ∷ []) ∷ (51 ∷ []) ∷ (46 ∷ []) ∷ (47 ∷ []) ∷ [];
+        }) }
+    ensures no_rows { (piece : Text) → may_be AsColumns Rows piece ≡ false }
     ensures no_columns { may_be AsRows Columns (codes "KH KS") ≡ false }
     ensures cells_alone { may_be AsRows Columns (codes "Freecells: KH") ≡ false }
     ensures numbered { may_be AsRows Columns (codes "1. KH KS") ≡ true }
@@ -212,16 +222,16 @@ pub fn utf_16_is_decoded()
 /// Where nothing is said of a text, each board and list of it is taken, and no line is left out.
 pub fn refusals_are_said()
     ensures refusals { (variant : Variant) (options : ImportOptions) (game : Game)
-        (text : List ℕ) (state : State) (written : List ℕ) → Imported variant options game text state written []
+        (text : Text) (state : State) (written : Text) → Imported variant options game text state written []
         → refusals state.tally ≡ 0 }
     ensures left_out { (variant : Variant) (options : ImportOptions) (game : Game)
-        (text : List ℕ) (state : State) (written : List ℕ) → Imported variant options game text state written []
+        (text : Text) (state : State) (written : Text) → Imported variant options game text state written []
         → state.tally.left_out ≡ 0 }
 {}
 
 /// What is imported in silence where each change is noted is so where only doubts are.
 pub fn changes_are_noted_beside_doubts()
-    ensures { (variant : Variant) (options : ImportOptions) (bytes made : List ℕ) (summary : Summary)
+    ensures { (variant : Variant) (options : ImportOptions) (bytes made : Text) (summary : Summary)
         → Makes variant options bytes made [] summary
         → Makes variant (record options { noted = Doubts }) bytes made [] summary }
 {}
@@ -229,7 +239,7 @@ pub fn changes_are_noted_beside_doubts()
 /// What fcanon prints of boards, and of lists that are legal on them, is imported as it is, in
 /// silence: if there is any, and `show` takes it.
 pub fn what_is_printed_is_imported_as_it_is()
-    ensures { (variant : Variant) (options : ImportOptions) (bytes made said : List ℕ) (summary : Summary)
+    ensures { (variant : Variant) (options : ImportOptions) (bytes made said : Text) (summary : Summary)
         (records : ℕ) → Makes variant options bytes made said summary
         → IsPrinted variant (game_of variant) None (text_read bytes) → text_read bytes ≢ []
         → IsShown variant (text_read bytes) records → (made ≡ text_read bytes) × (said ≡ []) }
@@ -238,21 +248,21 @@ pub fn what_is_printed_is_imported_as_it_is()
 /// What an import writes is what fcanon prints; so importing it once more, whatever is noted, gives
 /// that in silence.
 pub fn what_is_imported_is_printed()
-    ensures printed { (variant : Variant) (options : ImportOptions) (bytes made said : List ℕ)
+    ensures printed { (variant : Variant) (options : ImportOptions) (bytes made said : Text)
         (summary : Summary) → Makes variant options bytes made said summary
         → IsPrinted variant (game_of variant) None made }
     ensures again { (variant : Variant) (options other : ImportOptions)
-        (bytes made said more again says : List ℕ) (summary next : Summary)
+        (bytes made said more again says : Text) (summary next : Summary)
         → Makes variant options bytes made said summary → made ≢ [] → text_read more ≡ made
         → Makes variant other more again says next → (again ≡ made) × (says ≡ []) }
 {}
 
 /// A strict import has refusals where anything is said, and no import has any where nothing is.
 pub fn strict_imports_refuse_what_is_noted()
-    ensures noted { (variant : Variant) (options : ImportOptions) (bytes made said : List ℕ)
+    ensures noted { (variant : Variant) (options : ImportOptions) (bytes made said : Text)
         (summary : Summary) → options.noted ≡ Strict → Makes variant options bytes made said summary
         → said ≢ [] → 0 < summary.refused }
-    ensures silent { (variant : Variant) (options : ImportOptions) (bytes made : List ℕ) (summary : Summary)
+    ensures silent { (variant : Variant) (options : ImportOptions) (bytes made : Text) (summary : Summary)
         → Makes variant options bytes made [] summary → summary.refused ≡ 0 }
 {}
 
@@ -260,24 +270,24 @@ pub fn strict_imports_refuse_what_is_noted()
 /// is anything said there of one with `TH`, if it is as `show` prints it. A list without a mark is
 /// noted there.
 pub fn a_ten_is_a_change()
-    ensures ten { (place : Place) (said : List ℕ)
+    ensures ten { (place : Place) (said : Text)
         → let piece = codes "Foundations: H-9 C-K D-K S-K" ++ line_feed ∷ codes "Freecells: 10H JH QH KH"
         ++ line_feed ∷ [] in
         SaysUnless (BoardNeedsNoNote Doubts freecell piece (board_of freecell piece)) place piece said
         → said ≡ [] }
-    ensures ten_noted { (place : Place) (said : List ℕ)
+    ensures ten_noted { (place : Place) (said : Text)
         → let piece = codes "Foundations: H-9 C-K D-K S-K" ++ line_feed ∷ codes "Freecells: 10H JH QH KH"
         ++ line_feed ∷ [] in
         SaysUnless (BoardNeedsNoNote Changes freecell piece (board_of freecell piece)) place piece said
         → said ≢ [] }
-    ensures list_noted { (place : Place) (list : MoveList) (said : List ℕ)
+    ensures list_noted { (place : Place) (list : MoveList) (said : Text)
         → SaysUnless (ListNeedsNoNote Changes freecell (codes "1a 23" ++ line_feed ∷ []) list) place
         (codes "1a 23" ++ line_feed ∷ []) said → said ≢ [] }
 {}
 
 /// Where nothing is written for a text, and nothing said of it, its lines name no card.
 pub fn no_card_is_lost_in_silence()
-    ensures { (variant : Variant) (options : ImportOptions) (game : Game) (text : List ℕ)
+    ensures { (variant : Variant) (options : ImportOptions) (game : Game) (text : Text)
         (state : State) → Imported variant options game text state [] [] → named_in text ≡ [] }
 {}
 
@@ -296,8 +306,8 @@ pub fn notes_are_for_people()
 /// The boards after a header have its name: the name that a place has is that of the last line of
 /// the text that is a header.
 pub fn names_are_those_of_the_last_header()
-    ensures { (variant : Variant) (options : ImportOptions) (game : Game) (text : List ℕ)
-        (state : State) (written said : List ℕ) → Imported variant options game text state written said
+    ensures { (variant : Variant) (options : ImportOptions) (game : Game) (text : Text)
+        (state : State) (written said : Text) → Imported variant options game text state written said
         → state.place.name ≡ fold (λ name line. if begins_with header_mark line.bytes
         then name_by (heading_of variant line.bytes) else name) [] (lines_from 0 text) }
 {}
@@ -314,7 +324,7 @@ pub fn few_words_of_prose_name_cards()
 /// Where a line of a list that is not taken may be a board's, there is no last board after it: so a
 /// list that follows is not taken for an earlier board.
 pub fn a_board_between_lists_is_not_passed_over()
-    ensures { (game : Game) (piece : List ℕ) (line : Piece) (before after : Option Board)
+    ensures { (game : Game) (piece : Text) (line : Piece) (before after : Option Board)
         → Contains (lines_from 0 piece) line → ¬ IsNoBoard game line.bytes
         → StaysLast game piece before after → after ≡ None }
 {}

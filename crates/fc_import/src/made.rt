@@ -2,8 +2,8 @@
 //! what it is taken for.
 ghost use Rattle.std.specs.{List.{before_first, list_any}, Prelude.{◌&&◌, ◌++◌, ◌<◌, ◌==◌, ◌||◌}};
 ghost use Rattle.std.specs.Prelude.{◌↔◌, ◌≡◌, ◌≢◌, ◌≤◌, ◌⊎◌, [], codes, false, IfErr, IfOk, IfSome};
-ghost use Rattle.std.specs.Prelude.{IsTrue, length, List, None, OnOk, Some, true, ℕ};
-ghost use Rattle.std.specs.Str.{bytes_eq};
+ghost use Rattle.std.specs.{Prelude.{IsTrue, length, None, OnOk, Some, true}, Str.{bytes_eq}};
+ghost use Rattle.fc_card.specs.Types.{Text};
 ghost use Rattle.fc_board.specs.{Boards.{Board as AnyBoard, IsWellFormed}, Games.{eight_off}};
 ghost use Rattle.fc_board.specs.{Moves.{ListFits, move_count, MoveList as SaidList}, Play.{Legal}};
 ghost use Rattle.fc_text.specs.{Lines.{lines_from, words}, Notation.{most_moves, separates_tokens}};
@@ -361,7 +361,7 @@ impl<R: Rule> Made<R> {
     ) -> Result<(), AllocError>
         ensures state { OnOk result
             (state_of self.new ≡ after (state_of self.old) piece.now (Some board) ABoard) }
-        ensures written { OnOk result ((name : List ℕ) × IsNamed (state_of self.old) name
+        ensures written { OnOk result ((name : Text) × IsNamed (state_of self.old) name
             × (self.new.written.items
             ≡ self.old.written.items ++ (header_text R.VARIANT name ++ text_of board))) }
         ensures notes { OnOk result (self.new.notes.items ≡ self.old.notes.items) }
@@ -416,34 +416,15 @@ impl<R: Rule> Made<R> {
         ensures { IfOk result (λ is. IsTrue is
             → IsReadAs self.now.options.lines_are R.game piece.now board.now) }
     {
-        if self.is_laid(alloc, piece, named, board, layout)? {
+        let lines_are = self.options.lines_are;
+        if may_be(lines_are, layout, piece) && are_in(alloc, layout, piece, named, board)? {
             return Ok(true);
         }
-        if !may_be(self.options.lines_are, Layout::Columns, piece) {
+        if !may_be(lines_are, Layout::Columns, piece) {
             return Ok(false);
         }
         let is_spelled = spells_out(alloc, piece, named, board)?;
         Ok(is_spelled)
-    }
-
-    // Whether the lines, which name these cards, are the board in this layout, and may be.
-    fn is_laid(
-        &self,
-        alloc: Global,
-        piece: &[u8],
-        named: &[u8],
-        board: &Board<R>,
-        layout: Layout,
-    ) -> Result<bool, AllocError>
-        requires { named.now ≡ named_lines piece.now }
-        ensures { IfOk result (λ is. IsTrue is
-            → IsReadAs self.now.options.lines_are R.game piece.now board.now) }
-    {
-        if !may_be(self.options.lines_are, layout, piece) {
-            return Ok(false);
-        }
-        let are_in = are_in(alloc, layout, named, board)?;
-        Ok(are_in)
     }
 
     /// The list of these moves, if it is legal on the last board.
@@ -530,7 +511,7 @@ impl<R: Rule> Made<R> {
         words: &[u8],
     ) -> Result<(), AllocError>
         requires { ListFits eight_off list.now }
-        ensures said { OnOk result ((says : List ℕ)
+        ensures said { OnOk result ((says : Text)
             × (self.new.notes.items ≡ self.old.notes.items ++ says)
             × SaysUnless (ListNeedsNoNote self.old.options.noted R.game piece.now list.now)
             (place_of self.old.walk) piece.now says) }

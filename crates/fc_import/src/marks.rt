@@ -1,6 +1,7 @@
 //! The marks between the words of a line, and how a line looks. Nothing is promised of it but where
-//! a card is put.
+//! a card is put, and which marks end a column.
 ghost use Rattle.std.specs.Prelude.{◌≡◌};
+ghost use Rattle.fc_import.specs.Import.{ends_column};
 
 use crate::labels::{LabelKind, label_of};
 use crate::scan::Placed;
@@ -191,7 +192,7 @@ impl Front {
                 self.is_parted_here = true;
             }
         }
-        if byte != b',' && byte != b'\t' {
+        if ends_column(byte) {
             self.group = self.group.saturating_add(1);
         }
     }
@@ -329,4 +330,11 @@ fn is_all(mark: &[u8], bytes: &[u8]) -> bool {
         }
     }
     true
+}
+
+/// Whether a mark ends a column, where one line has all columns.
+pub(crate) fn ends_column(byte: u8) -> bool
+    ensures { result ≡ ends_column byte }
+{
+    matches!(byte, b';' | b'|' | b'/' | b']')
 }

@@ -1,8 +1,9 @@
 //! The moves that words name, one word after another.
 ghost use Rattle.std.specs.Char.{is_ascii_alphabetic, is_ascii_lowercase};
 ghost use Rattle.std.specs.{List.{list_all, list_any, prefix_len}, Option.{is_some}};
-ghost use Rattle.std.specs.Prelude.{◌++◌, ◌==◌, ◌∷◌, ◌≡◌, drop, IfOk, if◌then◌else◌, List, OnOk, ℕ};
+ghost use Rattle.std.specs.Prelude.{◌++◌, ◌==◌, ◌∷◌, ◌≡◌, drop, IfOk, if◌then◌else◌, OnOk};
 ghost use Rattle.std.specs.Str.{str_eq_ignore_ascii_case, str_to_ascii_lowercase};
+ghost use Rattle.fc_card.specs.Types.{Text};
 ghost use Rattle.fc_text.specs.{Bytes.{blank, is_gap}, reader.{run_named}};
 ghost use Rattle.fc_import.specs.Scan.{after_arrow, after_first, after_gap, after_letters};
 ghost use Rattle.fc_import.specs.Scan.{after_next, after_word, before_dots, has_dots, is_arrow};
@@ -67,7 +68,7 @@ impl Heard {
 
     // Passes dots, if they come next.
     fn before_dots(self, next: &[u8]) -> Heard
-        ensures { (moves : List ℕ)
+        ensures { (moves : Text)
             → said_of moves result ≡ before_dots (said_of moves self) next.now }
     {
         if has_dots(next) {

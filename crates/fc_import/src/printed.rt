@@ -1,6 +1,7 @@
 //! What fcanon prints, which is imported as it is: no line of it is a guess.
 ghost use Rattle.std.specs.Prelude.{◌++◌, ◌<◌, ◌∷◌, ◌≡◌, ◌≢◌, ◌≤◌, [], false, IfOk, IfSome, IsNone};
-ghost use Rattle.std.specs.Prelude.{IsSome, length, List, Some, true, ℕ};
+ghost use Rattle.std.specs.Prelude.{IsSome, length, Some, true};
+ghost use Rattle.fc_card.specs.Types.{Text};
 ghost use Rattle.fc_board.specs.Boards.{Board as Layout, IsWellFormed};
 ghost use Rattle.fc_board.specs.{Moves.{move_count, MoveList as SaidList}, Play.{Legal}};
 ghost use Rattle.fc_text.specs.{Bytes.{line_feed}, Notation.{most_moves, print}, Printed.{text_of}};
@@ -31,7 +32,7 @@ impl<R: Rule> Made<R> {
         ensures taken { IfOk result (λ taken. IfSome taken (λ len.
             TakesAsItIs R.VARIANT R.game text.now len self.old self.new)) }
         ensures kept { IfOk result (λ taken. IsNone taken → self.new ≡ self.old) }
-        ensures found { (name : List ℕ) (board : Layout) (rest : List ℕ) → is_name name ≡ true
+        ensures found { (name : Text) (board : Layout) (rest : Text) → is_name name ≡ true
             → name ≢ [] → IsWellFormed R.game board
             → text.now ≡ header_text R.VARIANT name ++ (text_of board ++ rest) → IfOk result
             (λ taken. (taken ≡ Some (length (header_text R.VARIANT name ++ text_of board)))
@@ -66,7 +67,7 @@ impl<R: Rule> Made<R> {
         ensures taken { IfOk result (λ taken. IfSome taken (λ len.
             TakesAsItIs R.VARIANT R.game text.now len self.old self.new)) }
         ensures kept { IfOk result (λ taken. IsNone taken → self.new ≡ self.old) }
-        ensures found { (board : Layout) (list : SaidList) (rest : List ℕ)
+        ensures found { (board : Layout) (list : SaidList) (rest : Text)
             → self.old.last ≡ Some board → Legal R.game board list
             → move_count list ≤ most_moves → text.now ≡ list_line list ++ rest → IfOk result
             (λ taken. (taken ≡ Some (length (list_line list)))
@@ -94,7 +95,7 @@ fn printed_name(alloc: Global, variant: Variant, line: &[u8]) -> Result<Option<V
     ensures printed { IfOk result (λ found. IfSome found (λ name.
         line.now ≡ header_text variant name.items)) }
     ensures some { IfOk result (λ found. IfSome found (λ name. name.items ≢ [])) }
-    ensures found { (name : List ℕ) → is_name name ≡ true → name ≢ []
+    ensures found { (name : Text) → is_name name ≡ true → name ≢ []
         → line.now ≡ header_text variant name → IfOk result (λ found. IsSome found) }
 {
     let name = name_given(alloc, variant, line)?;
@@ -124,7 +125,7 @@ fn printed_words(line: &[u8]) -> (Form, &[u8])
 
 // The bytes after a blank at the front, and before the last one.
 fn before_last(bytes: &[u8]) -> &[u8]
-    ensures { (text : List ℕ) → bytes.now ≡ after_blank text ++ line_feed ∷ []
+    ensures { (text : Text) → bytes.now ≡ after_blank text ++ line_feed ∷ []
         → result.now ≡ text }
 {
     let bytes = match bytes {

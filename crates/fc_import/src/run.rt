@@ -1,6 +1,6 @@
 //! The run that imports an input.
-ghost use Rattle.std.specs.Prelude.{◌++◌, ◌+◌, ◌-◌, ◌<◌, ◌^◌, ◌≡◌, ◌≤◌, [], Err, IfOk, length};
-ghost use Rattle.std.specs.Prelude.{List, ℕ};
+ghost use Rattle.std.specs.Prelude.{◌++◌, ◌+◌, ◌-◌, ◌<◌, ◌^◌, ◌≡◌, ◌≤◌, [], Err, IfOk, length, ℕ};
+ghost use Rattle.fc_card.specs.Types.{Text};
 ghost use Rattle.fc_collect.specs.Limits.{most_bytes, standard};
 ghost use Rattle.fc_collect.specs.{Promises.{ReadsAsCounted, WritesAsCounted}, Runs.{RunsWithin}};
 ghost use Rattle.fc_collect.specs.Streams.{counts_of, GrowsBy, HasRoom, inner_of};
@@ -147,7 +147,7 @@ fn write_made<Wr: Write>(
     requires low { HasRoom output.old }
     requires silent { said.old.items ≡ [] }
     ensures counted { WritesAsCounted output.old output.new result }
-    ensures wrote { (bytes : List ℕ) → text.now ≡ text_read bytes → WritesMade variant options bytes
+    ensures wrote { (bytes : Text) → text.now ≡ text_read bytes → WritesMade variant options bytes
         (Wr.contents (inner_of output.old)) (Wr.contents (inner_of output.new))
         said.new.items result }
 {
@@ -181,7 +181,7 @@ fn product_of(
     options: ImportOptions,
     text: &[u8],
 ) -> Result<Product, AllocError>
-    ensures { (bytes : List ℕ) → text.now ≡ text_read bytes → IfOk result
+    ensures { (bytes : Text) → text.now ≡ text_read bytes → IfOk result
         (λ product. Makes variant options bytes
         product.written.items product.said.items product.summary) }
 {
@@ -198,7 +198,7 @@ fn product_for<R: Rule>(
     options: ImportOptions,
     text: &[u8],
 ) -> Result<Product, AllocError>
-    ensures { (bytes : List ℕ) → text.now ≡ text_read bytes → IfOk result
+    ensures { (bytes : Text) → text.now ≡ text_read bytes → IfOk result
         (λ product. Makes R.VARIANT options bytes
         product.written.items product.said.items product.summary) }
 {
