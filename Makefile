@@ -66,23 +66,23 @@ test: needs-rt needs-python3 needs-cc ## proves all from nothing, tries mutants,
 	@tests/all
 
 bench: library needs-python3 needs-cc ## measures records a second, memory and calls
-	@tests/bench build/fcanon
-	@tests/groups/sizes build/fcanon
-	@tests/calls/run
-	@tests/yardstick/run build/fcanon
-	@tests/library/bench build
-	@tests/library/searches build
-	@tests/store/bench build/fcanon
+	@tests/program/bench build/fcanon
+	@tests/program/groups/sizes build/fcanon
+	@tests/library/calls/run
+	@tests/program/yardstick/run build/fcanon
+	@tests/library/c/bench build
+	@tests/library/c/searches build
+	@tests/program/store/bench build/fcanon
 
 chaos: library needs-python3 needs-cc ## tries input made by chance, for so many minutes: MINUTES=60
-	@tests/library/chaos build
-	@tests/chaos build/fcanon $(MINUTES)
+	@tests/library/c/chaos build
+	@tests/program/chaos build/fcanon $(MINUTES)
 
 edits: needs-rt needs-python3 ## has the prover refuse all mutants, or CRATE=fc_text, or MADE=60 that a machine makes
-	@made="$(MADE)"; tests/edits $${made:+--made $$made} $(CRATE)
+	@made="$(MADE)"; tests/gate/edits $${made:+--made $$made} $(CRATE)
 
 mutants: needs-rt needs-python3 needs-cc ## says which mutants the test cases kill, or of CRATE=.., MADE=60
-	@made="$(MADE)"; tests/mutants $${made:+--made $$made} $(CRATE)
+	@made="$(MADE)"; tests/gate/mutants $${made:+--made $$made} $(CRATE)
 
 # Nothing is proved here, so that root needs no toolchain.
 install: ## copies what is built below PREFIX=/usr/local

@@ -1,6 +1,6 @@
 """The commands that read a collection: what the parts of the gate try of each command goes over this table.
 
-They are those that fcanon_runs.h numbers, and tests/help holds these against the program's help.
+They are those that fcanon_runs.h numbers, and tests/program/help holds these against the program's help.
 """
 
 from typing import NamedTuple

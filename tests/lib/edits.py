@@ -105,9 +105,9 @@ def chosen_of(names, edits):
 
 
 def survivors():
-    """Why the mutants survive that tests/survivors names, by their names: each line that is not indented is the reason of those below."""
+    """Why the mutants survive that tests/gate/survivors names, by their names: each line that is not indented is the reason of those below."""
     found, reason = {}, ""
-    for line in (TESTS / "survivors").read_text().splitlines():
+    for line in (TESTS / "gate" / "survivors").read_text().splitlines():
         if line.startswith(" "):
             found |= dict.fromkeys(line.split(), reason)
         elif not line.startswith("#"):

@@ -1,5 +1,5 @@
 """Rows: what the program is given, and what it must do then. Those of one subject are in one file of
-tests/rows, with a line `---` between two inputs.
+tests/program/rows, with a line `---` between two inputs.
 
 First come some lines that say what a row shows. The last of them begins with `Source: ` and names
 where the expected values come from, which is never the program. After an empty line come the name of
@@ -29,7 +29,7 @@ from typing import NamedTuple, Optional
 
 from lib.paths import ROOT, TESTS
 
-ROWS = TESTS / "rows"
+ROWS = TESTS / "program" / "rows"
 SECTIONS = {"name", "args", "status", "stdin", "stdout", "stderr", "make-stdin", "make-stdout", "make-stderr"}
 
 
