@@ -1,6 +1,6 @@
 # `make` proves and builds the program build/fcanon; `make help` lists the other targets.
 .POSIX:
-.PHONY: all demo library page book paper deals settled unsolvable test bench chaos edits mutants install uninstall \
+.PHONY: all demo library page book paper deals settled unsolvable test bench chaos edits minimal mutants install uninstall \
 	install-program install-library dist clean help needs-rt needs-python3 needs-cc needs-fc-solve \
 	needs-pdflatex
 
@@ -80,6 +80,9 @@ chaos: library needs-python3 needs-cc ## tries input made by chance, for so many
 
 edits: needs-rt needs-python3 ## has the prover refuse all mutants, or CRATE=fc_text, or MADE=60 that a machine makes
 	@made="$(MADE)"; tests/gate/edits $${made:+--made $$made} $(CRATE)
+
+minimal: needs-rt needs-python3 ## lists written answers that the prover finds by itself: CRATE=fc_deal
+	@tools/minimal $(CRATE)
 
 mutants: needs-rt needs-python3 needs-cc ## says which mutants the test cases kill, or of CRATE=.., MADE=60
 	@made="$(MADE)"; tests/gate/mutants $${made:+--made $$made} $(CRATE)

@@ -266,41 +266,21 @@ impl<R: Rule> Importer<R> {
             return Ok(false);
         }
         match (layout, self.made.options.lines_are) {
-            (Layout::Columns, LinesAre::Unsaid | LinesAre::Columns) => self.take_columns(lines),
-            (Layout::Rows, LinesAre::Unsaid | LinesAre::Rows) => self.take_rows(lines),
-            _ => Ok(false),
+            (Layout::Columns, LinesAre::Unsaid | LinesAre::Columns) => {
+                match read_columns::<R>(lines) {
+                    Some(board) => self.take_shown(lines, board)?,
+                    None => return Ok(false),
+                }
+            }
+            (Layout::Rows, LinesAre::Unsaid | LinesAre::Rows) => match read_rows::<R>(lines) {
+                Some(board) => self.take_read(lines, board, layout)?,
+                None => return Ok(false),
+            },
+            _ => return Ok(false),
         }
+        Ok(true)
     }
 
-    // Takes the columns of a deal, if their lines can be no rows. Returns whether they are that.
-    fn take_columns(&mut self, lines: &[u8]) -> Result<bool, AllocError>
-        ensures taken { IfOk result (λ taken. IsTrue taken
-            → Takes R.VARIANT R.game lines.now self.old.made self.new.made) }
-        ensures kept { IfOk result (λ taken. taken ≡ false → self.new.made ≡ self.old.made) }
-    {
-        match read_columns::<R>(lines) {
-            Some(board) => {
-                self.take_shown(lines, board)?;
-                Ok(true)
-            }
-            None => Ok(false),
-        }
-    }
-
-    // Takes the rows of a deal, if their lines can be no columns. Returns whether they are that.
-    fn take_rows(&mut self, lines: &[u8]) -> Result<bool, AllocError>
-        ensures taken { IfOk result (λ taken. IsTrue taken
-            → Takes R.VARIANT R.game lines.now self.old.made self.new.made) }
-        ensures kept { IfOk result (λ taken. taken ≡ false → self.new.made ≡ self.old.made) }
-    {
-        match read_rows::<R>(lines) {
-            Some(board) => {
-                self.take_read(lines, board, Layout::Rows)?;
-                Ok(true)
-            }
-            None => Ok(false),
-        }
-    }
 
     // Takes a header: the name of the boards up to the next one.
     fn take_header(&mut self, line: &[u8]) -> Result<(), AllocError>
