@@ -2,17 +2,16 @@
 
 import { carriedTo, collection } from './collection.mjs';
 import { say } from './elements.mjs';
-import { fcanon, headerLine, isWon, listLine, listOf, MOST } from './library.mjs';
+import { fcanon, headerLine, listLine, listOf, MOST } from './library.mjs';
 import { bytesOf, endingOf, GREATER, joined, LINE_FEED, linesIn, spliced } from './lines.mjs';
 import { anyPassage, areEqual, inAnyOrder, isColumn, PLACE, upTo } from './passages.mjs';
 import { keyOf, shown } from './shown.mjs';
-import { apply, AT_FIRST, store } from './store.mjs';
+import { apply, AT_FIRST, EMPTY, store } from './store.mjs';
 import { exchangedWords, inFigures, moveWords } from './words.mjs';
 
 const STAGGER_MILLISECONDS = 40;
-const MOST_SEEN = 40; // boards that are drawn or counted
+const MOST_SEEN = 9; // boards, all of which are drawn
 const FIRST_NAME = 45; // of a name, so that the words after it have room
-const ALL_ARE_HOME = 'All 52 cards are home, on both boards.';
 
 const seenWith = (one) => [...store.state.seen, { ...one, of: keyOf(shown.base) }].slice(-MOST_SEEN);
 
@@ -88,13 +87,13 @@ export function carryTo(member) {
 }
 
 export const replace = (what, bytes, imported = null) =>
-  apply({ what, change: { bytes, begun: [], number: 1, name: null, ...AT_FIRST, imported } });
+  apply({ what, change: { ...EMPTY, game: store.state.game, bytes, imported } });
 
 // What changes with the text: two cards were exchanged on the board that was there.
 const withoutExchange = () => (store.state.exchange ? AT_FIRST : {});
 
 export function type(bytes) {
-  const change = { bytes, begun: [], imported: null, carried: null, ...withoutExchange() };
+  const change = { bytes, imported: null, carried: null, ...withoutExchange() };
   apply({ what: 'the typing', joins: 'typing', change });
 }
 
@@ -131,42 +130,33 @@ const asRuns = ({ sign, moves }, count) =>
   moves.slice(0, count).map((move) => (sign === '>' && [...move].every(isColumn) ? `${move}v1` : move));
 
 // Makes a move that the library admits: the next one of the list, or of another list with the same moves before it; or
-// else the list that was begun here grows, or a new list begins. No list loses a move.
+// else the list grows, or a new one begins, in a record of its own where two cards are exchanged. No list loses a move.
 export function makeMove(move) {
   const { record, lists, chosen, step, sides, shuffle: passage } = shown;
   if (collection.reading) return say('The collection is being read.', true);
-  if (step >= MOST.moves) return say('The list is full.', true);
   const moves = [...lists.length > 0 ? asRuns(lists[chosen], step) : [], move];
   const onLeft = fcanon.carry(record.game, passage, listOf(move));
   const what = `the move ${moveWords(record.game, sides.left.board, onLeft)}`;
-  if (shown.exchange) return beginExchanged(what, moves);
-  const says = isWon(fcanon.play(record.game, sides.own, listOf(move)).board) ? ALL_ARE_HOME : '';
+  const place = { shuffle: passage, times: shown.times, step: 1 };
+  if (shown.exchange) return append(what, record, record.board, [listLine(listOf(...moves))], place);
   const begins = (list) => list.moves.length > step && areEqual(moves, asRuns(list, step + 1));
   const list = [chosen, ...lists.keys()].find((place) => place in lists && begins(lists[place]));
-  if (list !== undefined) return apply({ what, change: { list, step: step + 1 }, says });
-  const { bytes, place } = withList(record, moves);
-  const begun = [...new Set([...store.state.begun, `${record.number}/${place}`])];
-  apply({ what, change: { bytes, begun, list: place, step: step + 1, carried: null }, says });
+  if (list !== undefined) return apply({ what, change: { list, step: step + 1 } });
+  apply({ what, change: { ...withList(record, moves), step: step + 1, carried: null } });
 }
 
-// A move on a board with exchanged cards makes that board a record of the text.
-function beginExchanged(what, moves) {
-  const { record, times } = shown;
-  const begun = [...store.state.begun, `${collection.starts.length + 1}/0`];
-  append(what, record, record.board, [listLine(listOf(...moves))], { shuffle: store.state.shuffle, times, step: 1, begun });
-}
-
-// The text with these moves in a record, over the list that is shown where it was begun here and all its moves are
-// made, else as a new list; and which list it is.
+// The text with these moves in a record, over the list that is shown where all its moves are made, as moves of several
+// cards, else as a new list; and which list it is.
 function withList(record, moves) {
   const { bytes } = collection;
-  const { chosen, step, lists } = shown;
-  const isBegun = store.state.begun.includes(`${record.number}/${chosen}`) && lists[chosen].moves.length === step;
-  const place = isBegun ? chosen : record.lists.length;
+  const { chosen, step } = shown;
+  const { sign, moves: { length } } = record.lists[chosen] ?? listOf();
+  const isGrown = sign === '>>' && 0 < length && length === step;
+  const list = isGrown ? chosen : record.lists.length;
   const own = bytes.subarray(record.span.start, record.span.end);
   const lines = linesIn(own);
-  const { start, end } = isBegun ? lines.filter((it) => own[it.start] === GREATER)[place] : lines.at(-1);
-  const taken = own.subarray(isBegun ? start : end, end);
-  const put = bytesOf((isBegun ? '' : endingOf(bytes)) + listLine(listOf(...moves)).trimEnd());
-  return { bytes: spliced(bytes, { from: record.span.start + end - taken.length, taken, put }), place };
+  const { start, end } = isGrown ? lines.filter((it) => own[it.start] === GREATER)[list] : lines.at(-1);
+  const taken = own.subarray(isGrown ? start : end, end);
+  const put = bytesOf((isGrown ? '' : endingOf(bytes)) + listLine(listOf(...moves)).trimEnd());
+  return { bytes: spliced(bytes, { from: record.span.start + end - taken.length, taken, put }), list };
 }

@@ -71,7 +71,7 @@ export class BoardView {
 
   // Draws a board to which the passage leads from the record's own one. Cards fly, one column after another where a
   // stagger is given, and turn where their suits are others. A column has the colour of its place on the right board.
-  draw({ game, board, passage, label, wordsOf, placeOf, grips, stagger = 0, most }) {
+  draw({ game, board, passage, inverse, label, wordsOf, placeOf, grips, stagger = 0, most }) {
     const isFirst = this.game === null;
     this.lay(game);
     this.passage = passage;
@@ -85,7 +85,7 @@ export class BoardView {
       pile.ariaLabel = pile.words = wordsOf(key, cards);
       const squeeze = key < '9' ? Math.min(1, most / Math.max(1, cards.length - 1)) : 0;
       cards.forEach((card, row) => {
-        const own = card - suitOf(card) + passage.indexOf(suitOf(card));
+        const own = renamed(card, inverse);
         const made = this.cards[(prefersStill.matches ? card : own) - 1]; // what does not fly keeps its suit
         const left = cards.length - row; // from this card on
         const classes = { home: key[0] === 'h', last: left === 1 && key[0] !== 'h', grip: left <= grips.get(key) };

@@ -6,8 +6,8 @@
 
 import { GAMES } from '../bindings/javascript/calls.js';
 import { at } from './elements.mjs';
-import { fcanon, listLine, MOST } from './library.mjs';
-import { asText, bytesOf, countLines, headersIn, LINE_FEED, restOfLine } from './lines.mjs';
+import { fcanon, listLine } from './library.mjs';
+import { asText, bytesOf, countLines, LINE_FEED, restOfLine } from './lines.mjs';
 import { later, workAt } from './work.mjs';
 
 const noRecords = { starts: new Uint32Array(), groups: new Int32Array(), names: [], faults: [] };
@@ -19,7 +19,6 @@ function membersOf({ groups }) {
 }
 
 export const LARGE = 300_000; // bytes that are not read at once, and not put in the text field
-const FIRST = 5_000; // bytes of a large text of which a record is shown before all is read
 
 const emptied = (bytes, game) =>
   ({ bytes, game, ...noRecords, members: [], made: new Map(), fault: null, reading: null });
@@ -30,15 +29,13 @@ export let collection = emptied(new Uint8Array(), 0);
 export const isLarge = () => collection.bytes.length > LARGE;
 
 // Reads the bytes, where they are others. Gives true once they are read: at once, or a promise of it where that takes
-// long, which gives false where another reading has begun. The first records are there meanwhile.
+// long, which gives false where another reading has begun. There is no record meanwhile.
 /** @returns {true | Promise<boolean>} */
 export function read(bytes, game) {
   if (collection.bytes === bytes && collection.game === game) return collection.reading ?? true;
   const begun = collection = emptied(bytes, game);
   const work = { work: 'read', bytes, game };
   if (!isLarge()) return finish(workAt(work));
-  const first = bytes.subarray(0, headersIn(bytes.subarray(0, LARGE)).find((place) => place >= FIRST) ?? 0);
-  finish(workAt({ ...work, bytes: first }));
   at('progress').hidden = false;
   return begun.reading = later(work).then((said) => begun === collection && finish(said));
 }
@@ -47,10 +44,7 @@ export function read(bytes, game) {
 /** @returns {true} */
 function finish({ value = null, fault = null }) {
   const records = value ?? noRecords;
-  const isTooLarge = records.starts.length > MOST.records || collection.bytes.length > MOST.input;
-  collection.fault = fault ?? (isTooLarge ? 'input too large' : null);
-  const taken = collection.fault ? noRecords : records;
-  Object.assign(collection, taken, { members: membersOf(taken), reading: null });
+  Object.assign(collection, records, { members: membersOf(records), fault, reading: null });
   at('progress').hidden = true;
   return true;
 }

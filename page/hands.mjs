@@ -4,7 +4,7 @@ import { SUITS, wordsOf } from '../bindings/javascript/calls.js';
 import { makeMove, shuffle } from './actions.mjs';
 import { at, hide, listen, say, setIdle, write } from './elements.mjs';
 import { fcanon, listOf, moveOf } from './library.mjs';
-import { areEqual, cardsByPile, isColumn, keyAfter, keyBefore, pileKeys, renamed, suitOf } from './passages.mjs';
+import { areEqual, cardsByPile, isColumn, keyAfter, pileKeys, renamed, suitOf } from './passages.mjs';
 import { shown } from './shown.mjs';
 import { redo, store, undo } from './store.mjs';
 import { gripsOf, views } from './table.mjs';
@@ -33,7 +33,7 @@ const cardsOwn = (key) => cardsByPile(shown.record.game, shown.sides.own).get(ke
 // A pile of one board was pressed, a card of it where a row is given.
 function press(name, key, row = undefined) {
   store.touched();
-  const own = keyBefore(shown.sides[name].passage, key);
+  const own = keyAfter(shown.sides[name].inverse, key);
   say('');
   if (!held) return take(name, own, row);
   if (held.key !== own) return drop(name, own);
@@ -167,15 +167,14 @@ function dropAt({ clientX, clientY }) {
   const target = document.elementsFromPoint(clientX, clientY).find(isTarget);
   const pile = pressable(target);
   const side = sideOf(pile);
-  if (!side || keyBefore(shown.sides[side].passage, pile.dataset.key) === held?.key) release();
+  if (!side || keyAfter(shown.sides[side].inverse, pile.dataset.key) === held?.key) release();
   else pressAt(target);
 }
 
 function light(name, target) {
-  if (!shown) return;
   const it = pressable(target);
   const cards = it?.dataset.own ? [Number(it.dataset.own)] : [];
-  const keys = it ? [keyBefore(shown.sides[name].passage, it.dataset.key)] : [];
+  const keys = it ? [keyAfter(shown.sides[name].inverse, it.dataset.key)] : [];
   for (const view of Object.values(views)) view.mark('lit', cards, keys);
 }
 

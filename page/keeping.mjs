@@ -6,7 +6,7 @@ import { at, fill, write } from './elements.mjs';
 import { fcanon, headerLine, listLine } from './library.mjs';
 import { bytesOf, restOfLine } from './lines.mjs';
 import { areEqual } from './passages.mjs';
-import { AT_FIRST, store } from './store.mjs';
+import { EMPTY, store } from './store.mjs';
 
 const [WORKS, ENTRIES] = ['works', 'entries'];
 const MY_KEY = 'fcanon-work';
@@ -181,7 +181,7 @@ export function linked(hash) {
   if (!text) return null;
   const shuffle = given.has('shuffle') ? shuffleOf(given.get('shuffle')) : null;
   return {
-    ...AT_FIRST, bytes: bytesOf(text), game, number: 1, name: null, begun: [], imported: null,
+    ...EMPTY, bytes: bytesOf(text), game,
     step: Math.max(0, Math.trunc(Number(given.get('step'))) || 0), isSorted: given.has('sorted'),
     shuffle, times: shuffle ? 1 : 0, seen: [{ shuffle, exchange: null }],
   };

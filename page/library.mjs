@@ -10,7 +10,7 @@ import {
 export const TITLES = ['FreeCell', "Baker's Game", 'Eight Off'];
 export const IN_SUIT = [false, true, true];
 
-export const MOST = { input: 16_777_216, records: 65_536, moves: 4_096 };
+export const MOST = { input: 16_777_216, records: 65_536 };
 const [BOARD, PASSAGE, NUMBER, TEXT] = [72, 20, 8, 256];
 const CARRY = { '>': 'carry', '>>': 'carry_run' };
 const PLAY = { '>': 'play', '>>': 'play_run' };
@@ -18,7 +18,7 @@ const PLAY = { '>': 'play', '>>': 'play_run' };
 // A move as it is written, and in three bytes: its two piles and how many cards it says, or 0.
 export const countOf = (move) => parseInt(move[3] ?? '0', 16);
 export const moveOf = (from, to, count = 0) => from + to + (count > 0 ? `v${count.toString(16)}` : '');
-const moveIn = ([from, to, count]) => moveOf(String.fromCharCode(from), String.fromCharCode(to), count);
+const moveIn = (bytes) => moveOf(String.fromCharCode(bytes[0]), String.fromCharCode(bytes[1]), bytes[2]);
 const bytesOfMove = (move) => Uint8Array.of(move.charCodeAt(0), move.charCodeAt(1), countOf(move));
 
 // Makes a call that is never refused here.
@@ -87,14 +87,13 @@ export const fcanon = {
   // Microsoft's deal with this number, if the game has one.
   deal(game, number) {
     const board = new Uint8Array(BOARD);
-    return number > 0 && number < 2 ** 32 && answerOf('deal', game, number, board) === 0 ? board : null;
+    return number === number >>> 0 && answerOf('deal', game, number, board) === 0 ? board : null;
   },
 };
 
 export const listOf = (...moves) => ({ sign: '>>', moves });
 export const headerLine = (record) => `@ ${GAMES[record.game]} ${record.name}\n`;
 export const listLine = ({ sign, moves }) => `${[sign, ...moves].join(' ')}\n`;
-export const isWon = (board) => board.subarray(0, 4).every((height) => height === 13);
 
 // The boards that a list leads through, up to the first move that is refused, and on the canonical board likewise.
 export function stepsOf(record, list) {

@@ -51,11 +51,10 @@ function commonOf(before, after) {
   return { from, same };
 }
 
-// What makes the one text the other: from a place on, some bytes are taken and others put; or null of equal texts.
+// What makes the one text the other: from a place on, some bytes are taken and others put; or null of the same one.
 export function spliceOf(before, after) {
   if (before === after) return null;
   const { from, same } = commonOf(before, after);
-  if (from === before.length && from === after.length) return null;
   return { from, taken: before.slice(from, before.length - same), put: after.slice(from, after.length - same) };
 }
 

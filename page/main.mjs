@@ -24,12 +24,12 @@ const FORGET = { first: 'Forget it', asked: 'Really forget all of it?' };
 let player = null;
 let [example, examples] = [null, null]; // the bytes of what a visitor sees first, and of more
 
-// Draws the state: at once, or once its text is read, and of a large one the first record meanwhile.
+// Draws the state: at once, or once its text is read.
 store.draw = (action) => {
   const reading = read(store.state.bytes, store.state.game);
   if (reading === true) return drawAll(action);
   write('said', `Reading ${inFigures(collection.bytes.length)} bytes ..`);
-  if (collection.members.length > 0) drawBoards({});
+  drawBoards({});
   drawText();
   store.read = reading.then((isDone) => { if (isDone) drawAll(action); });
 };
@@ -71,10 +71,9 @@ function setPlayer(next) {
 }
 
 function drawPlay() {
-  const { lists, chosen, step, steps } = shown;
+  const { lists, step, steps } = shown;
   if (player !== null && (lists.length === 0 || step >= steps.boards.length - 1)) setPlayer(null);
-  if (player !== null) return nameButton('run', 'Pause');
-  nameButton('run', 'Play', lists[chosen]?.verdict.startsWith('wins') ? ' the solution' : ' the list');
+  nameButton('run', player === null ? 'Play' : 'Pause', ' the list');
 }
 
 function play() {

@@ -40,16 +40,11 @@ export function anyPassage(game) {
 const homeKeys = [...HOMES].map((suit) => `h${suit}`);
 export const pileKeys = (game) => [...CELLS.slice(0, CELL_COUNTS[game]), ...homeKeys, ...'12345678'];
 
-// Where a passage puts a pile, and which pile it puts there.
+// Where a passage puts a pile.
 export function keyAfter(passage, key) {
   if (key[0] === 'h') return `h${SUITS[passage[SUITS.indexOf(key[1])]]}`;
   if (key < '9') return String(passage.subarray(4, 12).indexOf(Number(key) - 1) + 1);
   return CELLS[passage.subarray(12).indexOf(CELLS.indexOf(key))];
-}
-
-export function keyBefore(passage, key) {
-  if (key[0] === 'h') return `h${SUITS[passage.indexOf(SUITS.indexOf(key[1]))]}`;
-  return key < '9' ? String(passage[3 + Number(key)] + 1) : CELLS[passage[12 + CELLS.indexOf(key)]];
 }
 
 export function cardsByPile(game, board) {
@@ -58,6 +53,12 @@ export function cardsByPile(game, board) {
     .map((suit) => upTo(board[suit]).map((rank) => 4 * rank + suit + 1));
   const piles = [...cells, ...homes, ...columnsOf(board).map((column) => [...column])];
   return new Map(pileKeys(game).map((key, place) => [key, piles[place]]));
+}
+
+// The cards that lie on other piles than before.
+export function movedCards(game, before, after) {
+  const piles = cardsByPile(game, before);
+  return [...cardsByPile(game, after)].flatMap(([key, cards]) => cards.filter((card) => !piles.get(key).includes(card)));
 }
 
 export const cardText = (card) => RANKS[rankOf(card)] + SUITS[suitOf(card)];

@@ -37,12 +37,9 @@ export function drawText() {
   field.readOnly = isLarge();
   at('text-said').hidden = !isLarge();
   write('text-said', `The collection has ${inFigures(bytes.length)} bytes; here is the shown record.`);
-  const before = field.value;
-  if (before === text) return;
-  field.value = text;
-  if (field !== document.activeElement) return;
-  const { from, put } = spliceOf(before, text);
-  field.setSelectionRange(from + put.length, from + put.length);
+  if (field.value === text) return;
+  const { from, taken, put } = spliceOf(field.value, text);
+  field.setRangeText(put, from, from + taken.length, 'end');
 }
 
 function come(what, bytes) {
@@ -72,11 +69,9 @@ export function knowDeals(bytes) {
 export function deal(event) {
   event.preventDefault();
   const game = Number(at('game').value);
-  const word = at('deal').value.replace(/[#,\s]/g, '');
-  const number = /^\d{1,10}$/.test(word) ? Number(word) : 0;
-  const [board, isDealt] = [fcanon.deal(game, number), fcanon.deal(game, 1)];
-  const why = isDealt ? 'Deals have the numbers 1 to 2,147,483,647.' : `${TITLES[game]} has no numbered deals.`;
-  if (!board) return write('deal-said', why, true);
+  const number = Number(at('deal').value.replace(/[#,\s]/g, ''));
+  const board = fcanon.deal(game, number);
+  if (!board) return write('deal-said', `${TITLES[game]} has no deal with this number.`, true);
   const known = game === 0 ? knownDeals.get(number) ?? '' : '';
   const [, classes] = /^unsolvable (\d+)/.exec(known) ?? [];
   write('deal-said', classes ? unsolvableWords(number, Number(classes)) : '');

@@ -6,7 +6,6 @@ import { collection, isLarge } from './collection.mjs';
 import { at, copy, download, fill, say, write } from './elements.mjs';
 import { asText, AT_SIGN } from './lines.mjs';
 import { amend, store } from './store.mjs';
-import { counted } from './words.mjs';
 import { later, workAt } from './work.mjs';
 
 const MOST_PRINTED = 100_000;
@@ -42,13 +41,9 @@ export async function copyPrinted() {
   copy('copied', asText.decode(printed.text));
 }
 
-// Saves all that is printed: what is no table is read again as a collection.
 export async function savePrinted() {
-  const asked = printed;
-  await asked.ready;
-  if (printed !== asked) return;
-  const isTable = /^(check|table|same|symmetries|count|closed)/.test(asked.command);
-  download([asked.text], `${asked.command.replace(' --', '-')}.${isTable ? 'txt' : 'collection'}`);
+  await printed.ready;
+  download([printed.text], `${printed.command.replace(' --', '-')}.txt`);
   write('copied', 'Saved.');
 }
 
@@ -64,7 +59,7 @@ async function importBytes(bytes, what, { isAsked = true, lines = undefined } = 
   const isBetter = value.records - value.refused > accepted;
   const isHeard = value.said.length > 0 && (accepted === 0 || starts.length === 1);
   if (store.state !== before || !(isAsked || isBetter || isHeard)) return;
-  const imported = { bytes, said: asText.decode(value.said), records: value.records, isMade: value.text.length > 0 };
+  const imported = { bytes, said: asText.decode(value.said), isMade: value.text.length > 0 };
   if (imported.isMade) replace(what, value.text, imported);
   else amend({ imported });
 }
@@ -92,7 +87,6 @@ export function drawImported() {
   at('imported').hidden = !imported;
   at('ask').hidden = !notes.some((note) => QUESTION.test(note));
   fill('notes', 'li', notes.length > MOST_NOTES ? [...notes.slice(0, MOST_NOTES), '..', notes.at(-1)] : notes);
-  const count = counted(imported?.records ?? 0, 'record');
-  const made = imported?.isMade ? `Imported: ${count}. Undo brings back what came.` : 'Import makes nothing of this.';
+  const made = imported?.isMade ? 'Imported: undo brings back what came.' : 'Import makes nothing of this.';
   write('imported-said', notes.length > 0 ? `${made} It says:` : made);
 }

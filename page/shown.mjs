@@ -67,15 +67,16 @@ export function derive(state) {
   const step = Math.max(0, Math.min(state.step, steps.boards.length - 1));
   const shuffle = state.shuffle ?? stayingPassage(game);
   const own = steps.boards[step];
-  const left = { board: fcanon.image(game, own, shuffle), passage: shuffle };
+  const sideOf = (board, passage) => ({ board, passage, inverse: fcanon.inverse(game, passage) });
+  const left = sideOf(fcanon.image(game, own, shuffle), shuffle);
   const sorted = fcanon.canon(game, own);
-  const [board, passage] = isSorted ? [sorted.canonical, sorted.passage] : [steps.images[step], record.passage];
-  const isCanonical = areEqual(fcanon.canon(game, left.board).canonical, board);
-  const isSame = fcanon.areSame(game, left.board, board);
+  const right = isSorted ? sideOf(sorted.canonical, sorted.passage) : sideOf(steps.images[step], record.passage);
+  const isCanonical = areEqual(fcanon.canon(game, left.board).canonical, right.board);
+  const isSame = fcanon.areSame(game, left.board, right.board);
   const rows = Math.max(...own.subarray(PLACE.lengths, PLACE.cards)) - 1;
   const before = shown?.base.name === base.name ? shown.most : MOST_ROWS.least;
   const most = Math.min(MOST_ROWS.most, Math.max(before, rows));
-  const sides = { own, left, right: { board, passage } };
+  const sides = { own, left, right };
   const is = { isSorted, isCanonical, isSame };
   shown = { base, record, lists, chosen, steps, step, times, exchange, shuffle, sides, most, ...is };
 }

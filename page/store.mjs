@@ -3,8 +3,8 @@
 // A state is the bytes of the text and the game of a record without a header; the record that is shown, by its number
 // and its name (null for any), the list and how many of its moves are made; the passage of the shuffle, or null, and
 // how many times it was shuffled; two exchanged cards, or null; whether the right board is made canonical anew; a list
-// carried here from another record, or null; which lists were begun by hand; the boards that were seen, each a shuffle
-// and an exchange; and the bytes that were imported, with what is said of them, or null. Nothing in a state changes.
+// carried here from another record, or null; the boards that were seen, each a shuffle and an exchange; and the bytes
+// that were imported, with what is said of them, or null. Nothing in a state changes.
 
 import { spliced, spliceOf, turned } from './lines.mjs';
 
@@ -13,7 +13,7 @@ export const AT_FIRST = {
   seen: [{ shuffle: null, exchange: null }],
 };
 export const EMPTY = {
-  bytes: new Uint8Array(), game: 0, number: 1, name: null, begun: [], imported: null, ...AT_FIRST,
+  bytes: new Uint8Array(), game: 0, number: 1, name: null, imported: null, ...AT_FIRST,
 };
 
 // How it is drawn, and who is called, is put here by others. The history is a list of entries, of which the first ones,

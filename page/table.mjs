@@ -3,8 +3,8 @@
 import { CELLS, SUITS } from '../bindings/javascript/calls.js';
 import { BoardView } from './boards.mjs';
 import { at, drawing, element, fill, hide, nameButton, setIdle, write } from './elements.mjs';
-import { countOf, fcanon, isWon, TITLES } from './library.mjs';
-import { cardsByPile, isColumn, keyAfter, keyBefore, pileKeys, PLACE } from './passages.mjs';
+import { countOf, fcanon, TITLES } from './library.mjs';
+import { isColumn, keyAfter, movedCards, pileKeys, PLACE } from './passages.mjs';
 import { shown } from './shown.mjs';
 import { moveWords, pileTitle, pileWords, SUIT_NAMES, verdictWords } from './words.mjs';
 
@@ -13,11 +13,11 @@ const ONE_PUZZLE = 'These two boards are the same puzzle.';
 export const views = { left: new BoardView(at('left')), right: new BoardView(at('right')) };
 
 export function drawTable(stagger = 0) {
-  const { record, isCanonical } = shown;
+  const { record, isCanonical, steps: { boards }, step } = shown;
   write('boards-title', `${record.name}, ${TITLES[record.game]}`);
   drawSide('left', 'right', `Board ${record.name}`, 'becomes', stagger);
   drawSide('right', 'left', `${isCanonical ? 'Canonical board' : 'Image'} of ${record.name}`, 'was', stagger);
-  const moved = movedCards();
+  const moved = movedCards(record.game, boards[Math.max(0, step - 1)], boards[step]);
   for (const view of Object.values(views)) {
     view.mark('moved', moved);
     view.mark('exchanged', shown.exchange?.cards ?? []);
@@ -30,47 +30,39 @@ export function drawTable(stagger = 0) {
 function drawSide(name, other, label, verb, stagger) {
   const { record: { game }, most, sides: { [name]: side, [other]: beside } } = shown;
   const wordsOf = (key, cards) => {
-    const image = pileTitle(keyAfter(beside.passage, keyBefore(side.passage, key)));
+    const image = pileTitle(keyAfter(beside.passage, keyAfter(side.inverse, key)));
     const title = pileTitle(key);
     return `${title[0].toUpperCase()}${title.slice(1)}: ${pileWords(key, cards)}. It ${verb} ${image}.`;
   };
-  const placeOf = (key) => (isColumn(key) ? keyAfter(shown.sides.right.passage, keyBefore(side.passage, key)) : '');
+  const placeOf = (key) => (isColumn(key) ? keyAfter(shown.sides.right.passage, keyAfter(side.inverse, key)) : '');
   views[name].draw({ game, ...side, label, wordsOf, placeOf, grips: gripsOf(game, side.board), stagger, most });
 }
 
 export function gripsOf(game, board) {
-  const all = fcanon.moves(game, board).map((move) => [move[0], countOf(move) || 1]);
-  return new Map(all.sort(([, one], [, other]) => one - other)); // of a pile the last one counts
-}
-
-// The cards that the last move brought to another pile, in their numbers on the record's own board.
-function movedCards() {
-  const { record: { game }, steps: { boards }, step } = shown;
-  const before = cardsByPile(game, boards[Math.max(0, step - 1)]);
-  const after = [...cardsByPile(game, boards[step])];
-  return after.flatMap(([key, cards]) => cards.filter((card) => !before.get(key).includes(card)));
+  const all = fcanon.moves(game, board).sort((one, other) => countOf(one) - countOf(other));
+  return new Map(all.map((move) => [move[0], countOf(move) || 1])); // of a pile the last one counts
 }
 
 // What the passage from the left board to the right one does: what suits become, and where piles come from.
 const pip = (suit) => drawing(suit, `pip ${'DH'.includes(suit) ? 'red' : ''}`);
 const arrows = [...SUITS].map((suit) => element('span', { className: 'arrow', role: 'img' }, pip(suit), '→', pip(suit)));
 const chips = [...`12345678${CELLS}`].map(() => element('span', { className: 'chip' }));
-const [columnOrder, cellOrder] = [['columns', chips.slice(0, 8)], ['cells', chips.slice(8)]].map(([name, all]) =>
-  element('span', { className: 'order' }, name, ...all.flatMap((chip) => [' ', chip])));
+const orderOf = (name, all) => element('span', { className: 'order' }, name, ...all.flatMap((chip) => [' ', chip]));
+const [columnOrder, cellOrder] = [orderOf('columns', chips.slice(0, 8)), orderOf('cells', chips.slice(8))];
 chips.slice(0, 8).forEach((chip, place) => { chip.dataset.place = place + 1; });
 at('passage').append(...arrows, columnOrder, cellOrder);
 
 function drawPassage() {
   const { left, right } = shown.sides;
   arrows.forEach((arrow, place) => {
-    const [, after] = keyAfter(right.passage, keyBefore(left.passage, `h${SUITS[place]}`));
+    const [, after] = keyAfter(right.passage, keyAfter(left.inverse, `h${SUITS[place]}`));
     const words = `${SUIT_NAMES[SUITS[place]]} become ${SUIT_NAMES[after]}`;
     if (arrow.title !== words) arrow.lastChild.replaceWith(pip(after));
     Object.assign(arrow, { title: words, ariaLabel: words });
   });
   const isThere = (key) => pileKeys(shown.record.game).includes(key);
   [...`12345678${CELLS}`].forEach((key, place) => {
-    chips[place].textContent = isThere(key) ? keyAfter(left.passage, keyBefore(right.passage, key)) : '';
+    chips[place].textContent = isThere(key) ? keyAfter(left.passage, keyAfter(right.inverse, key)) : '';
   });
   cellOrder.hidden = left.board.subarray(PLACE.cells, PLACE.lengths).every((card) => card === 0);
 }
@@ -137,7 +129,8 @@ function nextWords() {
     const most = isMany ? `, which is ${fcanon.capacity(record.game, steps.boards[step], key)}` : '';
     return `Move ${step + 1} is refused on both boards: ${moveNow(step)}: ${steps.refusal}${most}.`;
   }
-  return isWon(steps.boards[step]) ? 'All cards are home on both boards.' : `The list ends after ${step} moves.`;
+  const isWon = lists[chosen].verdict.startsWith('wins');
+  return isWon ? 'All cards are home on both boards.' : `The list ends after ${step} moves.`;
 }
 
 function drawExpansion() {

@@ -13,7 +13,6 @@ import { amend, apply, AT_FIRST, store } from './store.mjs';
 import { views } from './table.mjs';
 import { counted, exchangedWords } from './words.mjs';
 
-const MOST_DRAWN = 8; // boards of a frame
 const MILLISECONDS = { begin: 1_500, step: 1_900, flight: 5_200 };
 const SHUFFLES = ['20311764035212300000', '01230723651423010000', '02134756312003210000']; // as links have them
 
@@ -42,12 +41,12 @@ function boardsSeen() {
   const found = new Map();
   const key = keyOf(shown.base);
   for (const one of store.state.seen.filter(({ of = key }) => of === key)) {
-    const { game, board: start, canonical } = exchangedOf(shown.base, one.exchange);
+    const { game, board: start, canonical, passage: sorting } = exchangedOf(shown.base, one.exchange);
     const passage = one.shuffle && fcanon.isPassage(game, one.shuffle) ? one.shuffle : stayingPassage(game);
     const board = fcanon.image(game, start, passage);
     const [face, group] = [board, canonical].map(textOf);
     const cards = one.exchange?.cards ?? [];
-    if (!found.has(face)) found.set(face, { one, game, board, start, canonical, cards, passage, face, group });
+    if (!found.has(face)) found.set(face, { one, game, board, canonical, sorting, cards, passage, face, group });
   }
   return [...found.values()];
 }
@@ -55,8 +54,7 @@ function boardsSeen() {
 function frameWords(boards, isFirst) {
   const swapped = boards.find(({ cards }) => cards.length > 0);
   if (!isFirst && swapped) return `${exchangedWords(swapped.cards, swapped.passage)} swapped: another puzzle`;
-  const some = boards.length > MOST_DRAWN ? `, of which the last ${MOST_DRAWN} are here` : '';
-  return `${counted(boards.length, 'board')}${some}, one canonical board`;
+  return `${counted(boards.length, 'board')}, one canonical board`;
 }
 
 function boardButton(board) {
@@ -66,8 +64,7 @@ function boardButton(board) {
 
 function canonicalPicture(board) {
   const arrow = element('span', { className: 'to', role: 'img', ariaLabel: 'become' }, '→');
-  const { passage } = fcanon.canon(board.game, board.start);
-  return element('span', { className: 'canonical' }, arrow, picture('right', board, board.canonical, passage));
+  return element('span', { className: 'canonical' }, arrow, picture('right', board, board.canonical, board.sorting));
 }
 
 // Draws a frame for each canonical board. What is there already stays, and keeps the focus.
@@ -87,7 +84,7 @@ export function drawGathered() {
       element('p', { className: 'soft' })));
     const [row, words] = frame.children;
     const right = kept(`to ${boards[0].cards} ${group}`, () => canonicalPicture(boards[0]));
-    put(row, [...boards.slice(-MOST_DRAWN).map(button), right]);
+    put(row, [...boards.map(button), right]);
     words.textContent = frameWords(boards, place === 0);
     frame.className = areEqual(boards[0].canonical, shown.record.canonical) ? 'now' : '';
     return frame;
@@ -132,7 +129,6 @@ export function demonstrate(isVisit = true) {
 }
 
 export function replay() {
-  if (!shown) return;
   apply({ what: 'the demonstration', change: AT_FIRST });
   demonstrate(false);
 }

@@ -1,7 +1,7 @@
 // Words of players: cards, piles and moves, as they are seen and as they are read out.
 
 import { countOf, fcanon, IN_SUIT, TITLES } from './library.mjs';
-import { cardsByPile, cardText, isColumn, renamed, suitOf } from './passages.mjs';
+import { cardsByPile, cardText, isColumn, movedCards, renamed, suitOf } from './passages.mjs';
 
 const BUILDING = IN_SUIT.map((it) => (it ? 'by one in the same suit' : 'by one in the other colour'));
 const GLYPHS = { C: '♣', D: '♦', H: '♥', S: '♠' };
@@ -30,11 +30,8 @@ export function pileWords(key, cards) {
 // The cards that a move brings to another pile; where it is refused, as many as it says.
 function cardsOfMove(game, board, list) {
   const [move] = list.moves;
-  const [from, to] = move;
-  const cards = cardsByPile(game, board).get(from) ?? [];
-  const played = fcanon.play(game, board, list);
-  if (played.answer !== 0 || to === from) return cards.slice(-Math.max(1, countOf(move)));
-  return cards.slice(cardsByPile(game, played.board).get(from).length);
+  const moved = movedCards(game, board, fcanon.play(game, board, list).board);
+  return moved.length > 0 ? moved : cardsByPile(game, board).get(move[0])?.slice(-Math.max(1, countOf(move))) ?? [];
 }
 
 // What becomes of a list, as `check` says it, in words of players.
@@ -63,8 +60,6 @@ export function refusalWords({ game, board, passage, cards, key, reason }) {
   const next = height < 13 ? face(4 * height + suitOf(first) + 1) : 'no card';
   const most = reason === 'over capacity' ? fcanon.capacity(game, board, key) : 1;
   const words = {
-    'same pile': 'That is the pile it lies on.',
-    'empty source': 'There is no card to move.',
     'target taken': `That cell holds the ${onto} already.`,
     'kings only': `Only a king may begin an empty column in ${TITLES[game]}, and ${face(first)} is none.`,
     'not building': `${face(first)} does not go on ${onto}: in ${TITLES[game]} columns go down ${BUILDING[game]}.`,

@@ -142,6 +142,7 @@ export async function keptHere({ example, twelve }) {
   await load();
   paste(`# mine\r\n${example}`);
   choose('looks-new');
+  const beginning = described();
   const states = ['shuffle', 'swap', 'undo'].map((id) => {
     at(id).click();
     return described();
@@ -150,6 +151,9 @@ export async function keptHere({ example, twelve }) {
   await later(100);
   await reload();
   const found = differing('after a reload', described(), states[2]);
+  at('undo').click();
+  found.push(...differing('undone after it', described(), beginning));
+  at('redo').click();
   at('redo').click();
   found.push(...differing('redone', described(), states[1]));
   await later(100);

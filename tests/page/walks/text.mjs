@@ -1,6 +1,6 @@
 // The text, its records and their groups, and links.
 
-import { all, at, choose, differ, frame, later, load, paste, printedBy, set, until } from './frame.mjs';
+import { all, at, choose, differ, frame, later, load, paste, press, printedBy, set, until } from './frame.mjs';
 import { asDrawn, drawn } from './drawn.mjs';
 
 const MOST_PRINTED = 100_000; // so much of what is printed is shown
@@ -171,6 +171,21 @@ function watchWorkers(canBeMade) {
   return done;
 }
 
+// A deal that is added to a large text is shown once all is read, and after undo the record that was shown before.
+async function placeInLarge() {
+  const isRead = () => at('progress').hidden;
+  const shown = () => `${at('boards-title').textContent} ${all('#groups [aria-pressed=true]')[0]?.value}`;
+  all('#groups button').at(-1).click();
+  const before = shown();
+  at('deal').value = 9_999;
+  at('deal-form').requestSubmit();
+  await until(isRead);
+  const found = differ('the deal', shown().split(',')[0], 'deal-9999');
+  press('z', { ctrlKey: true });
+  await until(isRead);
+  return [...found, ...differ('the record again', shown(), before)];
+}
+
 // A large file is read and printed in one worker, or on the page's own thread where none can be made, and is not put in
 // the field; a text past the limits is not read.
 export async function large(given) {
@@ -180,6 +195,7 @@ export async function large(given) {
   await load();
   const done = watchWorkers(true);
   found.push(...await openLarge(given), ...differ('by a worker', done.join(), 'made,read,print'));
+  found.push(...await placeInLarge());
   paste('#'.repeat(65_537));
   const isShown = !at('shown').hidden || at('groups').querySelector('button') !== null;
   return [...found, ...differ('past the limit', `${at('said').textContent} ${isShown}`, 'input too large false')];
