@@ -281,7 +281,6 @@ impl<R: Rule> Importer<R> {
         Ok(true)
     }
 
-
     // Takes a header: the name of the boards up to the next one.
     fn take_header(&mut self, line: &[u8]) -> Result<(), AllocError>
         ensures { OnOk result (TakesName R.VARIANT line.now self.old.made self.new.made) }

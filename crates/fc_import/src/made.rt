@@ -417,8 +417,11 @@ impl<R: Rule> Made<R> {
             → IsReadAs self.now.options.lines_are R.game piece.now board.now) }
     {
         let lines_are = self.options.lines_are;
-        if may_be(lines_are, layout, piece) && are_in(alloc, layout, piece, named, board)? {
-            return Ok(true);
+        if may_be(lines_are, layout, piece) {
+            let is_laid = are_in(alloc, layout, piece, named, board)?;
+            if is_laid {
+                return Ok(true);
+            }
         }
         if !may_be(lines_are, Layout::Columns, piece) {
             return Ok(false);
