@@ -10,7 +10,7 @@ import { apply, AT_FIRST, EMPTY, store } from './store.mjs';
 import { exchangedWords, inFigures, moveWords } from './words.mjs';
 
 const STAGGER_MILLISECONDS = 40;
-const MOST_SEEN = 9; // boards, all of which are drawn
+const MOST_SEEN = 8; // boards, all of which are drawn
 const FIRST_NAME = 45; // of a name, so that the words after it have room
 
 const seenWith = (one) => [...store.state.seen, { ...one, of: keyOf(shown.base) }].slice(-MOST_SEEN);

@@ -76,7 +76,6 @@ export function derive(state) {
   const rows = Math.max(...own.subarray(PLACE.lengths, PLACE.cards)) - 1;
   const before = shown?.base.name === base.name ? shown.most : MOST_ROWS.least;
   const most = Math.min(MOST_ROWS.most, Math.max(before, rows));
-  const sides = { own, left, right };
   const is = { isSorted, isCanonical, isSame };
-  shown = { base, record, lists, chosen, steps, step, times, exchange, shuffle, sides, most, ...is };
+  shown = { base, record, lists, chosen, steps, step, times, exchange, shuffle, sides: { own, left, right }, most, ...is };
 }

@@ -56,10 +56,11 @@ export function refusalWords({ game, board, passage, cards, key, reason }) {
   const [first] = cards;
   const [top] = cardsByPile(game, board).get(key).slice(-1);
   const onto = top ? face(top) : '';
-  const height = board[suitOf(first)];
-  const next = height < 13 ? face(4 * height + suitOf(first) + 1) : 'no card';
+  const next = face(4 * board[suitOf(first)] + suitOf(first) + 1);
   const most = reason === 'over capacity' ? fcanon.capacity(game, board, key) : 1;
   const words = {
+    'same pile': 'That is the pile it lies on.',
+    'empty source': 'There is no card to move.',
     'target taken': `That cell holds the ${onto} already.`,
     'kings only': `Only a king may begin an empty column in ${TITLES[game]}, and ${face(first)} is none.`,
     'not building': `${face(first)} does not go on ${onto}: in ${TITLES[game]} columns go down ${BUILDING[game]}.`,
