@@ -9,10 +9,10 @@ use Rattle.std.specs.{List.{find, fold}, Prelude.{◌++◌, ◌==◌, ◌∷◌,
 use Rattle.std.specs.Prelude.{Err, false, IfSome, if◌then◌else◌, is_ok, List, map, None, Ok, Option}
 use Rattle.std.specs.Prelude.{option_and_then, option_map, pos, Result, Some, true, ℕ}
 use Rattle.std.specs.Str.{bytes_eq, Parse.{digits_value, without_leading_sign}}
-use Rattle.{fc_card.specs.Types.{Text}, fc_text.specs.{Bytes.{line_feed}, Printed.{text_of}}}
 use Rattle.fc_board.specs.Games.{Game, game_of, variant_word, variants}
 use Rattle.fc_board.specs.declared.rule.Variant.TheVariants.{BakersGame, EightOff, FreeCell}
 use Rattle.fc_board.specs.declared.rule.Variant.{Variant}
+use Rattle.fc_text.specs.{Bytes.{line_feed}, Printed.{text_of}}
 use Rattle.{fc_deal.specs.{deal, dealt_board, IsDealNumber}, fc_import.specs.Import.{ImportFits}}
 use Rattle.fc_collect.specs.Limits.{AreCountable, fault_words, largest, most_countable, standard}
 use Rattle.fc_collect.specs.Promises.{ResultFits, Transfer, WritesAsCounted, WritesText}

@@ -7,9 +7,9 @@ ghost use Rattle.clap.specs.declared.error.kind.ErrorKind.TheVariants.{ValueVali
 ghost use Rattle.clap.specs.Words.{kind_of, Text};
 ghost use Rattle.std.specs.{Io.KnownBytes.{Appends}, Prelude.{◌++◌, ◌<◌, ◌∷◌, ◌≡◌, ◌≢◌, [], codes}};
 ghost use Rattle.std.specs.Prelude.{Err, IsSome, List, None, Ok, Option, Result, Some, ℕ};
-ghost use Rattle.{fc_board.specs.Games.{Game}, fc_card.specs.Types.{Text}};
+ghost use Rattle.{fc_board.specs.Games.{Game}, fc_text.specs.Printed.{text_of}};
 ghost use Rattle.fc_board.specs.declared.rule.Variant.TheVariants.{BakersGame, EightOff, FreeCell};
-ghost use Rattle.{fc_deal.specs.{deal, dealt_board, IsDealNumber}, fc_text.specs.Printed.{text_of}};
+ghost use Rattle.fc_deal.specs.{deal, dealt_board, IsDealNumber};
 ghost use Rattle.fc_collect.specs.{Limits.{largest, standard}, Records.{records_from}};
 ghost use Rattle.fc_collect.specs.Runs.{ending_of_kind, output_of_kind};
 ghost use Rattle.fc_collect.specs.Streams.{counts_of, inner_of};
