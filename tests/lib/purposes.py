@@ -23,7 +23,7 @@ PURPOSES = [
     (r"fc_laws/collections/(figures|same|symmetries|table|unique)(/|$)", "further commands"),
     (r"fc_collect/streams/limits$|fc_laws/.*(joined|piece)", "any size"),
     (r"fc_card/lanes$|fc_canon/(codes|key_parts|board_key)$", "keys"),
-    (r"fc_text/(printed|letters|card_images)$|fc_canon/canonical/(leading|pairs|prefix)$|fc_board/columns$", "quick forms"),
+    (r"fc_text/(printed|letters|card_images)$|fc_canon/canonical/(leading|pairs)$|fc_board/columns$", "quick forms"),
     (r"fc_laws/|fc_tool/laws$", "laws"),
     (r"fcanon/tests", "tests"),
     (r"", "specification"),
