@@ -1,7 +1,7 @@
 // driver.mjs MODULE: answers each case of standard input over the module of runs; tests/lib/cases.py says how.
 
 import { readFileSync } from 'node:fs';
-import { Runs } from '../../bindings/javascript/runs.js';
+import { Runs } from '../../../bindings/javascript/runs.js';
 
 const runs = await Runs.from(readFileSync(process.argv[2]));
 const hexOf = (bytes) => Buffer.from(bytes).toString('hex');
