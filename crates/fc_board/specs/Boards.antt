@@ -3,7 +3,7 @@ use Rattle.{arrayvec.specs.ArrayVec.{ArrayVec}, fc_board.specs.Games.{Game}}
 use Rattle.std.specs.{List.{flat_map}, Option.{option_to_list}, Prelude.{◌++◌, ◌+◌, ◌==◌, ◌≡◌, ◌≤◌}}
 use Rattle.std.specs.Prelude.{All, Bool, count_by, if◌then◌else◌, is_none, length, List, map}
 use Rattle.std.specs.Prelude.{nat_le, Option, slice_index, take, ℕ}
-use Rattle.fc_card.specs.{count_of, IsCard, IsLowest, places, rank_of, suit_of}
+use Rattle.fc_card.specs.{count_of, IsCard, IsLowest, places, rank_of, suit_of, Types.{Card, Pile}}
 use Rattle.fc_board.specs.declared.fault.DeckFault.{DeckFault}
 use Rattle.fc_board.specs.declared.fault.DeckFault.TheVariants.{MissingCard, RepeatedCard}
 
@@ -12,15 +12,15 @@ use Rattle.fc_board.specs.declared.fault.DeckFault.TheVariants.{MissingCard, Rep
 -- the heights of the foundations of C D H S, the cells, and the columns, each with its last card last
 pub record Board : Type 0 where
   pub heights : List ℕ
-  pub cells : List (Option ℕ)
-  pub columns : List (List ℕ)
+  pub cells : List (Option Card)
+  pub columns : List Pile
 
 -- what a foundation can hold
 abbrev pub IsHeight : ℕ → Type 0
 IsHeight height = height ≤ 13
 
 -- the board with these parts in a game with so many cells, which are the first of those given
-abbrev pub board_of_parts : ℕ → List ℕ → List (Option ℕ) → List (ArrayVec ℕ) → Board
+abbrev pub board_of_parts : ℕ → List ℕ → List (Option Card) → List (ArrayVec ℕ) → Board
 board_of_parts cell_count heights cells columns = record { heights = heights; cells = take cell_count cells; columns = map (λ column. column.items) columns }
 
 -- how many cells hold nothing
@@ -32,20 +32,20 @@ abbrev pub empty_columns_of : Board → ℕ
 empty_columns_of board = count_by (λ column. length column == 0) board.columns
 
 -- the cards in the cells and in the columns
-abbrev pub cards_in_play : Board → List ℕ
+abbrev pub cards_in_play : Board → List Card
 cards_in_play board = flat_map option_to_list board.cells ++ flat_map (λ column. column) board.columns
 
 -- a foundation of height h holds the cards of its suit with ranks 1 to h
-abbrev pub is_home : List ℕ → ℕ → Bool
+abbrev pub is_home : List ℕ → Card → Bool
 is_home heights card = nat_le (rank_of card) (slice_index heights (suit_of card))
 
 -- in how many places the card is
-abbrev pub count_of_places : Board → ℕ → ℕ
+abbrev pub count_of_places : Board → Card → ℕ
 count_of_places board card = (if is_home board.heights card then 1 else 0) + count_of card (cards_in_play board)
 
 -- each card of the deck is in exactly one place
 abbrev pub HasEachCardOnce : Board → Type 0
-HasEachCardOnce board = (card : ℕ) → IsCard card → count_of_places board card ≡ 1
+HasEachCardOnce board = (card : Card) → IsCard card → count_of_places board card ≡ 1
 
 -- four foundations, the game's cells and eight columns
 pub record HasAllPiles (game : Game) (board : Board) : Type 0 where

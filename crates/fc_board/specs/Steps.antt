@@ -3,7 +3,7 @@ use Rattle.std.specs.{List.{filter}, Prelude.{◌&&◌, ◌*◌, ◌++◌, ◌+�
 use Rattle.std.specs.Prelude.{◌≤◌, ◌⊎◌, [], Bool, codes, drop, false, if◌then◌else◌, is_none}
 use Rattle.std.specs.Prelude.{IsFalse, length, List, min, nat_le, nat_lt, None, not, Option, set}
 use Rattle.std.specs.Prelude.{slice_get, slice_index, slice_index_or, Some, take, true, ℕ}
-use Rattle.fc_card.specs.{places, rank_of, suit_of}
+use Rattle.fc_card.specs.{places, rank_of, suit_of, Types.{Card, Pile, Text}}
 use Rattle.fc_board.specs.{Boards.{Board}, Games.{Builds, Fills, Game}}
 use Rattle.fc_board.specs.Moves.{Fits, is_column_to_column, RunFits}
 use Rattle.fc_board.specs.declared.{
@@ -18,11 +18,11 @@ use Rattle.fc_board.specs.declared.{
 
 -- ---- the piles of a board
 -- the cards of this column; past the last column there are none
-abbrev pub column_at : Board → ℕ → List ℕ
+abbrev pub column_at : Board → ℕ → Pile
 column_at board column = slice_index_or board.columns column []
 
 -- what this cell holds; past the last cell there is nothing
-abbrev pub cell_at : Board → ℕ → Option ℕ
+abbrev pub cell_at : Board → ℕ → Option Card
 cell_at board cell = slice_index_or board.cells cell None
 
 -- the height of the foundation of this suit
@@ -30,15 +30,15 @@ abbrev pub height_of : Board → ℕ → ℕ
 height_of board suit = slice_index board.heights suit
 
 -- the last card of a column, unless it is empty
-abbrev pub last_card : List ℕ → Option ℕ
+abbrev pub last_card : Pile → Option Card
 last_card column = slice_get column (length column - 1)
 
 -- the column when its last card is gone
-abbrev pub without_last : List ℕ → List ℕ
+abbrev pub without_last : Pile → Pile
 without_last column = take (length column - 1) column
 
 -- the card that can be taken from here: the last one of the column, or the one in the cell
-abbrev pub card_at : Board → Source → Option ℕ
+abbrev pub card_at : Board → Source → Option Card
 card_at board (FromColumn column) = last_card (column_at board column)
 card_at board (FromCell cell) = cell_at board cell
 
@@ -49,7 +49,7 @@ taken_from board (FromColumn column) = record board { columns = set board.column
 taken_from board (FromCell cell) = record board { cells = set board.cells cell None }
 
 -- the board when this card is put here: last in the column, in the cell, or on its foundation, which is one higher then
-abbrev pub put_on : Board → ℕ → Place → Board
+abbrev pub put_on : Board → Card → Place → Board
 put_on board card (ToColumn column) = record board { columns = set board.columns column (column_at board column ++ card ∷ []) }
 put_on board card (ToCell cell) = record board { cells = set board.cells cell (Some card) }
 put_on board card Home = record board { heights = set board.heights (suit_of card) (height_of board (suit_of card) + 1) }
@@ -75,12 +75,12 @@ abbrev pub fault_unless : Bool → StepFault → Option StepFault
 fault_unless test fault = if test then None else Some fault
 
 -- why a column with this last card, or without one, does not take the card
-abbrev pub column_refusal : Game → ℕ → Option ℕ → Option StepFault
+abbrev pub column_refusal : Game → Card → Option Card → Option StepFault
 column_refusal game card None = fault_unless (game.fills card) KingsOnly
 column_refusal game card (Some last) = fault_unless (game.builds card last) NotBuilding
 
 -- why the card cannot go here
-abbrev pub place_refusal : Game → Board → ℕ → Place → Option StepFault
+abbrev pub place_refusal : Game → Board → Card → Place → Option StepFault
 place_refusal game board card (ToCell cell) = fault_unless (is_none (cell_at board cell)) TargetTaken
 place_refusal game board card (ToColumn column) = column_refusal game card (last_card (column_at board column))
 place_refusal game board card Home = fault_unless (height_of board (suit_of card) + 1 == rank_of card) NotNext
@@ -126,30 +126,30 @@ run_moved board from to count =
     record board { columns = set (set board.columns from (take rest column)) to (column_at board to ++ drop rest column) }
 
 -- so many last cards of the column
-abbrev pub last_cards : ℕ → List ℕ → List ℕ
+abbrev pub last_cards : ℕ → Pile → List Card
 last_cards count column = drop (length column - count) column
 
 -- -------- A move of several cards: what the board is after it, and why a game refuses it. From: the usual rule of FreeCell programs for moving a run at once, and this project's profile of move tokens.
 
 -- ---- runs at the end of a column
 -- each card goes on the one before it
-abbrev pub is_run : Game → List ℕ → Bool
+abbrev pub is_run : Game → List Card → Bool
 is_run game [] = true
 is_run game (card ∷ []) = true
 is_run game (card ∷ next ∷ cards) = game.builds next card && is_run game (next ∷ cards)
 
 -- how many cards at the end of the column are a run, at most
-abbrev pub longest_run : Game → List ℕ → ℕ
+abbrev pub longest_run : Game → Pile → ℕ
 longest_run game [] = 0
 longest_run game (card ∷ cards) = if is_run game (card ∷ cards) then length (card ∷ cards) else longest_run game cards
 
 -- the first one of so many last cards
-abbrev pub first_of_last : ℕ → List ℕ → ℕ
+abbrev pub first_of_last : ℕ → Pile → ℕ
 first_of_last count column = slice_index column (length column - count)
 
 -- ---- how many cards go
 -- to a column with cards as many as the ranks say; to an empty one as many as the move says, or else as many as can
-abbrev pub run_count : Game → Board → ℕ → ℕ → Option ℕ → ℕ → Option ℕ → ℕ
+abbrev pub run_count : Game → Board → ℕ → ℕ → Option ℕ → Card → Option ℕ → ℕ
 run_count game board from to said card (Some last) = rank_of last - rank_of card
 run_count game board from to (Some count) card None = count
 run_count game board from to None card None = min (longest_run game (column_at board from)) (capacity game board to)
@@ -174,7 +174,7 @@ abbrev pub fault_or : Bool → StepFault → Option StepFault → Option StepFau
 fault_or test fault rest = if test then rest else Some fault
 
 -- to a column with this last card, from one with that
-abbrev pub onto_card : Game → Board → ℕ → ℕ → Option ℕ → ℕ → ℕ → Option StepFault
+abbrev pub onto_card : Game → Board → ℕ → ℕ → Option ℕ → Card → ℕ → Option StepFault
 onto_card game board from to said card last =
     let column = column_at board from in
     let count = rank_of last - rank_of card in
@@ -213,7 +213,7 @@ abbrev pub step_faults : List StepFault
 step_faults = SamePile ∷ EmptySource ∷ TargetTaken ∷ KingsOnly ∷ NotBuilding ∷ NotNext ∷ NoRun ∷ OverCapacity ∷ WrongCount ∷ []
 
 -- the words for why a move is refused. From: this project's profile
-abbrev pub step_reason : StepFault → List ℕ
+abbrev pub step_reason : StepFault → Text
 step_reason SamePile = codes "same pile"
 step_reason EmptySource = codes "empty source"
 step_reason TargetTaken = codes "target taken"
@@ -234,16 +234,16 @@ after_run_move game board (Run from to said) = run_moved board from to (moved_co
 
 -- ---- a move of one card
 -- this card can be taken from the source, and the target is another pile
-abbrev pub Offers : Board → Move → ℕ → Type 0
+abbrev pub Offers : Board → Move → Card → Type 0
 Offers board move card = IsFalse (is_same_pile move.from move.to) × (card_at board move.from ≡ Some card)
 
 -- a column with this last card takes the card by the building rule, and an empty one by the rule for filling
-abbrev pub MayFollow : Game → ℕ → Option ℕ → Type 0
+abbrev pub MayFollow : Game → Card → Option Card → Type 0
 MayFollow game card (Some last) = Builds game card last
 MayFollow game card None = Fills game card
 
 -- the card may go here: to a column that takes it, to an empty cell, or home if it is the next of its suit
-abbrev pub MayGo : Game → Board → ℕ → Place → Type 0
+abbrev pub MayGo : Game → Board → Card → Place → Type 0
 MayGo game board card (ToColumn column) = MayFollow game card (last_card (column_at board column))
 MayGo game board card (ToCell cell) = cell_at board cell ≡ None
 MayGo game board card Home = height_of board (suit_of card) + 1 ≡ rank_of card
@@ -254,7 +254,7 @@ pub record Step (game : Game) (board : Board) (move : Move) (after : Board) : Ty
   -- the game has the columns and cells of the move
   pub fits : Fits game move
   -- the card that is moved
-  pub card : ℕ
+  pub card : Card
   pub offered : Offers board move card
   pub goes : MayGo game board card move.to
   -- all else is as it was
@@ -265,7 +265,7 @@ pub record Step (game : Game) (board : Board) (move : Move) (after : Board) : Ty
 pub record RunGoes (game : Game) (board : Board) (from to : ℕ) (said : Option ℕ) (after : Board) : Type 0 where
   pub apart : from ≢ to
   -- the last card of the source
-  pub card : ℕ
+  pub card : Card
   pub found : last_card (column_at board from) ≡ Some card
   -- how many cards go
   pub count : ℕ
@@ -301,16 +301,16 @@ IsOpenPlace start from to (ToCell cell) = cell_at start cell ≡ None
 IsOpenPlace start from to Home = ⊥
 
 -- the card is one of the cards
-abbrev pub Among : ℕ → List ℕ → Type 0
+abbrev pub Among : Card → List Card → Type 0
 Among card [] = ⊥
 Among card (other ∷ cards) = (card ≡ other) ⊎ Among card cards
 
 -- what can be taken from here is one of the cards
-abbrev pub TakesOneOf : List ℕ → Board → Source → Type 0
-TakesOneOf cards board source = (card : ℕ) × (card_at board source ≡ Some card) × Among card cards
+abbrev pub TakesOneOf : List Card → Board → Source → Type 0
+TakesOneOf cards board source = (card : Card) × (card_at board source ≡ Some card) × Among card cards
 
 -- each move stays within these piles and takes one of the cards
-abbrev pub Confined : Board → ℕ → ℕ → List ℕ → Board → List Move → Type 0
+abbrev pub Confined : Board → ℕ → ℕ → List Card → Board → List Move → Type 0
 Confined start from to cards board [] = Unit {0}
 Confined start from to cards board (move ∷ moves) =
     IsOpenSource start from to move.from × IsOpenPlace start from to move.to × TakesOneOf cards board move.from × Confined start from to cards (after_move board move) moves

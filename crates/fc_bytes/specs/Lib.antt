@@ -5,7 +5,7 @@ use Rattle.std.specs.{Int.{to_le_bytes, w64}, List.{Contains, filter, flat_map}}
 use Rattle.std.specs.{Option.{is_none, unwrap_or}, Prelude.{◌++◌, ◌+◌, ◌-◌, ◌<◌, ◌↔◌, ◌∷◌, ◌≡◌}}
 use Rattle.std.specs.Prelude.{◌≤◌, [], drop, if◌then◌else◌, length, List, map, nat_lt, None, Option}
 use Rattle.std.specs.Prelude.{replicate, slice_get, slice_index, slice_index_or, Some, ℕ}
-use Rattle.{fc_canon.specs.{Chosen, chosen_passage, Equivalent, IsSymmetry}, fc_card.specs.{places}}
+use Rattle.fc_card.specs.{places, Types.{Renaming, Text}}
 use Rattle.fc_board.specs.{Boards.{Board, IsWellFormed}, Games.{AscendByWord, Game}}
 use Rattle.fc_board.specs.{Moves.{Fits, move_between, RunFits}, Passages.{carried, Carries}}
 use Rattle.fc_board.specs.Passages.{inverse_passage, IsPassage, Passage, passage_product}
@@ -24,6 +24,7 @@ use Rattle.fc_text.specs.declared.fault.BoardFaultKind.TheVariants.{BadCard, Bad
 use Rattle.fc_text.specs.declared.fault.BoardFaultKind.TheVariants.{MissingCard, RepeatedCard}
 use Rattle.fc_text.specs.declared.fault.BoardFaultKind.TheVariants.{RepeatedLine, TooManyCells}
 use Rattle.fc_text.specs.declared.fault.BoardFaultKind.TheVariants.{TooManyColumns}
+use Rattle.fc_canon.specs.{Chosen, chosen_passage, Equivalent, IsSymmetry}
 use Rattle.fc_bytes.specs.declared.{board.BoardBytes.{BoardBytes}, moves.MoveBytes.{MoveBytes}}
 use Rattle.fc_bytes.specs.declared.{passage.PassageBytes.{PassageBytes}, runs.RunBytes.{RunBytes}}
 use Rattle.std.specs.Hash.DefaultHasher as sip
@@ -122,28 +123,28 @@ HoldsFirstAlone {Held = Held} Holds HoldsNext bytes others = ((held : Held) × H
 
 -- ---- canonical boards
 -- the canonical board, and the chosen passage to it
-abbrev pub Canonicalises : Game → List (List ℕ) → BoardBytes → BoardBytes → PassageBytes → Type 0
+abbrev pub Canonicalises : Game → List Renaming → BoardBytes → BoardBytes → PassageBytes → Type 0
 Canonicalises game renamings board canonical passage =
     (held : Board) × (way : Passage) × HoldsBoard game board held × Chosen game renamings held way
     × HoldsBoard game canonical (carried way held) × HoldsPassage game passage way
 
 -- the canonical board alone
-abbrev pub HasKey : Game → List (List ℕ) → BoardBytes → BoardBytes → Type 0
+abbrev pub HasKey : Game → List Renaming → BoardBytes → BoardBytes → Type 0
 HasKey game renamings board key =
     (held : Board) × (way : Passage) × HoldsBoard game board held × Chosen game renamings held way × HoldsBoard game key (carried way held)
 
 -- the hash of the canonical board
-abbrev pub HasHash : Game → List (List ℕ) → BoardBytes → List ℕ → Type 0
+abbrev pub HasHash : Game → List Renaming → BoardBytes → List ℕ → Type 0
 HasHash game renamings board hash = (key : BoardBytes) × HasKey game renamings board key × (hash ≡ board_hash key)
 
 -- up to this place each board has become its key; the others are as they were
-abbrev pub HaveKeys : Game → List (List ℕ) → List BoardBytes → List BoardBytes → ℕ → Type 0
+abbrev pub HaveKeys : Game → List Renaming → List BoardBytes → List BoardBytes → ℕ → Type 0
 HaveKeys game renamings before after place =
     (length after ≡ length before) × (drop place after ≡ drop place before)
     × ((k : ℕ) (default : BoardBytes) → k < place → HasKey game renamings (slice_index_or before k default) (slice_index_or after k default))
 
 -- this is the place of the first board that is none; those before it have become their keys
-abbrev pub HasNoBoardAt : Game → List (List ℕ) → List BoardBytes → List BoardBytes → ℕ → Type 0
+abbrev pub HasNoBoardAt : Game → List Renaming → List BoardBytes → List BoardBytes → ℕ → Type 0
 HasNoBoardAt game renamings before after place =
     HaveKeys game renamings before after place × (place < length before)
     × ((default : BoardBytes) → HoldsNone (HoldsBoard game) (slice_index_or before place default))
@@ -151,16 +152,16 @@ HasNoBoardAt game renamings before after place =
 -- the renamings that with some orders lead from the board to itself, in the order of their words, and how many; what comes after them is as it was
 abbrev pub HasSymmetries : Game → BoardBytes → List (List ℕ) → List (List ℕ) → ℕ → Type 0
 HasSymmetries game board before after count =
-    (held : Board) × (symmetries : List (List ℕ)) × HoldsBoard game board held
-    × ((renaming : List ℕ) → Contains symmetries renaming ↔ IsSymmetry game held renaming) × AscendByWord symmetries
+    (held : Board) × (symmetries : List Renaming) × HoldsBoard game board held
+    × ((renaming : Renaming) → Contains symmetries renaming ↔ IsSymmetry game held renaming) × AscendByWord symmetries
     × (count ≡ length symmetries) × (after ≡ symmetries ++ drop (length symmetries) before)
 
 -- the chosen passage to the canonical board of the one, and then back to the other
-abbrev pub passage_between : List (List ℕ) → Board → Board → Passage
+abbrev pub passage_between : List Renaming → Board → Board → Passage
 passage_between renamings held next = passage_product (chosen_passage renamings held) (inverse_passage (chosen_passage renamings next))
 
 -- that passage leads from the one board to the other
-abbrev pub LeadsToOther : Game → List (List ℕ) → BoardBytes → BoardBytes → PassageBytes → Type 0
+abbrev pub LeadsToOther : Game → List Renaming → BoardBytes → BoardBytes → PassageBytes → Type 0
 LeadsToOther game renamings board other passage =
     (held next : Board) × (way : Passage) × HoldsBoard game board held × HoldsBoard game other next
     × (way ≡ passage_between renamings held next) × Carries game way held next × HoldsPassage game passage way
@@ -197,7 +198,7 @@ PlaysMove {Item = Item} game Holds Leads board move after =
     (held next : Board) × (one : Item) × HoldsBoard game board held × Holds game move one × Leads game held one next × HoldsBoard game after next
 
 -- the canonical board of the board after the move, and the chosen passage to it
-abbrev pub LeadsToChild : Game → List (List ℕ) → BoardBytes → MoveBytes → BoardBytes → PassageBytes → Type 0
+abbrev pub LeadsToChild : Game → List Renaming → BoardBytes → MoveBytes → BoardBytes → PassageBytes → Type 0
 LeadsToChild game renamings board move canonical passage =
     (after : BoardBytes) × PlaysMove game HoldsMove Step board move after × Canonicalises game renamings after canonical passage
 
@@ -229,16 +230,16 @@ HasCapacity game board digit cards =
 
 -- ---- texts, and deals
 -- the board that the text spells
-abbrev pub ReadsText : Game → List ℕ → BoardBytes → Type 0
+abbrev pub ReadsText : Game → Text → BoardBytes → Type 0
 ReadsText game text board = (held : Board) × Spells game text held × HoldsBoard game board held
 
 -- the text's first fault, which the answer is the number of, and its place
-abbrev pub HasFault : Game → List ℕ → ℕ → ℕ → Type 0
+abbrev pub HasFault : Game → Text → ℕ → ℕ → Type 0
 HasFault game text answer place =
     (fault : BoardFault) × (first_fault game text ≡ Some fault) × (fault_kind_of answer ≡ Some fault.kind) × (place ≡ fault.place)
 
 -- the printed text of the board, and 0 after it
-abbrev pub WritesText : Game → BoardBytes → List ℕ → Type 0
+abbrev pub WritesText : Game → BoardBytes → Text → Type 0
 WritesText game board text = (held : Board) × HoldsBoard game board held × (text ≡ padded 256 (text_of held))
 
 -- ---- the moves that a board allows, and what comes after each
@@ -267,18 +268,18 @@ abbrev pub IsAllowed : Game → Board → Move → Type 0
 IsAllowed game board move = Fits game move × (refusal game board move ≡ None)
 
 -- the bytes are those of the canonical board after the move
-abbrev pub IsKeyAfter : Game → List (List ℕ) → Board → Move → BoardBytes → Type 0
+abbrev pub IsKeyAfter : Game → List Renaming → Board → Move → BoardBytes → Type 0
 IsKeyAfter game renamings board move key =
     (after : Board) × (way : Passage) × Step game board move after × Chosen game renamings after way × HoldsBoard game key (carried way after)
 
 -- these are the canonical boards after the moves; what comes after them is as it was
-abbrev pub AreKeysAfter : Game → List (List ℕ) → Board → List Move → List BoardBytes → List BoardBytes → Type 0
+abbrev pub AreKeysAfter : Game → List Renaming → Board → List Move → List BoardBytes → List BoardBytes → Type 0
 AreKeysAfter game renamings board moves before after =
     (length after ≡ length before) × (drop (length moves) after ≡ drop (length moves) before)
     × ((k : ℕ) (move : Move) (default : BoardBytes) → k < length moves → IsKeyAfter game renamings board (slice_index_or moves k move) (slice_index_or after k default))
 
 -- all moves of one card that the game allows on the board, and for each the canonical board after it
-abbrev pub HasChildren : Game → List (List ℕ) → BoardBytes → List MoveBytes → List MoveBytes → List BoardBytes → List BoardBytes → ℕ → Type 0
+abbrev pub HasChildren : Game → List Renaming → BoardBytes → List MoveBytes → List MoveBytes → List BoardBytes → List BoardBytes → ℕ → Type 0
 HasChildren game renamings board moves_before moves keys_before keys count =
     (held : Board) × HoldsBoard game board held × AreMoves moves_before moves count (legal_moves game held)
     × AreKeysAfter game renamings held (legal_moves game held) keys_before keys

@@ -3,7 +3,7 @@ use Rattle.std.specs.{List.{sum}, Option.{unwrap_or}, Prelude.{◌%◌, ◌*◌,
 use Rattle.std.specs.Prelude.{◌↔◌, ◌∷◌, ◌≡◌, ◌≤◌, [], All, Bool, drop, false, if◌then◌else◌, length}
 use Rattle.std.specs.Prelude.{List, map, min, nat_le, nat_lt, None, Option, slice_index}
 use Rattle.std.specs.Prelude.{slice_index_or, Some, take, true, ℕ}
-use Rattle.fc_card.specs.{rank_of, renamed_code}
+use Rattle.fc_card.specs.{rank_of, renamed_code, Types.{Card, Pile, Renaming}}
 use Rattle.fc_board.specs.{Boards.{Board}, Games.{Game}, Moves.{move_between}}
 use Rattle.fc_board.specs.Steps.{column_at, column_refusal, last_card}
 use Rattle.fc_board.specs.declared.moves.{Move.{Move}, Place.{Place}}
@@ -18,7 +18,7 @@ abbrev pub card_byte : ℕ → ℕ
 card_byte card = card + 1
 
 -- the card that the byte is, if any
-abbrev pub cell_decoded : ℕ → Option ℕ
+abbrev pub cell_decoded : ℕ → Option Card
 cell_decoded byte = if byte == 0 then None else if nat_lt (byte - 1) 52 then Some (byte - 1) else None
 
 -- and else AC
@@ -26,7 +26,7 @@ abbrev pub card_decoded : ℕ → ℕ
 card_decoded byte = unwrap_or (cell_decoded byte) 0
 
 -- how many of the cards that are left the next column takes
-abbrev pub next_count : ℕ → List ℕ → ℕ
+abbrev pub next_count : ℕ → List Card → ℕ
 next_count count cards = min count (length cards)
 
 -- ---- bytes that are the codes of what is read of them
@@ -50,7 +50,7 @@ pub record IsExact (bytes : BoardBytes) : Type 0 where
 
 -- ---- what is read
 -- the columns that take so many cards each
-abbrev pub columns_decoded : List ℕ → List ℕ → List (List ℕ)
+abbrev pub columns_decoded : List ℕ → List Card → List Pile
 columns_decoded [] cards = []
 columns_decoded (count ∷ counts) cards =
     map card_decoded (take (next_count count cards) cards) ∷ columns_decoded counts (drop (next_count count cards) cards)
@@ -79,11 +79,11 @@ run_decoded source target count = if count == 0 then Some (One (move_between sou
 
 -- ---- sums under all renamings at once
 -- what the card with this byte weighs under each of these renamings
-abbrev pub card_row : List (List ℕ) → ℕ → List ℕ
+abbrev pub card_row : List Renaming → ℕ → List ℕ
 card_row renamings card = map (λ renaming. card_weight (renamed_code renaming card)) renamings
 
 -- what it weighs to lie on this under each of them
-abbrev pub place_row : List (List ℕ) → ℕ → List ℕ
+abbrev pub place_row : List Renaming → ℕ → List ℕ
 place_row renamings on = map (λ renaming. place_weight (renamed_place renaming on)) renamings
 
 -- to the sum of each renaming its number is added; what comes after these sums is as it was

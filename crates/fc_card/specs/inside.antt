@@ -3,17 +3,17 @@ use Rattle.std.proofs.{Common.{◌∙◌, ap, arith}, lemmas.List.FromFn.{get_or
 use Rattle.std.{proofs.lemmas.Nat.Bits.{bit_at-lt, bit_at-suc}, specs.{Int.{bit_at}, Prelude.{◌*◌}}}
 use Rattle.std.specs.Prelude.{◌+◌, ◌-◌, ◌/◌, ◌<◌, ◌^◌, ◌≡◌, ◌≤◌, List, map, min, slice_index, suc}
 use Rattle.std.specs.Prelude.{zero, ℕ}
-use Rattle.fc_card.specs.{IsCard, places}
+use Rattle.fc_card.specs.{IsCard, places, Types.{Card}}
 
 -- how often a card was counted
-abbrev pub count_by_bits : ℕ → ℕ → ℕ → ℕ
+abbrev pub count_by_bits : ℕ → ℕ → Card → ℕ
 count_by_bits once twice card = bit_at once card + bit_at twice card
 
 -- how often each card was counted
 unfoldable pub counts_of : ℕ → ℕ → List ℕ
 counts_of once twice = map (count_by_bits once twice) (places 52)
 
-pub count_at : (once twice card : ℕ) → IsCard card → slice_index (counts_of once twice) card ≡ count_by_bits once twice card
+pub count_at : (once twice : ℕ) (card : Card) → IsCard card → slice_index (counts_of once twice) card ≡ count_by_bits once twice card
 unfolding counts_of
 count_at once twice card in_deck = get_or-map-range_with_len (count_by_bits once twice) 0 52 card card 0 in_deck (omega arith)
 
@@ -21,7 +21,7 @@ count_at once twice card in_deck = get_or-map-range_with_len (count_by_bits once
 pub record AreCounts (once twice : ℕ) : Type 0 where
   pub once_below : once < 2 ^ 52
   pub twice_below : twice < 2 ^ 52
-  pub again : (card : ℕ) → bit_at twice card ≤ bit_at once card
+  pub again : (card : Card) → bit_at twice card ≤ bit_at once card
 
 -- the number with these bits, so many
 abbrev pub number_of_bits : (ℕ → ℕ) → ℕ → ℕ

@@ -3,10 +3,11 @@ use Rattle.std.specs.{Fmt.{decimal}, List.{count_by, filter, find, list_any}}
 use Rattle.std.specs.{Option.{is_some, option_map, option_or, unwrap_or}, Prelude.{◌++◌, ◌+◌, ◌==◌}}
 use Rattle.std.specs.Prelude.{◌∷◌, [], Bool, codes, if◌then◌else◌, length, List, map, None, not}
 use Rattle.std.specs.{Prelude.{Option, Some, ℕ}, Str.{bytes_eq}}
+use Rattle.{fc_card.specs.Types.{Text}, fc_text.specs.Bytes.{blank, line_feed}}
 use Rattle.fc_board.specs.{Boards.{Board}, Games.{game_of, variant_word}, Play.{has_all_home}}
 use Rattle.fc_board.specs.Steps.{after_move}
 use Rattle.fc_board.specs.declared.{moves.Move.{Move}, rule.Variant.{Variant}}
-use Rattle.{fc_bytes.specs.{legal_moves, move_bytes}, fc_text.specs.Bytes.{blank, line_feed}}
+use Rattle.fc_bytes.specs.{legal_moves, move_bytes}
 use Rattle.fc_record.specs.{Printing.{is_refused}, RecordTexts.{RecordText}}
 use Rattle.fc_record.specs.Tables.{json_object, json_string}
 use Rattle.fc_collect.specs.Groups.{belong_together, groups_of, Member, members_among}
@@ -42,7 +43,7 @@ flaw_of all member = if has_all_home member.contents.board then Some Won else op
 
 -- what is found: the first member that has a flaw, by its name; how many records are refused; or how many boards are closed, and how many classes these are
 pub data Finding : Type 0 where
-  Flawed : (name : List ℕ) → (flaw : Flaw) → Finding
+  Flawed : (name : Text) → (flaw : Flaw) → Finding
   Refused : (records : ℕ) → Finding
   Closed : (records classes : ℕ) → Finding
 
@@ -69,14 +70,14 @@ boards_of variant members =
 
 -- ---- what is printed of it
 
-abbrev pub finding_line : Finding → List ℕ
+abbrev pub finding_line : Finding → Text
 finding_line (Flawed name Won) = codes "won " ++ name ++ line_feed ∷ []
 finding_line (Flawed name (Open move)) = codes "open " ++ name ++ blank ∷ move.from ∷ move.to ∷ line_feed ∷ []
 finding_line (Refused records) = codes "refused " ++ decimal records ++ codes " records" ++ line_feed ∷ []
 finding_line (Closed records classes) = codes "closed " ++ decimal records ++ codes " records " ++ decimal classes ++ codes " classes" ++ line_feed ∷ []
 
 -- as an object of JSON
-abbrev pub finding_object : Finding → List ℕ
+abbrev pub finding_object : Finding → Text
 finding_object (Flawed name Won) = json_object ((codes "finding", json_string (codes "won")) ∷ (codes "name", json_string name) ∷ [])
 finding_object (Flawed name (Open move)) =
     json_object ((codes "finding", json_string (codes "open")) ∷ (codes "name", json_string name) ∷ (codes "move", json_string (move.from ∷ move.to ∷ [])) ∷ [])

@@ -4,10 +4,10 @@ use Rattle.std.specs.List.{count_by, filter, find, flat_map, join_with_byte, lis
 use Rattle.std.specs.{Option.{is_some, option_to_list}, Prelude.{◌&&◌, ◌++◌, ◌-◌, ◌==◌, ◌∷◌, []}}
 use Rattle.std.specs.Prelude.{Bool, codes, if◌then◌else◌, length, List, map, None, Option, Some, ℕ}
 use Rattle.std.specs.Str.{bytes_eq}
+use Rattle.{fc_board.specs.declared.rule.Variant.{Variant}, fc_card.specs.Types.{Text}}
 use Rattle.fc_board.specs.{Games.{game_of, renamings_of, variant_word}, Moves.{MoveList}}
 use Rattle.fc_board.specs.Passages.{inverse_passage, Passage, passage_product}
 use Rattle.fc_board.specs.Play.{list_verdict}
-use Rattle.fc_board.specs.declared.rule.Variant.{Variant}
 use Rattle.fc_text.specs.{Bytes.{blank, line_feed}, Printed.{text_of}}
 use Rattle.{fc_canon.specs.{chosen_passage, least_text}, fc_collect.specs.Records.{outputs_after}}
 use Rattle.fc_record.specs.Grammar.{Accepted, Contents, Heading, Reading, reading_of, Refused}
@@ -33,10 +33,10 @@ if_accepted number (Refused name fault) = []
 abbrev pub members_among : Variant → List RecordText → List Member
 members_among variant records = flat_map (λ text. if_accepted text.number (reading_of variant text.bytes)) records
 
-abbrev pub name_of_member : Member → List ℕ
+abbrev pub name_of_member : Member → Text
 name_of_member member = name_of member.number member.heading.name
 
-abbrev pub canonical_text : Member → List ℕ
+abbrev pub canonical_text : Member → Text
 canonical_text member = least_text (renamings_of member.heading.variant) member.contents.board
 
 -- ---- groups
@@ -60,12 +60,12 @@ groups_of members = map (λ leader. filter (belong_together leader) members) (le
 
 -- ---- group
 
-abbrev pub members_line : List Member → List ℕ
+abbrev pub members_line : List Member → Text
 members_line members =
     codes "# members " ++ decimal (length members) ++ codes ": " ++ join_with_byte blank (map name_of_member members) ++ line_feed ∷ []
 
 -- the first member's header, the names of all, and the canonical text
-abbrev pub group_lines : List Member → List ℕ
+abbrev pub group_lines : List Member → Text
 group_lines [] = []
 group_lines (first ∷ others) =
     header_text first.heading.variant (name_of_member first) ++ members_line (first ∷ others) ++ canonical_text first
@@ -73,18 +73,18 @@ group_lines (first ∷ others) =
 -- ---- unique
 
 -- as `show` prints it, where none of the earlier members belongs together with it, and else nothing
-abbrev pub unique_lines : List Member → ℕ → Heading → Contents → List ℕ
+abbrev pub unique_lines : List Member → ℕ → Heading → Contents → Text
 unique_lines earlier number heading contents =
     if list_any (λ other. belong_together other (record { number = number; heading = heading; contents = contents })) earlier then [] else show_lines number heading contents
 
 -- what is printed for records as they come, where records without a header have this variant
-abbrev pub unique_output : Variant → List RecordText → List ℕ
+abbrev pub unique_output : Variant → List RecordText → Text
 unique_output variant records = outputs_after (λ earlier. printed (unique_lines (members_among variant earlier)) variant) [] records
 
 -- ---- at the end of a run
 
 -- the lines of all groups, where records without a header have this variant
-abbrev pub grouped : (List Member → List ℕ) → Variant → List RecordText → List ℕ
+abbrev pub grouped : (List Member → Text) → Variant → List RecordText → Text
 grouped lines variant records = flat_map lines (groups_of (members_among variant records))
 
 -- -------- What `share` prints for the groups of a collection: each member with the solution of its group. From: this project's profile.
@@ -106,21 +106,21 @@ abbrev pub passage_between : Member → Member → Passage
 passage_between owner member = passage_product (passage_of owner) (inverse_passage (passage_of member))
 
 -- the owner gets its solution as it is, and every other member the image
-abbrev pub shared_line : Member → Member → MoveList → List ℕ
+abbrev pub shared_line : Member → Member → MoveList → Text
 shared_line owner member list =
     if owner.number == member.number then list_line list else image_line (passage_between owner member) list
 
 -- by the owner, and by its solution
-abbrev pub solution_line : Member → Option Member → List ℕ
+abbrev pub solution_line : Member → Option Member → Text
 solution_line member None = []
 solution_line member (Some owner) = flat_map (shared_line owner member) (option_to_list (solution_of owner))
 
 -- a member's header, its own board and the group's solution, where it has one
-abbrev pub member_lines : Option Member → Member → List ℕ
+abbrev pub member_lines : Option Member → Member → Text
 member_lines owner member =
     header_text member.heading.variant (name_of_member member) ++ text_of member.contents.board ++ solution_line member owner
 
-abbrev pub share_lines : List Member → List ℕ
+abbrev pub share_lines : List Member → Text
 share_lines members = flat_map (member_lines (owner_among members)) members
 
 -- -------- What `count` prints at the end of a run: figures of the whole collection, in one line. From: this project's profile.
@@ -134,7 +134,7 @@ abbrev pub wins_of : Member → List MoveList
 wins_of member = filter (λ list. is_win (list_verdict (game_of member.heading.variant) member.contents.board list)) member.contents.lists
 
 -- each with its name: records, and those refused; groups, and the members beyond the first of each; lists, and those that win; groups in which one wins
-abbrev pub figures : Summary → List Member → List (List ℕ × ℕ)
+abbrev pub figures : Summary → List Member → List (Text × ℕ)
 figures summary members =
     (codes "records", summary.records) ∷ (codes "refused", summary.refused)
     ∷ (codes "groups", length (groups_of members)) ∷ (codes "doubles", length members - length (groups_of members))
@@ -142,9 +142,9 @@ figures summary members =
     ∷ (codes "solved", count_by (λ group. is_some (owner_among group)) (groups_of members)) ∷ []
 
 -- in one line, each after its name
-abbrev pub figures_line : List (List ℕ × ℕ) → List ℕ
+abbrev pub figures_line : List (Text × ℕ) → Text
 figures_line figures = join_with_byte blank (map (λ figure. figure.0 ++ blank ∷ decimal figure.1) figures) ++ line_feed ∷ []
 
 -- as an object of JSON
-abbrev pub figures_object : List (List ℕ × ℕ) → List ℕ
+abbrev pub figures_object : List (Text × ℕ) → Text
 figures_object figures = json_object (map (λ figure. (figure.0, decimal figure.1)) figures)

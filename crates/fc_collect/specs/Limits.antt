@@ -1,6 +1,7 @@
 -- What a run is given, and the words for its faults.
 use Rattle.std.specs.{declared.hash.FoldHasher.{FoldHasher}, Hash.FoldHasher.{initial, write}}
-use Rattle.std.specs.{Hash.{u64}, List.{fold}, Prelude.{◌^◌, ◌≤◌, codes, List, ℕ}}
+use Rattle.std.specs.{Hash.{u64}, List.{fold}, Prelude.{◌^◌, ◌≤◌, codes, ℕ}}
+use Rattle.fc_card.specs.Types.{Text}
 use Rattle.fc_collect.specs.declared.streams.faults.RunFault.{RunFault, TheVariants.{Read}}
 use Rattle.fc_collect.specs.declared.streams.faults.RunFault.TheVariants.{ReaderNeverEnds, TooLarge}
 use Rattle.fc_collect.specs.declared.streams.faults.RunFault.TheVariants.{Write}
@@ -60,7 +61,7 @@ begun_with seed = fold write initial (u64 seed)
 -- ======== The words for the faults of a run. From: this project's profile.
 
 -- the words for why a run gave up
-abbrev pub fault_words : RunFault → List ℕ
+abbrev pub fault_words : RunFault → Text
 fault_words run.Read = codes "read fault"
 fault_words run.Write = codes "write fault"
 fault_words run.Memory = codes "out of memory"

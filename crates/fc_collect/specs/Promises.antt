@@ -1,7 +1,7 @@
 -- What a run promises of its counts and of its bytes.
 use Rattle.std.specs.{Io.KnownBytes.{Appends, Consumes, IsAtEnd}, Prelude.{◌++◌, ◌+◌, ◌≡◌, ◌≤◌}}
 use Rattle.std.specs.Prelude.{All, Bool, Err, length, List, Ok, OnOk, Option, Result, true, ℕ}
-use Rattle.fc_record.specs.RecordTexts.{RecordText}
+use Rattle.{fc_card.specs.Types.{Text}, fc_record.specs.RecordTexts.{RecordText}}
 use Rattle.fc_collect.specs.Limits.{most_record_bytes}
 use Rattle.fc_collect.specs.Records.{cut, finished_from, first_of, records_from}
 use Rattle.fc_collect.specs.Streams.{CallCounts, GrowsBy, is_flushed, StreamBytes}
@@ -19,7 +19,7 @@ pub record IsSmall (limits : Limits) (text : RecordText) : Type 0 where
 
 -- what a run reads passes no limit of size
 -- said again: pieces_are_placed.within
-pub record IsWithinLimits (limits : Limits) (read : List ℕ) : Type 0 where
+pub record IsWithinLimits (limits : Limits) (read : Text) : Type 0 where
   pub bytes : limits.place + length read ≤ limits.bytes
   pub texts : All (IsSmall limits) (cut (first_of limits) read)
 
@@ -41,18 +41,18 @@ pub record WritesAsCounted {W A : Type 0} (old new : Counted W) (result : Result
   pub flushed : OnOk result (is_flushed new ≡ true)
 
 -- the text begins with these bytes
-abbrev pub Begins : List ℕ → List ℕ → Type 0
-Begins front text = (rest : List ℕ) × (front ++ rest ≡ text)
+abbrev pub Begins : Text → Text → Type 0
+Begins front text = (rest : Text) × (front ++ rest ≡ text)
 
 -- the whole text was written, or some front of it where a write failed, and there is no other fault
-abbrev pub WritingFits : {A : Type 0} → List ℕ → List ℕ → Result A RunFault → Type 0
+abbrev pub WritingFits : {A : Type 0} → Text → Text → Result A RunFault → Type 0
 WritingFits text written (Ok _) = written ≡ text
 WritingFits text written (Err Write) = Begins written text
 WritingFits text written (Err fault) = ⊥
 
 -- some bytes were written
-pub record WritesText {A : Type 0} (text : List ℕ) (before after : Option (List ℕ)) (result : Result A RunFault) : Type 0 where
-  pub written : List ℕ
+pub record WritesText {A : Type 0} (text : Text) (before after : Option Text) (result : Result A RunFault) : Type 0 where
+  pub written : Text
   pub appended : Appends before after written
   pub fits : WritingFits text written result
 
@@ -79,22 +79,22 @@ pub record ReadsAsCounted {R A : Type 0} (limits : Limits) (old new : Counted R)
 
 -- what a run transferred: the bytes that went in, those that its input has left, and the bytes that went out
 pub record Transfer : Type 0 where
-  pub read : List ℕ
-  pub left : Option (List ℕ)
-  pub written : List ℕ
+  pub read : Text
+  pub left : Option Text
+  pub written : Text
 
 -- what is printed for records as they come, and at the end for all of them; and how many count as refused
 pub record Printing : Type 0 where
-  pub output : List RecordText → List ℕ
-  pub ending : List RecordText → List ℕ
+  pub output : List RecordText → Text
+  pub ending : List RecordText → Text
   pub refused : List RecordText → ℕ
 
 -- all that is printed for the records of these bytes
-abbrev pub whole_of : Limits → Printing → (read : List ℕ) → List ℕ
+abbrev pub whole_of : Limits → Printing → (read : Text) → Text
 whole_of limits printing read = printing.output (records_from limits read) ++ printing.ending (records_from limits read)
 
 -- what was read passes no limit, all that is printed for its records was written, and they were counted
-pub record OutputOf (limits : Limits) (printing : Printing) (read written : List ℕ) (summary : Summary) : Type 0 where
+pub record OutputOf (limits : Limits) (printing : Printing) (read written : Text) (summary : Summary) : Type 0 where
   pub within : IsWithinLimits limits read
   pub whole : written ≡ whole_of limits printing read
   pub records : summary.records ≡ length (records_from limits read)
@@ -110,8 +110,8 @@ ResultFits limits printing bytes (Err fault) = IsWithinLimits limits bytes.read 
 
 -- some bytes went in and some went out, and they fit the result
 pub record Transfers (Fits : Transfer → Result Summary RunFault → Type 0) (streams : StreamBytes) (result : Result Summary RunFault) : Type 0 where
-  pub read : List ℕ
-  pub written : List ℕ
+  pub read : Text
+  pub written : Text
   pub consumed : Consumes streams.input streams.left read
   pub appended : Appends streams.before streams.after written
   pub fits : Fits (record { read = read; left = streams.left; written = written }) result

@@ -1,8 +1,8 @@
 -- What a run of each kind promises.
 use Rattle.std.specs.{List.{count_by, flat_map}, Prelude.{◌++◌, ◌∷◌, [], codes, if◌then◌else◌}}
 use Rattle.std.specs.Prelude.{List, None, Option, Result, Some, ℕ}
-use Rattle.fc_board.specs.{declared.rule.Variant.{Variant}, Passages.{Passage}}
-use Rattle.fc_text.specs.Bytes.{line_feed}
+use Rattle.{fc_board.specs.Passages.{Passage}, fc_card.specs.Types.{Text}}
+use Rattle.{fc_board.specs.declared.rule.Variant.{Variant}, fc_text.specs.Bytes.{line_feed}}
 use Rattle.fc_record.specs.{Grammar.{Contents, Heading}, Printing.{canon_lines, check_lines}}
 use Rattle.fc_record.specs.Printing.{expand_lines, is_refused, name_of, passage_words, printed}
 use Rattle.fc_record.specs.Printing.{printed_with, show_lines, symmetry_lines}
@@ -31,32 +31,32 @@ abbrev pub passage_to : Member → Member → Option Passage
 passage_to first member = if belong_together first member then Some (passage_between first member) else None
 
 -- the passage in the words of `canon`, or that there is none
-abbrev pub passage_found : Option Passage → List ℕ
+abbrev pub passage_found : Option Passage → Text
 passage_found (Some passage) = passage_words passage
 passage_found None = codes " apart" ++ line_feed ∷ []
 
 -- nothing for the first member, and for each later one its name and the passage from the first
-abbrev pub same_lines : List Member → ℕ → Heading → Contents → List ℕ
+abbrev pub same_lines : List Member → ℕ → Heading → Contents → Text
 same_lines [] number heading contents = []
 same_lines (first ∷ others) number heading contents =
     name_of number heading.name ++ passage_found (passage_to first (record { number = number; heading = heading; contents = contents }))
 
 -- what is printed for records as they come, where records without a header have this variant
-abbrev pub same_output : Variant → List RecordText → List ℕ
+abbrev pub same_output : Variant → List RecordText → Text
 same_output variant records = outputs_after (λ earlier. printed (same_lines (members_among variant earlier)) variant) [] records
 
 -- -------- What a run of each kind writes, by the variant of records without a header. From: this project's profile.
 
 -- a line for each record that is refused, and nothing for the others
-abbrev pub refusals : Variant → List RecordText → List ℕ
+abbrev pub refusals : Variant → List RecordText → Text
 refusals variant = flat_map (printed (λ number heading contents. []) variant)
 
 -- an object for each
-abbrev pub refusal_objects : Variant → List RecordText → List ℕ
+abbrev pub refusal_objects : Variant → List RecordText → Text
 refusal_objects variant = flat_map (printed_with refusal_object (λ number heading contents. []) variant)
 
 -- for records as they come. The kinds without a line here print at the end, and before it refusals alone
-abbrev pub output_of_kind : RunKind → Variant → List RecordText → List ℕ
+abbrev pub output_of_kind : RunKind → Variant → List RecordText → Text
 output_of_kind Show variant = flat_map (printed show_lines variant)
 output_of_kind Canon variant = flat_map (printed canon_lines variant)
 output_of_kind Check variant = flat_map (printed check_lines variant)
@@ -78,7 +78,7 @@ count_format Header = Words
 count_format Json = count.Json
 
 -- at the end, for all of them; most kinds print nothing then
-abbrev pub ending_of_kind : RunKind → Variant → List RecordText → List ℕ
+abbrev pub ending_of_kind : RunKind → Variant → List RecordText → Text
 ending_of_kind Group variant = grouped group_lines variant
 ending_of_kind Share variant = grouped share_lines variant
 ending_of_kind (Count Words) variant = λ records. figures_line (figures (summary_of variant records) (members_among variant records))

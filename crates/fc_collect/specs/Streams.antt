@@ -1,7 +1,7 @@
 -- What a counting reader or writer shows, the stream inside it, four counts and whether it is flushed, and what calls make of these; and streams before and after.
 use Rattle.std.specs.Prelude.{◌+◌, ◌-◌, ◌<◌, ◌==◌, ◌^◌, ◌∷◌, ◌≡◌, [], Bool, Err, false}
 use Rattle.std.specs.Prelude.{if◌then◌else◌, List, min, Ok, Option, Result, ℕ}
-use Rattle.fc_collect.specs.declared.streams.counted.Counted.{Counted}
+use Rattle.{fc_card.specs.Types.{Text}, fc_collect.specs.declared.streams.counted.Counted.{Counted}}
 
 abbrev pub inner_of : {T : Type 0} → Counted T → T
 inner_of counted = counted.inner
@@ -50,16 +50,16 @@ pub record HasRoom {T : Type 0} (counted : Counted T) : Type 0 where
 
 -- a stream before and after, and the bytes that its inside tells of: those that an input has left, or those that an output holds
 pub record Stream (T : Type 0) : Type 0 where
-  pub bytes : T → Option (List ℕ)
+  pub bytes : T → Option Text
   pub old : Counted T
   pub new : Counted T
 
 -- the bytes that the input had and those that it has left, those that the output held and those that it holds
 pub record StreamBytes : Type 0 where
-  pub input : Option (List ℕ)
-  pub left : Option (List ℕ)
-  pub before : Option (List ℕ)
-  pub after : Option (List ℕ)
+  pub input : Option Text
+  pub left : Option Text
+  pub before : Option Text
+  pub after : Option Text
 
 abbrev pub bytes_of : {R W : Type 0} → Stream R → Stream W → StreamBytes
 bytes_of input output = record {

@@ -4,11 +4,11 @@ use Rattle.std.specs.Io.KnownBytes.{Appends, Consumes, IsAtEnd, Keeps}
 use Rattle.std.specs.{List.{AllZip, count_by, flat_map}, Option.{is_some}, Prelude.{◌&&◌, ◌++◌}}
 use Rattle.std.specs.Prelude.{◌+◌, ◌<◌, ◌∷◌, ◌≡◌, ◌≤◌, [], All, Bool, codes, drop, Err, length}
 use Rattle.std.specs.{Prelude.{List, map, None, Ok, Option, Result, Some, take, ℕ}, Str.{bytes_eq}}
+use Rattle.{fc_board.specs.declared.rule.Variant.{Variant}, fc_card.specs.Types.{Text}}
 use Rattle.fc_board.specs.Boards.{Board, IsWellFormed}
 use Rattle.fc_board.specs.{Games.{game_of, renamings_of, variant_word}, Moves.{ListFits}}
 use Rattle.fc_board.specs.Passages.{carried, Passage}
-use Rattle.{fc_board.specs.declared.rule.Variant.{Variant}, fc_text.specs.Bytes.{blank}}
-use Rattle.fc_canon.specs.{chosen_passage, HasCanonText, key_of}
+use Rattle.{fc_canon.specs.{chosen_passage, HasCanonText, key_of}, fc_text.specs.Bytes.{blank}}
 use Rattle.fc_record.specs.{Grammar.{Contents, Heading}, Printing.{printed_with}}
 use Rattle.fc_record.specs.RecordTexts.{header_mark, RecordText}
 use Rattle.fc_record.specs.declared.record.RecordFault.{RecordFault}
@@ -43,7 +43,7 @@ variant_held (FreeCell board) = variant.FreeCell
 variant_held (BakersGame board) = variant.BakersGame
 variant_held (EightOff board) = variant.EightOff
 
-abbrev pub text_held : AnyCanon → List ℕ
+abbrev pub text_held : AnyCanon → Text
 text_held (canon.FreeCell made) = made.text.items
 text_held (canon.BakersGame made) = made.text.items
 text_held (canon.EightOff made) = made.text.items
@@ -65,15 +65,15 @@ abbrev pub window_room : ℕ
 window_room = most_record_bytes + most_record_bytes
 
 -- a read put these bytes after those held
-pub record FillsWindow (old new : List ℕ) (before after : Option (List ℕ)) (count : ℕ) : Type 0 where
-  pub given : List ℕ
+pub record FillsWindow (old new : Text) (before after : Option Text) (count : ℕ) : Type 0 where
+  pub given : Text
   pub follows : new ≡ old ++ given
   pub long : length given ≡ count
   pub consumed : Consumes before after given
   pub ended : count ≡ 0 → IsAtEnd after
 
 -- a read that fails changes nothing
-abbrev pub FillFits : {E : Type 0} → List ℕ → List ℕ → Option (List ℕ) → Option (List ℕ) → Result ℕ E → Type 0
+abbrev pub FillFits : {E : Type 0} → Text → Text → Option Text → Option Text → Result ℕ E → Type 0
 FillFits old new before after (Ok count) = FillsWindow old new before after count
 FillFits old new before after (Err _) = (new ≡ old) × Keeps before after
 
@@ -84,21 +84,21 @@ abbrev pub as_text : GivenText → RecordText
 as_text given = record { number = given.number; start = given.start; bytes = given.bytes.now }
 
 -- the text that begins where the run is, with these bytes
-abbrev pub text_at : Progress → List ℕ → RecordText
+abbrev pub text_at : Progress → Text → RecordText
 text_at progress bytes = record { number = progress.number; start = progress.start; bytes = bytes }
 
 -- the run has passed these bytes
-pub record Passes (old new : Progress) (bytes : List ℕ) : Type 0 where
+pub record Passes (old new : Progress) (bytes : Text) : Type 0 where
   pub number : new.number ≡ next_number (text_at old bytes)
   pub start : new.start ≡ old.start + length bytes
 
 -- no header begins from the one place up to the other: what is finished and begun in all of the bytes is what is finished and begun after the second
-pub record PassesNoHeader (bytes : List ℕ) (from at : ℕ) : Type 0 where
+pub record PassesNoHeader (bytes : Text) (from at : ℕ) : Type 0 where
   pub finished_same : (progress : Progress) → finished (text_at progress (take from bytes)) (drop from bytes) ≡ finished (text_at progress (take at bytes)) (drop at bytes)
   pub begun_same : (progress : Progress) → begun (text_at progress (take from bytes)) (drop from bytes) ≡ begun (text_at progress (take at bytes)) (drop at bytes)
 
 -- where the next header is: the text that begins anywhere is finished there, and not before
-abbrev pub Searched : List ℕ → ℕ → Option ℕ → Type 0
+abbrev pub Searched : Text → ℕ → Option ℕ → Type 0
 Searched bytes from None = (progress : Progress) → let front = text_at progress (take from bytes) in
     (finished front (drop from bytes) ≡ []) × (begun front (drop from bytes) ≡ text_at progress bytes)
 Searched bytes from (Some at) =
@@ -110,19 +110,19 @@ Searched bytes from (Some at) =
 -- ---- what is held of a collection, where no header begins after the first byte of its first `searched` bytes
 
 -- the texts that a header ends there
-abbrev pub finished_in : Progress → List ℕ → ℕ → List RecordText
+abbrev pub finished_in : Progress → Text → ℕ → List RecordText
 finished_in progress held searched = finished (text_at progress (take searched held)) (drop searched held)
 
 -- the text that is begun there
-abbrev pub begun_in : Progress → List ℕ → ℕ → RecordText
+abbrev pub begun_in : Progress → Text → ℕ → RecordText
 begun_in progress held searched = begun (text_at progress (take searched held)) (drop searched held)
 
 -- all of them
-abbrev pub cut_in : Progress → List ℕ → ℕ → List RecordText
+abbrev pub cut_in : Progress → Text → ℕ → List RecordText
 cut_in progress held searched = cut (text_at progress (take searched held)) (drop searched held)
 
 -- the records that a header ends there
-abbrev pub records_in : Progress → List ℕ → ℕ → List RecordText
+abbrev pub records_in : Progress → Text → ℕ → List RecordText
 records_in progress held searched = records_among (finished_in progress held searched)
 
 -- -------- What the engine promises of a text that it prints after what is pending, and writes in part, and of the counts of its output.
@@ -133,14 +133,14 @@ output_counts (Ok _) = record { failures = 0; fills = 0; ends = 0; flushes = 0 }
 output_counts (Err fault) = record { failures = fault_failures fault; fills = 0; ends = 0; flushes = 0 }
 
 -- the text was put after what was pending, and a front of both went out
-pub record Sends (text pending_old pending_new : List ℕ) (before after : Option (List ℕ)) : Type 0 where
-  pub written : List ℕ
+pub record Sends (text pending_old pending_new : Text) (before after : Option Text) : Type 0 where
+  pub written : Text
   pub appended : Appends before after written
   pub all : written ++ pending_new ≡ pending_old ++ text
 
 -- what went out begins what was pending and this text
-pub record SendsSome (text pending : List ℕ) (before after : Option (List ℕ)) : Type 0 where
-  pub written : List ℕ
+pub record SendsSome (text pending : Text) (before after : Option Text) : Type 0 where
+  pub written : Text
   pub appended : Appends before after written
   pub begins : Begins written (pending ++ text)
 
@@ -153,7 +153,7 @@ IsPrintFault TooLarge = ⊥
 IsPrintFault ReaderNeverEnds = ⊥
 
 -- how what went out goes with the result of printing a text after what was pending
-abbrev pub SendingFits : {A : Type 0} → List ℕ → List ℕ → List ℕ → Option (List ℕ) → Option (List ℕ) → Result A RunFault → Type 0
+abbrev pub SendingFits : {A : Type 0} → Text → Text → Text → Option Text → Option Text → Result A RunFault → Type 0
 SendingFits text pending_old pending_new before after (Ok _) = Sends text pending_old pending_new before after
 SendingFits text pending_old pending_new before after (Err fault) = IsPrintFault fault × SendsSome text pending_old before after
 
@@ -165,12 +165,12 @@ pub record Treats (refuses : RecordText → Bool) (held_old held_new : List Reco
   pub keeps : (seen : List RecordText) → held_old seen → held_new (seen ++ records)
 
 -- what is held passes no limit
-pub record IsAllowed (limits : Limits) (progress : Progress) (held : List ℕ) (searched : ℕ) : Type 0 where
+pub record IsAllowed (limits : Limits) (progress : Progress) (held : Text) (searched : ℕ) : Type 0 where
   pub bytes : progress.start + length held ≤ limits.bytes
   pub texts : All (IsSmall limits) (cut_in progress held searched)
 
 -- what a read gave was taken up: the records that a header ends were printed and written
-pub record ConsumedRead (limits : Limits) (output : List RecordText → List ℕ) (refuses : RecordText → Bool) (held_old held_new : List RecordText → Type 0) (old new : Progress) (held : List ℕ) (searched : ℕ) (left pending : List ℕ) (before after : Option (List ℕ)) : Type 0 where
+pub record ConsumedRead (limits : Limits) (output : List RecordText → Text) (refuses : RecordText → Bool) (held_old held_new : List RecordText → Type 0) (old new : Progress) (held : Text) (searched : ℕ) (left pending : Text) (before after : Option Text) : Type 0 where
   pub allowed : IsAllowed limits old held searched
   pub counts : Treats refuses held_old held_new old new (records_in old held searched)
   pub fewer : new.refused < new.number
@@ -179,28 +179,28 @@ pub record ConsumedRead (limits : Limits) (output : List RecordText → List ℕ
   pub written : Appends before after (output (records_in old held searched))
 
 -- what a read gave was not taken up
-abbrev pub TakeUpFault : Limits → (List RecordText → List ℕ) → Progress → List ℕ → ℕ → Option (List ℕ) → Option (List ℕ) → RunFault → Type 0
+abbrev pub TakeUpFault : Limits → (List RecordText → Text) → Progress → Text → ℕ → Option Text → Option Text → RunFault → Type 0
 TakeUpFault limits output old held searched before after Read = ⊥
 TakeUpFault limits output old held searched before after Write = IsAllowed limits old held searched × SendsSome (output (records_in old held searched)) [] before after
 TakeUpFault limits output old held searched before after Memory = IsAllowed limits old held searched × SendsSome (output (records_in old held searched)) [] before after
 TakeUpFault limits output old held searched before after TooLarge = (¬ IsAllowed limits old held searched) × Appends before after []
 TakeUpFault limits output old held searched before after ReaderNeverEnds = ⊥
 
-abbrev pub ConsumesRead : {A : Type 0} → Limits → (List RecordText → List ℕ) → (RecordText → Bool) → (List RecordText → Type 0) → (List RecordText → Type 0) → Progress → Progress → List ℕ → ℕ → List ℕ → List ℕ → Option (List ℕ) → Option (List ℕ) → Result A RunFault → Type 0
+abbrev pub ConsumesRead : {A : Type 0} → Limits → (List RecordText → Text) → (RecordText → Bool) → (List RecordText → Type 0) → (List RecordText → Type 0) → Progress → Progress → Text → ℕ → Text → Text → Option Text → Option Text → Result A RunFault → Type 0
 ConsumesRead limits output refuses held_old held_new old new held searched left pending before after (Ok _) = ConsumedRead limits output refuses held_old held_new old new held searched left pending before after
 ConsumesRead limits output refuses held_old held_new old new held searched left pending before after (Err fault) = TakeUpFault limits output old held searched before after fault
 
 -- what is printed last: for the last text, and at the end for all records
-abbrev pub last_output : (List RecordText → List ℕ) → (List RecordText → List ℕ) → List RecordText → RecordText → List ℕ
+abbrev pub last_output : (List RecordText → Text) → (List RecordText → Text) → List RecordText → RecordText → Text
 last_output output ending seen text = output (if_record text) ++ ending (seen ++ if_record text)
 
 -- the last text and the end were printed and written, and so many records count as refused
-pub record Finished (first : ℕ) (output : List ℕ) (refused : ℕ) (progress : Progress) (text : RecordText) (before after : Option (List ℕ)) (summary : Summary) : Type 0 where
+pub record Finished (first : ℕ) (output : Text) (refused : ℕ) (progress : Progress) (text : RecordText) (before after : Option Text) (summary : Summary) : Type 0 where
   pub written : Appends before after output
   pub records : summary.records + first ≡ progress.number + length (if_record text)
   pub refused_so : summary.refused ≡ refused
 
-abbrev pub Finishes : ℕ → List ℕ → ℕ → Progress → RecordText → Option (List ℕ) → Option (List ℕ) → Result Summary RunFault → Type 0
+abbrev pub Finishes : ℕ → Text → ℕ → Progress → RecordText → Option Text → Option Text → Result Summary RunFault → Type 0
 Finishes first output refused progress text before after (Ok summary) = Finished first output refused progress text before after summary
 Finishes first output refused progress text before after (Err fault) = IsPrintFault fault × SendsSome output [] before after
 
@@ -211,11 +211,11 @@ abbrev pub member_of : ℕ → Heading → Contents → Member
 member_of number heading contents = record { number = number; heading = heading; contents = contents }
 
 -- what is printed for a text after these earlier ones
-abbrev pub printed_after : (RecordText → Option (List ℕ) → RecordFault → List ℕ) → (List Member → ℕ → Heading → Contents → List ℕ) → Variant → List RecordText → RecordText → List ℕ
+abbrev pub printed_after : (RecordText → Option Text → RecordFault → Text) → (List Member → ℕ → Heading → Contents → Text) → Variant → List RecordText → RecordText → Text
 printed_after refusal lines variant seen = printed_with refusal (lines (members_among variant seen)) variant
 
 -- what is printed at the end for all texts
-abbrev pub ended : (Summary → List Member → List ℕ) → Variant → List RecordText → List ℕ
+abbrev pub ended : (Summary → List Member → Text) → Variant → List RecordText → Text
 ended ending variant seen = ending (summary_of variant seen) (members_among variant seen)
 
 -- what is kept is kept of these texts
@@ -306,7 +306,7 @@ KeepsFirst (Some canon) (first ∷ others) = IsCanonOf canon first
 -- -------- What `group` keeps of a group, against the members of the group.
 
 -- the name after a blank
-abbrev pub name_word : Member → List ℕ
+abbrev pub name_word : Member → Text
 name_word member = blank ∷ name_of_member member
 
 -- the names of the first member and of the others, how long the first is, and how many they are
@@ -351,7 +351,7 @@ pub record KeepsTally (tally : Tally) (all : List Member) : Type 0 where
   pub wins : tally.wins ≡ length (flat_map wins_of all)
 
 -- the figures with their names
-abbrev pub figures_seen : Figures → List (List ℕ × ℕ)
+abbrev pub figures_seen : Figures → List (Text × ℕ)
 figures_seen figures =
     (codes "records", figures.records) ∷ (codes "refused", figures.refused) ∷ (codes "groups", figures.groups) ∷ (codes "doubles", figures.doubles)
     ∷ (codes "lists", figures.lists) ∷ (codes "wins", figures.wins) ∷ (codes "solved", figures.solved) ∷ []

@@ -108,8 +108,9 @@ pub fn solutions_are_whole()
 {}
 
 /// A line of columns names the cards of one, and a line of rows one card of each column; one line has
-/// the columns, each up to a mark, or the rows one after another. Lines that are said to be columns are no rows, and of
-/// those that are said to be rows one has a number or a colon before its cards, if they are columns.
+/// the columns, each up to a mark, or the rows one after another. Lines that are said to be columns
+/// are no rows, and of those that are said to be rows one has a number or a colon before its cards,
+/// if they are columns.
 pub fn lines_are_in_layouts()
     ensures columns { lines_in Columns (record {
       heights = [];

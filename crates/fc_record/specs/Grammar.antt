@@ -4,6 +4,7 @@ use Rattle.std.specs.{Option.{option_map, unwrap_or}, Prelude.{◌&&◌, ◌+◌
 use Rattle.std.specs.Prelude.{Bool, codes, drop, Err, false, if◌then◌else◌, length, List, nat_le}
 use Rattle.std.specs.Prelude.{None, Ok, Option, Result, Some, take, true, ℕ}
 use Rattle.std.specs.Str.{str_eq_ignore_ascii_case}
+use Rattle.{fc_card.specs.Types.{Text}, fc_text.specs.declared.fault.BoardFault.{BoardFault}}
 use Rattle.fc_board.specs.{Boards.{Board}, Games.{Game, game_of, variant_word, variants}}
 use Rattle.fc_board.specs.Moves.{MoveList, OneCard, Runs}
 use Rattle.fc_board.specs.declared.rule.{Rule.{Ghosts}, Variant.{Variant}}
@@ -12,7 +13,6 @@ use Rattle.fc_text.specs.Lines.{lines_from, Piece, trim_carriage_return, words_f
 use Rattle.fc_text.specs.Notation.{BadToken, IsRunToken, IsToken, Listed, ListFault, TooMany}
 use Rattle.fc_text.specs.{Readings.{moves_read, runs_read}, Rows.{is_empty, line_of}}
 use Rattle.fc_text.specs.Spelling.{board_of, Spells}
-use Rattle.fc_text.specs.declared.fault.BoardFault.{BoardFault}
 use Rattle.fc_record.specs.RecordTexts.{header_mark}
 use Rattle.fc_record.specs.declared.record.Contents.{Contents as HeldContents}
 use Rattle.fc_record.specs.declared.record.Heading.{Heading as HeldHeading}
@@ -26,7 +26,7 @@ use Rattle.fc_record.specs.declared.record.RecordFaultKind.TheVariants as kind
 abbrev pub list_mark : ℕ
 list_mark = 62
 
-abbrev pub begins_with : ℕ → List ℕ → Bool
+abbrev pub begins_with : ℕ → Text → Bool
 begins_with mark [] = false
 begins_with mark (byte ∷ rest) = byte == mark
 
@@ -43,17 +43,17 @@ fault_at place kind = record { place = place; kind = kind }
 pub record Heading : Type 0 where
   pub variant : Variant
   pub has_header : Bool
-  pub name : Option (List ℕ)
+  pub name : Option Text
 
 -- the variant that a word names, in any case
-abbrev pub variant_named : List ℕ → Option Variant
+abbrev pub variant_named : Text → Option Variant
 variant_named word = find (λ variant. str_eq_ignore_ascii_case word (variant_word variant)) variants
 
 -- a name has at most 64 bytes, each a printing one of ASCII
-abbrev pub is_name : List ℕ → Bool
+abbrev pub is_name : Text → Bool
 is_name word = nat_le (length word) 64 && list_all (λ byte. nat_le 33 byte && nat_le byte 126) word
 
-abbrev pub with_header : Variant → Option (List ℕ) → Heading
+abbrev pub with_header : Variant → Option Text → Heading
 with_header variant name = record { variant = variant; has_header = true; name = name }
 
 -- by the variant that the word at this place names, and the words after it: nothing, or a name and nothing after it
@@ -69,7 +69,7 @@ heading_of_words end [] = Err (fault_at end kind.BadHeader)
 heading_of_words end (word ∷ words) = heading_by word.start (variant_named word.bytes) words
 
 -- the line of the header, without the carriage return that may end it
-abbrev pub header_line : List ℕ → List ℕ
+abbrev pub header_line : Text → Text
 header_line bytes = trim_carriage_return (before_first is_line_feed bytes)
 
 -- a record without a header
@@ -78,7 +78,7 @@ without_header variant = record { variant = variant; has_header = false; name = 
 
 -- what a header says; without one the record has the variant that the run is given
 -- said again: headers_say_their_game_and_name
-abbrev pub heading_of : Variant → List ℕ → Result Heading RecordFault
+abbrev pub heading_of : Variant → Text → Result Heading RecordFault
 heading_of variant bytes =
     if begins_with header_mark bytes then heading_of_words (length (header_line bytes)) (words_from is_gap 1 (drop 1 (header_line bytes)))
     else Ok (without_header variant)
@@ -86,19 +86,19 @@ heading_of variant bytes =
 -- ---- the board and the lists
 
 -- what comes after the header
-abbrev pub after_header : List ℕ → List ℕ
+abbrev pub after_header : Text → Text
 after_header bytes = if begins_with header_mark bytes then after_first is_line_feed bytes else bytes
 
 -- where the first line of a list begins, or the end of the text
-abbrev pub lists_start : List ℕ → ℕ
+abbrev pub lists_start : Text → ℕ
 lists_start body = unwrap_or (option_map (λ line. line.start) (find (λ line. begins_with list_mark line.bytes) (lines_from 0 body))) (length body)
 
 -- the board text: all before the first list
-abbrev pub board_part : List ℕ → List ℕ
+abbrev pub board_part : Text → Text
 board_part body = take (lists_start body) body
 
 -- the lines from the first list on, in a text whose first byte has this place
-abbrev pub list_lines : ℕ → List ℕ → List Piece
+abbrev pub list_lines : ℕ → Text → List Piece
 list_lines place body = lines_from (place + lists_start body) (drop (lists_start body) body)
 
 -- a fault of a list's text, which begins at this place
@@ -112,12 +112,12 @@ list_with form place (Ok moves) = Ok (form moves)
 list_with form place (Err fault) = Err (list_fault place fault)
 
 -- the line has a second mark after the first: its moves are of several cards
-abbrev pub has_two_marks : List ℕ → Bool
+abbrev pub has_two_marks : Text → Bool
 has_two_marks line = begins_with list_mark (drop 1 line)
 
 -- what the line of a list says, which begins at this place
 -- said again: lists_are_refused_at_their_words
-abbrev pub list_read : Game → ℕ → List ℕ → Result MoveList RecordFault
+abbrev pub list_read : Game → ℕ → Text → Result MoveList RecordFault
 list_read game place line =
     if has_two_marks line then list_with Runs (place + 2) (runs_read game (drop 2 line))
     else list_with OneCard (place + 1) (moves_read game (drop 1 line))
@@ -148,7 +148,7 @@ contents_with place None (Err fault) board = Err fault
 contents_with place None (Ok lists) board = Ok (record { board = board; lists = lists })
 
 -- what the body of a record says, where its first byte has this place
-abbrev pub contents_of : Game → ℕ → List ℕ → Result Contents RecordFault
+abbrev pub contents_of : Game → ℕ → Text → Result Contents RecordFault
 contents_of game place body =
     contents_with place (first_fault game (board_part body)) (lists_of game (list_lines place body)) (board_of game (board_part body))
 
@@ -157,25 +157,25 @@ contents_of game place body =
 -- a record is accepted, or refused: one with a bad header has no name
 pub data Reading : Type 0 where
   Accepted : (heading : Heading) (contents : Contents) → Reading
-  Refused : (name : Option (List ℕ)) (fault : RecordFault) → Reading
+  Refused : (name : Option Text) (fault : RecordFault) → Reading
 
 abbrev pub reading_with : Heading → Result Contents RecordFault → Reading
 reading_with heading (Ok contents) = Accepted heading contents
 reading_with heading (Err fault) = Refused heading.name fault
 
 -- what a record says after its header, or from its first byte on where it has none
-abbrev pub reading_after : Heading → List ℕ → Reading
+abbrev pub reading_after : Heading → Text → Reading
 reading_after heading bytes =
     reading_with heading (contents_of (game_of heading.variant) (length bytes - length (after_header bytes)) (after_header bytes))
 
 -- by what the header says
-abbrev pub reading_by : Result Heading RecordFault → List ℕ → Reading
+abbrev pub reading_by : Result Heading RecordFault → Text → Reading
 reading_by (Err fault) bytes = Refused None fault
 reading_by (Ok heading) bytes = reading_after heading bytes
 
 -- what a record's bytes say, where records without a header have this variant
 -- said again: accepted_records_say_what_they_spell, records_are_refused_for_their_first_fault
-abbrev pub reading_of : Variant → List ℕ → Reading
+abbrev pub reading_of : Variant → Text → Reading
 reading_of variant bytes = reading_by (heading_of variant bytes) bytes
 
 -- -------- What clauses see of what the code holds of a record.
@@ -190,16 +190,16 @@ contents_seen contents = record { board = contents.board; lists = contents.lists
 -- -------- What it is for a record to be accepted, by what its parts spell and list, and to be refused, by the first part that is at fault. From: this project's profile; the text of the board is Freecell Solver's, and the moves are in standard notation.
 
 -- the record begins with a header line, whose words after the mark are these
-abbrev pub HasHeader : List ℕ → List Piece → Type 0
+abbrev pub HasHeader : Text → List Piece → Type 0
 HasHeader bytes words =
     (begins_with header_mark bytes ≡ true) × (words_from is_gap 1 (drop 1 (header_line bytes)) ≡ words)
 
 -- the first of these words names the game of this variant, and the later ones are these
-abbrev pub HasGame : List ℕ → Variant → List Piece → Type 0
+abbrev pub HasGame : Text → Variant → List Piece → Type 0
 HasGame bytes own later = (word : Piece) × HasHeader bytes (word ∷ later) × (variant_named word.bytes ≡ Some own)
 
 -- there is no header, and the record is of this variant; or its header has the word of a game alone, or this and a name
-pub data HeaderSays (variant : Variant) (bytes : List ℕ) : Heading → Type 0 where
+pub data HeaderSays (variant : Variant) (bytes : Text) : Heading → Type 0 where
   no_header : begins_with header_mark bytes ≡ false → HeaderSays variant bytes (without_header variant)
   game_alone : (own : Variant) → HasGame bytes own [] → HeaderSays variant bytes (with_header own None)
   game_and_name : (own : Variant) (name : Piece) → HasGame bytes own (name ∷ []) → is_name name.bytes ≡ true
@@ -207,7 +207,7 @@ pub data HeaderSays (variant : Variant) (bytes : List ℕ) : Heading → Type 0 
 
 -- the header is bad at the end of its line, where it has no word; at its first word, where that names no game;
 -- at its second, where that is no name; or at its third
-pub data BadHeaderAt (bytes : List ℕ) : ℕ → Type 0 where
+pub data BadHeaderAt (bytes : Text) : ℕ → Type 0 where
   no_word : HasHeader bytes [] → BadHeaderAt bytes (length (header_line bytes))
   no_game : (word : Piece) (later : List Piece) → HasHeader bytes (word ∷ later) → variant_named word.bytes ≡ None
       → BadHeaderAt bytes word.start
@@ -217,7 +217,7 @@ pub data BadHeaderAt (bytes : List ℕ) : ℕ → Type 0 where
       → is_name name.bytes ≡ true → BadHeaderAt bytes third.start
 
 -- the line lists these moves, those of one card after one mark and those of several after two
-abbrev pub IsList : Game → List ℕ → MoveList → Type 0
+abbrev pub IsList : Game → Text → MoveList → Type 0
 IsList game line (OneCard moves) = (has_two_marks line ≡ false) × Listed (IsToken game) (drop 1 line) moves
 IsList game line (Runs moves) = (has_two_marks line ≡ true) × Listed (IsRunToken game) (drop 2 line) moves
 
@@ -230,7 +230,7 @@ pub data AreLists (game : Game) : List Piece → List MoveList → Type 0 where
       → begins_with list_mark line.bytes ≡ false → is_empty (line_of line) ≡ true → AreLists game (line ∷ lines) lists
 
 -- the header says this, the board text spells the board, and the lines from the first list on are the lists
-pub record RecordSays (variant : Variant) (bytes : List ℕ) (heading : Heading) (contents : Contents) : Type 0 where
+pub record RecordSays (variant : Variant) (bytes : Text) (heading : Heading) (contents : Contents) : Type 0 where
   pub header : HeaderSays variant bytes heading
   pub board : Spells (game_of heading.variant) (board_part (after_header bytes)) contents.board
   pub lists : AreLists (game_of heading.variant) (list_lines (length bytes - length (after_header bytes)) (after_header bytes)) contents.lists
@@ -245,7 +245,7 @@ pub data AreFaulty (game : Game) : List Piece → RecordFault → Type 0 where
       → AreLists game (line ∷ []) lists → AreFaulty game lines fault → AreFaulty game (line ∷ lines) fault
 
 -- the header is at fault, which leaves no name; or, where it is read, the board text; or else one of the lines from the first list on
-pub data IsFaulty (variant : Variant) (bytes : List ℕ) : Option (List ℕ) → RecordFault → Type 0 where
+pub data IsFaulty (variant : Variant) (bytes : Text) : Option Text → RecordFault → Type 0 where
   bad_header : (place : ℕ) → BadHeaderAt bytes place → IsFaulty variant bytes None (fault_at place kind.BadHeader)
   bad_board : (heading : Heading) → HeaderSays variant bytes heading → (fault : BoardFault)
       → first_fault (game_of heading.variant) (board_part (after_header bytes)) ≡ Some fault

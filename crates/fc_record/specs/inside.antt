@@ -1,9 +1,10 @@
 -- What the code holds and promises on its way from a record to its lines. What is printed is said without it.
 pub mod Fitting
+use Rattle.fc_card.specs.Types.{Text}
 use Rattle.fc_record.specs.declared.record.RecordFaultKind.TheVariants as kind
 use Rattle.fc_text.specs.declared.fault.MovesFault.TheVariants as list
-use Rattle.std.specs.Prelude.{◌+◌, ◌==◌, ◌∷◌, ◌≡◌, ◌≤◌, [], Bool, Err, if◌then◌else◌, List, Ok}
-use Rattle.std.specs.Prelude.{Result, true, ℕ}
+use Rattle.std.specs.Prelude.{◌+◌, ◌==◌, ◌∷◌, ◌≡◌, ◌≤◌, [], Bool, Err, if◌then◌else◌, Ok, Result}
+use Rattle.std.specs.Prelude.{true, ℕ}
 use Rattle.fc_board.specs.{Boards.{Board}, Games.{Game}, Moves.{MoveList, OneCard}}
 use Rattle.fc_board.specs.Play.{list_verdict, OnlyLegal, Refused, Verdict, Won}
 use Rattle.fc_board.specs.declared.fault.PlayFault.{PlayFault}
@@ -16,7 +17,7 @@ use Rattle.fc_record.specs.declared.record.RecordFault.{RecordFault}
 -- -------- Where a board's text ends in the body of a record.
 
 -- before a list, or where nothing is left
-abbrev pub ends_board : List ℕ → Bool
+abbrev pub ends_board : Text → Bool
 ends_board [] = true
 ends_board (byte ∷ rest) = byte == list_mark
 
@@ -54,7 +55,7 @@ IsNoFurther most (list.TooMany at) = at ≤ most
 IsNoFurther most list.Memory = Unit {0}
 
 -- this is the first fault of a list's text
-abbrev pub IsFirstFault : {Item : Type 0} → (List ℕ → Item → Type 0) → List ℕ → ListFault → Type 0
+abbrev pub IsFirstFault : {Item : Type 0} → (Text → Item → Type 0) → Text → ListFault → Type 0
 IsFirstFault IsToken text (BadToken at) = BadTokenAt IsToken text at
 IsFirstFault IsToken text (TooMany at) = TooManyAt IsToken text at
 

@@ -1,7 +1,8 @@
 //! What is printed for a record alone: by `show`, `canon`, `check`, `expand`, `table` and
 //! `symmetries` where it is accepted, and by every command where it is refused.
-ghost use Rattle.std.specs.{List.{flat_map}, Prelude.{◌++◌, ◌≡◌, List, OnOk, ℕ}};
-ghost use Rattle.{fc_board.specs.Moves.{ListFits}, fc_text.specs.Printed.{text_of}};
+ghost use Rattle.std.specs.{List.{flat_map}, Prelude.{◌++◌, ◌≡◌, OnOk, ℕ}};
+ghost use Rattle.{fc_board.specs.Moves.{ListFits}, fc_card.specs.Types.{Text}};
+ghost use Rattle.fc_text.specs.Printed.{text_of};
 ghost use Rattle.fc_record.specs.Grammar.{Contents as SaidContents, contents_seen};
 ghost use Rattle.fc_record.specs.Grammar.{Heading as SaidHeading, heading_seen};
 ghost use Rattle.fc_record.specs.{inside.Fitting.{AllFit}, Printing.{canon_lines, check_lines}};
@@ -43,7 +44,7 @@ pub trait PrintsRecord {
     type Refusal: PrintsRefusal;
 
     /// The lines for a record, by its number and what it says.
-    ghost lines: { ℕ → SaidHeading → SaidContents → List ℕ };
+    ghost lines: { ℕ → SaidHeading → SaidContents → Text };
 
     /// Prints the lines for the record of this number.
     fn print<R: Rule>(

@@ -3,6 +3,7 @@ use Rattle.std.specs.List.{after_first, before_first, list_any, position_or_len,
 use Rattle.std.specs.Prelude.{◌&&◌, ◌+◌, ◌-◌, ◌==◌, ◌∷◌, [], Bool, codes, drop, false}
 use Rattle.std.specs.Prelude.{if◌then◌else◌, List, map, suc, true, zero, ℕ}
 use Rattle.std.specs.Str.{str_eq_ignore_ascii_case}
+use Rattle.fc_card.specs.Types.{Text}
 use Rattle.fc_text.specs.Bytes.{colon, is_gap, number_sign}
 use Rattle.fc_text.specs.Lines.{lines_from, Piece, trim_carriage_return, words_from}
 use Rattle.fc_text.specs.declared.board.reader.Section.{Section}
@@ -24,40 +25,40 @@ pub data Line : Type 0 where
 
 -- ---- one line
 
-abbrev pub heights_names : List (List ℕ)
+abbrev pub heights_names : List Text
 heights_names = codes "foundations" ∷ codes "foundation" ∷ codes "founds" ∷ codes "found" ∷ codes "decks" ∷ codes "deck" ∷ []
 
-abbrev pub cells_names : List (List ℕ)
+abbrev pub cells_names : List Text
 cells_names = codes "freecells" ∷ codes "freecell" ∷ codes "fc" ∷ []
 
 abbrev pub is_colon : ℕ → Bool
 is_colon byte = byte == colon
 
 -- what comes before the first colon is one of the names, in any case
-abbrev pub is_named : List (List ℕ) → List ℕ → Bool
+abbrev pub is_named : List Text → Text → Bool
 is_named names bytes = list_any is_colon bytes && list_any (str_eq_ignore_ascii_case (before_first is_colon bytes)) names
 
 -- the row of a named line: its words are those after the colon
-abbrev pub named_row : Section → ℕ → List ℕ → Row
+abbrev pub named_row : Section → ℕ → Text → Row
 named_row section start bytes =
     record { section = section; start = start; words = words_from is_gap (start + position_or_len is_colon bytes + 1) (after_first is_colon bytes) }
 
 -- the row of a column: one colon may be at its front
-abbrev pub column_row : ℕ → List ℕ → Row
+abbrev pub column_row : ℕ → Text → Row
 column_row start [] = record { section = Column; start = start; words = [] }
 column_row start (byte ∷ rest) =
     let words = if byte == colon then words_from is_gap (start + 1) rest else words_from is_gap start (byte ∷ rest) in
     record { section = Column; start = start; words = words }
 
 -- the row of a line that begins with its first word
-abbrev pub row_of : ℕ → List ℕ → Row
+abbrev pub row_of : ℕ → Text → Row
 row_of start bytes =
     if is_named heights_names bytes then named_row Foundations start bytes
     else if is_named cells_names bytes then named_row Freecells start bytes
     else column_row start bytes
 
 -- what a line is, once the blanks and tabs at its front are gone
-abbrev pub line_of_front : ℕ → List ℕ → Line
+abbrev pub line_of_front : ℕ → Text → Line
 line_of_front start [] = Blank start
 line_of_front start (byte ∷ rest) = if byte == number_sign then Comment else Content (row_of start (byte ∷ rest))
 
@@ -92,5 +93,5 @@ abbrev pub rows_of_lines : List Line → List Row
 rows_of_lines lines = rows_within 8 (drop (prefix_len is_empty lines) lines)
 
 -- the rows of a text
-abbrev pub rows_of : List ℕ → List Row
+abbrev pub rows_of : Text → List Row
 rows_of text = rows_of_lines (map line_of (lines_from 0 text))

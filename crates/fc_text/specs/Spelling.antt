@@ -5,7 +5,7 @@ use Rattle.std.specs.Prelude.{◌||◌, ◌∷◌, ◌≡◌, ◌≤◌, [], Boo
 use Rattle.std.specs.Prelude.{if◌then◌else◌, length, List, map, None, not, Option, position}
 use Rattle.std.specs.Prelude.{replicate, Some, take, true, ℕ}
 use Rattle.std.specs.Str.{bytes_eq, str_to_ascii_lowercase}
-use Rattle.fc_card.specs.{card_of, rank_letters, suit_letters}
+use Rattle.fc_card.specs.{card_of, rank_letters, suit_letters, Types.{Card, Pile, Text}}
 use Rattle.fc_board.specs.{Boards.{Board, IsWellFormed}, Games.{Game}}
 use Rattle.fc_text.specs.{Bytes.{colon, dash, is_gap, star}, Lines.{Piece, words, words_from}}
 use Rattle.fc_text.specs.Rows.{Blank, column_row, Comment, Content, is_empty, Line, Row, row_of}
@@ -17,42 +17,42 @@ use Rattle.fc_text.specs.declared.board.spelling.Foundation.{Foundation}
 -- -------- The words of cards, cells and heights, in either case. From: Freecell Solver's board text; `1` for the ace is this project's profile.
 
 -- the place of a word of one letter, in either case, among these letters
-abbrev pub letter_spelled : List ℕ → List ℕ → Option ℕ
+abbrev pub letter_spelled : Text → Text → Option ℕ
 letter_spelled letters [] = None
 letter_spelled letters (letter ∷ []) = position (λ known. known == to_ascii_uppercase letter) letters
 letter_spelled letters (letter ∷ next ∷ rest) = None
 
 -- a suit by its number: its letter
-abbrev pub suit_spelled : List ℕ → Option ℕ
+abbrev pub suit_spelled : Text → Option ℕ
 suit_spelled word = letter_spelled suit_letters word
 
 -- a rank, counted from 0: its letter, or 10 for the ten and 1 for the ace
-abbrev pub rank_spelled : List ℕ → Option ℕ
+abbrev pub rank_spelled : Text → Option ℕ
 rank_spelled word =
     if bytes_eq word (codes "10") then Some 9
     else if bytes_eq word (codes "1") then Some 0
     else letter_spelled rank_letters word
 
 -- a height: 0, or the rank that it ends with
-abbrev pub height_spelled : List ℕ → Option ℕ
+abbrev pub height_spelled : Text → Option ℕ
 height_spelled word = if bytes_eq word (codes "0") then Some 0 else option_map (λ rank. rank + 1) (rank_spelled word)
 
 -- the card that a word spells: a rank, and a suit of one letter
-abbrev pub card_spelled : List ℕ → Option ℕ
+abbrev pub card_spelled : Text → Option Card
 card_spelled word =
     let letters = length word - 1 in
     option_and_then (λ rank. option_map (λ suit. card_of (rank + 1) suit) (suit_spelled (drop letters word))) (rank_spelled (take letters word))
 
 -- a dash or a star
-abbrev pub is_empty_mark : List ℕ → Bool
+abbrev pub is_empty_mark : Text → Bool
 is_empty_mark word = bytes_eq word (dash ∷ []) || bytes_eq word (star ∷ [])
 
 -- what a word of the cells spells: an empty cell, or a card in one
-abbrev pub cell_spelled : List ℕ → Option (Option ℕ)
+abbrev pub cell_spelled : Text → Option (Option Card)
 cell_spelled word = if is_empty_mark word then Some None else option_map (λ card. Some card) (card_spelled word)
 
 -- the foundation that a word spells: a suit of one letter, a dash, and a height
-abbrev pub foundation_spelled : List ℕ → Option Foundation
+abbrev pub foundation_spelled : Text → Option Foundation
 foundation_spelled (letter ∷ mark ∷ rest) =
     if mark == dash then option_and_then (λ suit. option_map (λ height. record { suit = suit; height = height }) (height_spelled rest)) (suit_spelled (letter ∷ []))
     else None
@@ -77,7 +77,7 @@ words_of section rows = flat_map (λ row. row.words) (lines_of section rows)
 -- ---- words that spell items
 
 -- the words spell the items one by one
-abbrev pub OneByOne : {X : Type 0} → (List ℕ → Option X) → List Piece → List X → Type 0
+abbrev pub OneByOne : {X : Type 0} → (Text → Option X) → List Piece → List X → Type 0
 OneByOne spelled words items = map (λ word. spelled word.bytes) words ≡ map Some items
 
 -- the items take the first places, and the other places are empty
@@ -100,11 +100,11 @@ heights_of foundations = map (height_in foundations) (0 ∷ 1 ∷ 2 ∷ 3 ∷ []
 -- ---- the relation
 
 -- said again: faultless_texts_spell_one_board
-pub record Spells (game : Game) (text : List ℕ) (board : Board) : Type 0 where
+pub record Spells (game : Game) (text : Text) (board : Board) : Type 0 where
   -- what the words spell
   pub foundations : List Foundation
-  pub cells : List (Option ℕ)
-  pub columns : List (List ℕ)
+  pub cells : List (Option Card)
+  pub columns : List Pile
   -- there is at most one line of the foundations; its words are of distinct suits, and give the heights
   pub one_foundations_line : length (lines_of Foundations (rows_of text)) ≤ 1
   pub foundations_spelled : OneByOne foundation_spelled (words_of Foundations (rows_of text)) foundations
@@ -124,9 +124,9 @@ pub record Spells (game : Game) (text : List ℕ) (board : Board) : Type 0 where
 -- -------- What it is that a name begins the lines of a section. From: Freecell Solver's board text.
 
 -- a line that begins with this name, in any case, and a colon is of this section, and its words are those after the colon
-abbrev pub NamesRow : Section → List ℕ → Type 0
+abbrev pub NamesRow : Section → Text → Type 0
 NamesRow section name =
-    (start : ℕ) (spelled rest : List ℕ) → str_to_ascii_lowercase spelled ≡ name
+    (start : ℕ) (spelled rest : Text) → str_to_ascii_lowercase spelled ≡ name
     → row_of start (spelled ++ colon ∷ rest) ≡ record { section = section; start = start; words = words_from is_gap (start + (length spelled + 1)) rest }
 
 -- -------- Which lines of a board's text are rows, by the lines that come before each. This project's profile: a blank line is an empty column, but for those before the first line that is neither blank nor a comment and after the eighth column.
@@ -152,10 +152,10 @@ pub data AreRows : List Line → List Row → Type 0 where
 -- -------- The board that the words of a text give, where none of them is at fault. From: Freecell Solver's board text and this project's profile.
 
 -- what the words spell, without those that spell nothing
-abbrev pub all_spelled : {X : Type 0} → (List ℕ → Option X) → List Piece → List X
+abbrev pub all_spelled : {X : Type 0} → (Text → Option X) → List Piece → List X
 all_spelled spelled words = filter_map (λ word. spelled word.bytes) words
 
-abbrev pub board_of : Game → List ℕ → Board
+abbrev pub board_of : Game → Text → Board
 board_of game text = record {
   heights = heights_of (all_spelled foundation_spelled (words_of Foundations (rows_of text)));
   cells = padded_with game.cells None (all_spelled cell_spelled (words_of Freecells (rows_of text)));

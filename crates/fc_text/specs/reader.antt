@@ -6,7 +6,7 @@ use Rattle.std.specs.Prelude.{All, Bool, count_by, drop, Err, false, if◌then�
 use Rattle.std.specs.Prelude.{List, map, nat_le, nat_lt, None, not, Ok, Option, position, replicate}
 use Rattle.std.specs.Prelude.{Result, set, slice_index, slice_index_or, Some, suc, take, true, zero}
 use Rattle.std.specs.{Prelude.{ℕ}, Str.{str_to_ascii_lowercase}}
-use Rattle.fc_card.specs.{places, rank_letters, suit_letters}
+use Rattle.fc_card.specs.{places, rank_letters, suit_letters, Types.{Card, Pile, Text}}
 use Rattle.fc_board.specs.{Boards.{Board}, Games.{Game}, inside.{AreBounds, columns_between}}
 use Rattle.fc_board.specs.Moves.{move_between}
 use Rattle.fc_board.specs.declared.moves.{Move.{Move}, Place.{Place, TheVariants.{Cell as ToCell}}}
@@ -48,17 +48,17 @@ suit_part letter = number_or 64 (position (λ known. known == letter) suit_lette
 -- -------- Words of which none begins another.
 
 -- the other word is this one and more
-abbrev pub IsProperPrefix : List ℕ → List ℕ → Type 0
-IsProperPrefix word other = (rest : List ℕ) × (rest ≢ []) × (other ≡ word ++ rest)
+abbrev pub IsProperPrefix : Text → Text → Type 0
+IsProperPrefix word other = (rest : Text) × (rest ≢ []) × (other ≡ word ++ rest)
 
 -- none of the words is a proper prefix of another
-abbrev pub IsPrefixFree : List (List ℕ) → Type 0
-IsPrefixFree words = (word other : List ℕ) → Contains words word → Contains words other → ¬ IsProperPrefix word other
+abbrev pub IsPrefixFree : List Text → Type 0
+IsPrefixFree words = (word other : Text) → Contains words word → Contains words other → ¬ IsProperPrefix word other
 
 -- -------- The move that a word names, character by character, as it is read. What a token of a move is is said without it.
 
 -- the index of this character among these
-abbrev pub index_among : List ℕ → ℕ → Option ℕ
+abbrev pub index_among : Text → ℕ → Option ℕ
 index_among characters character = position (λ known. known == character) characters
 
 -- a column, or one of the game's cells
@@ -76,13 +76,13 @@ target_named game character = option_or
     (if character == home_letter then Some Home else None))
 
 -- the move that two characters in lower case name
-abbrev pub move_of_two : Game → List ℕ → Option Move
+abbrev pub move_of_two : Game → Text → Option Move
 move_of_two game (source ∷ target ∷ []) =
     option_and_then (λ from. option_map (λ to. move_between from to) (target_named game target)) (source_named game source)
 move_of_two game _ = None
 
 -- the move of the game that the word names
-abbrev pub move_named : Game → List ℕ → Option Move
+abbrev pub move_named : Game → Text → Option Move
 move_named game word = move_of_two game (str_to_ascii_lowercase word)
 
 -- -------- The move of several cards that a word names, character by character, as it is read. What a token of such a move is is said without it.
@@ -107,7 +107,7 @@ with_count (One move) count = None
 with_count (Run from to other) count = Some (Run from to (Some count))
 
 -- the move that these characters in lower case name: two are its piles, and v and a digit may follow
-abbrev pub run_of_word : Game → List ℕ → Option RunMove
+abbrev pub run_of_word : Game → Text → Option RunMove
 run_of_word game (source ∷ target ∷ []) = option_map as_run (move_of_two game (source ∷ target ∷ []))
 run_of_word game (source ∷ target ∷ letter ∷ digit ∷ []) =
     if letter == count_letter then option_and_then (λ move. option_and_then (with_count (as_run move)) (count_named digit)) (move_of_two game (source ∷ target ∷ []))
@@ -115,44 +115,44 @@ run_of_word game (source ∷ target ∷ letter ∷ digit ∷ []) =
 run_of_word game _ = None
 
 -- the move of the game that the word names
-abbrev pub run_named : Game → List ℕ → Option RunMove
+abbrev pub run_named : Game → Text → Option RunMove
 run_named game word = run_of_word game (str_to_ascii_lowercase word)
 
 -- -------- How lists of moves are read from the front. What a text lists is said without it.
 
 -- no byte separates words
-abbrev pub IsInOnePiece : List ℕ → Type 0
+abbrev pub IsInOnePiece : Text → Type 0
 IsInOnePiece bytes = All (λ byte. separates_tokens byte ≡ false) bytes
 
 -- the words before those that are left are one by one tokens of the items, which are as many as a list may have at most
-pub record ReadSoFar {Item : Type 0} (Names : List ℕ → Item → Type 0) (words left : List Piece) (items : List Item) : Type 0 where
+pub record ReadSoFar {Item : Type 0} (Names : Text → Item → Type 0) (words left : List Piece) (items : List Item) : Type 0 where
   pub good : List Piece
   pub words_are : words ≡ good ++ left
   pub named : AllZip Names (map (λ word. word.bytes) good) items
   pub at_most : length items ≤ most_moves
 
 -- the words of the text before this place are tokens of the items
-pub record IsReadTo {Item : Type 0} (Names : List ℕ → Item → Type 0) (text : List ℕ) (at : ℕ) (items : List Item) : Type 0 where
+pub record IsReadTo {Item : Type 0} (Names : Text → Item → Type 0) (text : Text) (at : ℕ) (items : List Item) : Type 0 where
   pub within : at ≤ length text
   pub read : ReadSoFar Names (words_from separates_tokens 0 text) (words_from separates_tokens at (drop at text)) items
 
 -- a blank and a word of two bytes come first, and the word is a token of the item
-pub record BeginsWithPair {Item : Type 0} (Names : List ℕ → Item → Type 0) (bytes : List ℕ) (item : Item) : Type 0 where
-  pub word : List ℕ
+pub record BeginsWithPair {Item : Type 0} (Names : Text → Item → Type 0) (bytes : Text) (item : Item) : Type 0 where
+  pub word : Text
   pub names : Names word item
   pub long : 3 ≤ length bytes
   pub words : (start : ℕ) → words_from separates_tokens start bytes ≡ record { start = start + 1; bytes = word } ∷ words_from separates_tokens (start + 3) (drop 3 bytes)
 
 -- the first word is a token
-abbrev pub BeginsWithToken : {Item : Type 0} → (List ℕ → Item → Type 0) → List ℕ → Type 0
+abbrev pub BeginsWithToken : {Item : Type 0} → (Text → Item → Type 0) → Text → Type 0
 BeginsWithToken Names text = (word : Piece) × (later : List Piece) × (words_from separates_tokens 0 text ≡ word ∷ later) × HasToken Names word
 
 -- -------- Words of lemmas for the print of lists in one form.
 
-abbrev pub print_moves : List Move → List ℕ
+abbrev pub print_moves : List Move → Text
 print_moves moves = join_with_byte blank (map token moves)
 
-abbrev pub print_runs : List RunMove → List ℕ
+abbrev pub print_runs : List RunMove → Text
 print_runs moves = join_with_byte blank (map run_token moves)
 
 -- -------- How little need be kept of the lines and words that were read, so that the next one can be tried: a text is read in one pass and in fixed memory. What a text spells is said without it.
@@ -163,8 +163,8 @@ pub record Known : Type 0 where
   pub cells_line : Bool
   -- the heights that were named, by suit; the cells and the columns so far
   pub heights : List (Option ℕ)
-  pub cells : List (Option ℕ)
-  pub columns : List (List ℕ)
+  pub cells : List (Option Card)
+  pub columns : List Pile
   -- for each card, whether it was named
   pub seen : List Bool
 
@@ -188,7 +188,7 @@ abbrev pub has_room : Known → Bool
 has_room known = nat_lt (length known.columns) 8
 
 -- the card was named
-abbrev pub is_seen : List Bool → ℕ → Bool
+abbrev pub is_seen : List Bool → Card → Bool
 is_seen seen card = slice_index_or seen card false
 
 -- the suit was named
@@ -196,11 +196,11 @@ abbrev pub is_named_suit : List (Option ℕ) → ℕ → Bool
 is_named_suit heights suit = is_some (slice_index_or heights suit None)
 
 -- for each card, whether it was named before or is among these
-unfoldable pub also_seen : List Bool → List ℕ → List Bool
+unfoldable pub also_seen : List Bool → List Card → List Bool
 also_seen seen cards = map (λ card. is_seen seen card || list_any (λ other. other == card) cards) (places 52)
 
 -- the card at the end of the last column
-abbrev pub add_to_last : List (List ℕ) → ℕ → List (List ℕ)
+abbrev pub add_to_last : List Pile → Card → List Pile
 add_to_last [] card = []
 add_to_last (column ∷ []) card = (column ++ card ∷ []) ∷ []
 add_to_last (column ∷ next ∷ columns) card = column ∷ add_to_last (next ∷ columns) card
@@ -217,12 +217,12 @@ is_full game known Foundations = false
 is_full game known Column = false
 
 -- a suit that the word names was named
-abbrev pub renames_suit : Known → Section → List ℕ → Bool
+abbrev pub renames_suit : Known → Section → Text → Bool
 renames_suit known Foundations word = list_any (λ foundation. is_named_suit known.heights foundation.suit) (option_to_list (foundation_spelled word))
 renames_suit known Freecells word = false
 renames_suit known Column word = false
 
-abbrev pub known_word_fault : Game → Known → Section → List ℕ → Option BoardFaultKind
+abbrev pub known_word_fault : Game → Known → Section → Text → Option BoardFaultKind
 known_word_fault game known section word =
     if is_full game known section then Some TooManyCells
     else if not (has_form section word) then Some (bad_word section)
@@ -230,7 +230,7 @@ known_word_fault game known section word =
     else if list_any (is_seen known.seen) (cards_of_word section word) then Some RepeatedCard
     else None
 
-abbrev pub known_part_fault : Game → Known → Section → Option (List ℕ) → Option BoardFaultKind
+abbrev pub known_part_fault : Game → Known → Section → Option Text → Option BoardFaultKind
 known_part_fault game known section None = known_line_fault known section
 known_part_fault game known section (Some word) = known_word_fault game known section word
 
@@ -240,40 +240,40 @@ known_fault game known item = option_map (λ kind. record { place = item.place; 
 -- ---- what is known after a line and after a word
 
 -- a line of this section begins
-abbrev pub is_line_of : Section → Section → Option (List ℕ) → Bool
+abbrev pub is_line_of : Section → Section → Option Text → Bool
 is_line_of counted section part = is_section counted section && not (is_some part)
 
 abbrev pub with_foundation : List (Option ℕ) → Option Foundation → List (Option ℕ)
 with_foundation heights None = heights
 with_foundation heights (Some foundation) = set heights foundation.suit (Some foundation.height)
 
-abbrev pub heights_after : List (Option ℕ) → Section → Option (List ℕ) → List (Option ℕ)
+abbrev pub heights_after : List (Option ℕ) → Section → Option Text → List (Option ℕ)
 heights_after heights Foundations None = heights
 heights_after heights Foundations (Some word) = with_foundation heights (foundation_spelled word)
 heights_after heights Freecells part = heights
 heights_after heights Column part = heights
 
-abbrev pub cells_after : List (Option ℕ) → Section → Option (List ℕ) → List (Option ℕ)
+abbrev pub cells_after : List (Option Card) → Section → Option Text → List (Option Card)
 cells_after cells Foundations part = cells
 cells_after cells Freecells None = cells
 cells_after cells Freecells (Some word) = cells ++ option_to_list (cell_spelled word)
 cells_after cells Column part = cells
 
-abbrev pub with_card : List (List ℕ) → Option ℕ → List (List ℕ)
+abbrev pub with_card : List Pile → Option ℕ → List Pile
 with_card columns None = columns
 with_card columns (Some card) = add_to_last columns card
 
-abbrev pub columns_after : List (List ℕ) → Section → Option (List ℕ) → List (List ℕ)
+abbrev pub columns_after : List Pile → Section → Option Text → List Pile
 columns_after columns Foundations part = columns
 columns_after columns Freecells part = columns
 columns_after columns Column None = columns ++ [] ∷ []
 columns_after columns Column (Some word) = with_card columns (card_spelled word)
 
-abbrev pub seen_after : List Bool → Section → Option (List ℕ) → List Bool
+abbrev pub seen_after : List Bool → Section → Option Text → List Bool
 seen_after seen section None = seen
 seen_after seen section (Some word) = also_seen seen (cards_of_word section word)
 
-abbrev pub after_part : Known → Section → Option (List ℕ) → Known
+abbrev pub after_part : Known → Section → Option Text → Known
 after_part known section part = record {
   foundations_line = is_line_of Foundations section part || known.foundations_line;
   cells_line = is_line_of Freecells section part || known.cells_line;
@@ -325,7 +325,7 @@ known_of kept = record {
 }
 
 -- the card is laid after so many others, and so many cards lie then in so many columns: it lies in the last of them, where there are any
-abbrev pub Lays : List ℕ → ℕ → ℕ → ℕ → List ℕ → ℕ → Type 0
+abbrev pub Lays : List ℕ → ℕ → ℕ → Card → List ℕ → ℕ → Type 0
 Lays old count zero card new next = (new ≡ set old count card) × (next ≡ count)
 Lays old count (suc columns) card new next = (new ≡ set old count card) × (next ≡ count + 1)
 
@@ -379,7 +379,7 @@ pub record Leaves (game : Game) (old : Known) (items : List Item) (new : Known) 
 -- -------- What it is to take one more line or word of a text: it is at fault after what is known, or more is known after it.
 
 -- the beginning of a line, or a word of it, is taken with this result
-abbrev pub TakesPart : {X : Type 0} → Game → Known → Section → Option (List ℕ) → Known → Result X BoardFaultKind → Type 0
+abbrev pub TakesPart : {X : Type 0} → Game → Known → Section → Option Text → Known → Result X BoardFaultKind → Type 0
 TakesPart game old section part new (Ok taken) = (known_part_fault game old section part ≡ None) × (new ≡ after_part old section part)
 TakesPart game old section part new (Err kind) = known_part_fault game old section part ≡ Some kind
 
@@ -408,14 +408,14 @@ TakesItems game old items new (Err fault) = first_known_fault game old items ≡
 -- ---- the front of a line
 
 -- the line's row is of this section, and its words come after so many bytes
-abbrev pub IsHead : ℕ → List ℕ → Section → ℕ → Type 0
+abbrev pub IsHead : ℕ → Text → Section → ℕ → Type 0
 IsHead start bytes section head =
     row_of start bytes ≡ record { section = section; start = start; words = words_from is_gap (start + head) (drop head bytes) }
 
 -- -------- What it is to mark cards that a word names. This project's profile: a card that an earlier word names is a fault.
 
 -- none of the cards was seen and now all are, or one of them was seen before
-abbrev pub Sees : {X : Type 0} → List Bool → List ℕ → List Bool → Result X BoardFaultKind → Type 0
+abbrev pub Sees : {X : Type 0} → List Bool → List Card → List Bool → Result X BoardFaultKind → Type 0
 Sees old cards new (Ok taken) = (list_any (is_seen old) cards ≡ false) × (new ≡ also_seen old cards)
 Sees old cards new (Err kind) = (list_any (is_seen old) cards ≡ true) × (kind ≡ RepeatedCard) × (new ≡ old)
 
@@ -433,19 +433,19 @@ abbrev pub suit_code : ℕ → ℕ
 suit_code letter = number_or 64 (suit_spelled (letter ∷ []))
 
 -- the bytes are a blank and the rest, or both are nothing
-abbrev pub AfterBlank : List ℕ → List ℕ → Type 0
+abbrev pub AfterBlank : Text → Text → Type 0
 AfterBlank [] rest = rest ≡ []
 AfterBlank (byte ∷ bytes) rest = (byte ≡ blank) × (rest ≡ bytes)
 
 -- the first word spells the card, and the other words are those of the rest
-pub record BeginsWithCard (bytes : List ℕ) (card : ℕ) (rest : List ℕ) : Type 0 where
-  pub word : List ℕ
+pub record BeginsWithCard (bytes : Text) (card : Card) (rest : Text) : Type 0 where
+  pub word : Text
   pub spelled : card_spelled word ≡ Some card
   pub shorter : length rest < length bytes
   pub words : (start : ℕ) → words_from is_gap start bytes ≡ record { start = start; bytes = word } ∷ words_from is_gap (start + (length bytes - length rest)) rest
 
 -- words of a section are taken from the front, and those of the rest are left
-pub record LeavesWords (game : Game) (section : Section) (old : Known) (bytes : List ℕ) (new : Known) (rest : List ℕ) : Type 0 where
+pub record LeavesWords (game : Game) (section : Section) (old : Known) (bytes : Text) (new : Known) (rest : Text) : Type 0 where
   pub within : length rest ≤ length bytes
   pub items : (start : ℕ)
       → Leaves game old (items_of_words section (words_from is_gap start bytes)) new (items_of_words section (words_from is_gap (start + (length bytes - length rest)) rest))

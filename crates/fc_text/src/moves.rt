@@ -1,6 +1,7 @@
 //! Moves in standard FreeCell notation, of one card and of several.
 ghost use Rattle.std.specs.Prelude.{◌++◌, ◌<◌, ◌∷◌, ◌≡◌, ◌≤◌, [], All, Err, IfOk, IfSome, IsOk};
-ghost use Rattle.std.specs.Prelude.{IsOkAnd, List, None, OnOk, ℕ};
+ghost use Rattle.std.specs.Prelude.{IsOkAnd, None, OnOk, ℕ};
+ghost use Rattle.fc_card.specs.Types.{Text};
 ghost use Rattle.fc_board.proofs.EightOffLemmas.{move_fits, run_fits};
 ghost use Rattle.fc_board.specs.{Games.{eight_off, Game}, Moves.{Fits, OneCard, RunFits, Runs}};
 ghost use Rattle.fc_text.specs.{Bytes.{blank}, Lines.{words_from}, Notation.{BadTokenAt}};
@@ -27,9 +28,9 @@ pub const MOST_MOVES: usize = 4096;
 /// What a list is made of, as text: each item is one token. Moves of every game are moves of
 /// Eight Off.
 pub trait Notated: Playable {
-    ghost is_token: { Game → List ℕ → Self → Type 0 };
+    ghost is_token: { Game → Text → Self → Type 0 };
 
-    ghost token_of: { Self → List ℕ };
+    ghost token_of: { Self → Text };
 
     /// The item of `R` that a word is a token of.
     fn from_word<R: Rule>(word: &[u8]) -> Option<Self>
@@ -47,7 +48,7 @@ pub trait Notated: Playable {
         requires { Self.fits_game eight_off self.now }
         ensures { OnOk result (text.new.items ≡ text.old.items ++ (blank ∷ token_of self.now)) };
 
-    ghost tokens_fit: { (game : Game) (word : List ℕ) (item : Self)
+    ghost tokens_fit: { (game : Game) (word : Text) (item : Self)
         → is_token game word item → Self.fits_game game item };
 
     ghost fits_eight_off: { (game : Game) → game.cells ≤ 8

@@ -5,7 +5,7 @@
 ghost use Rattle.std.specs.{List.{flat_map}, Prelude.{◌*◌, ◌++◌, ◌+◌, ◌≡◌, ◌≤◌, All, drop, IfSome}};
 ghost use Rattle.std.specs.Prelude.{IsNone, IsSome, length, List, Option, slice_index, slice_range};
 ghost use Rattle.std.specs.Prelude.{Some, take, true, ℕ};
-ghost use Rattle.fc_card.specs.{AreBitsOf, IsCard};
+ghost use Rattle.fc_card.specs.{AreBitsOf, IsCard, Types.{Pile, Text}};
 ghost use Rattle.fc_board.specs.Boards.{Board as Layout, IsHeight, IsWellFormed};
 ghost use Rattle.fc_board.specs.{inside.{AscendTo, columns_from, size_of}, laws.ListWords.{IsCell}};
 ghost use Rattle.fc_text.specs.Printed.{cell_word, cells_line, column_line, foundations_line};
@@ -49,7 +49,7 @@ pub fn read_printed<R: Rule>(text: &[u8]) -> Option<Board<R>>
 pub fn take_printed<R: Rule>(text: &mut &[u8]) -> Option<Board<R>>
     ensures printed { IfSome result (λ board. text.old.now ≡ text_of board ++ text.new.now) }
     ensures well_formed { IfSome result (IsWellFormed R.game) }
-    ensures found { (board : Layout) (rest : List ℕ) → IsWellFormed R.game board
+    ensures found { (board : Layout) (rest : Text) → IsWellFormed R.game board
         → text.old.now ≡ text_of board ++ rest → result ≡ Some board }
     ensures kept { IsNone result → text.new.now ≡ text.old.now }
 {
@@ -72,7 +72,7 @@ pub fn take_printed<R: Rule>(text: &mut &[u8]) -> Option<Board<R>>
 #[inline(always)]
 pub fn strip_prefix<const N: usize>(text: &mut &[u8], front: &[u8; N]) -> Option<()>
     ensures taken { IfSome result (λ _. text.old.now ≡ front.now ++ text.new.now) }
-    ensures found { (rest : List ℕ) → text.old.now ≡ front.now ++ rest → IsSome result }
+    ensures found { (rest : Text) → text.old.now ≡ front.now ++ rest → IsSome result }
     ensures kept { IsNone result → text.new.now ≡ text.old.now }
 {
     let head = text.first_chunk::<N>()?;
@@ -105,7 +105,7 @@ fn take_named_lines<R: Rule>(text: &mut &[u8]) -> Option<Front>
     ensures outside { IfSome result (λ front. All IsNone (drop R.CELLS front.cells)) }
     ensures within { IfSome result (λ front. All IsHeight front.heights) }
     ensures in_deck { IfSome result (λ front. All IsCell (take R.CELLS front.cells)) }
-    ensures found { (board : Layout) (rest : List ℕ) → IsWellFormed R.game board
+    ensures found { (board : Layout) (rest : Text) → IsWellFormed R.game board
         → text.old.now ≡ text_of board ++ rest → IsSome result }
 {
     if R::CELLS == 4 {
@@ -148,7 +148,7 @@ fn take_heights(text: &mut &[u8]) -> Option<[Height; 4]>
     ensures line { IfSome result
         (λ heights. text.old.now ≡ foundations_line heights ++ text.new.now) }
     ensures within { IfSome result (All IsHeight) }
-    ensures found { (heights rest : List ℕ) → length heights ≡ 4 → All IsHeight heights
+    ensures found { (heights : List ℕ) (rest : Text) → length heights ≡ 4 → All IsHeight heights
         → text.old.now ≡ foundations_line heights ++ rest → IsSome result }
 {
     if text.len() < 29 || text[0] != b'F' {
@@ -182,7 +182,7 @@ fn take_cells<R: Rule>(text: &mut &[u8]) -> Option<[Option<Card>; 8]>
         ≡ cells_line (take R.CELLS cells) ++ text.new.now) }
     ensures outside { IfSome result (λ cells. All IsNone (drop R.CELLS cells)) }
     ensures in_deck { IfSome result (λ cells. All IsCell (take R.CELLS cells)) }
-    ensures found { (cells : List (Option ℕ)) (rest : List ℕ) → length cells ≡ R.CELLS
+    ensures found { (cells : List (Option ℕ)) (rest : Text) → length cells ≡ R.CELLS
         → All IsCell cells → text.old.now ≡ cells_line cells ++ rest → IsSome result }
 {
     strip_prefix(text, b"Freecells:")?;
@@ -198,7 +198,7 @@ fn take_cells<R: Rule>(text: &mut &[u8]) -> Option<[Option<Card>; 8]>
 fn take_cell(text: &mut &[u8]) -> Option<Option<Card>>
     ensures word { IfSome result (λ cell. text.old.now ≡ cell_word cell ++ text.new.now) }
     ensures in_deck { IfSome result IsCell }
-    ensures found { (cell : Option ℕ) (rest : List ℕ) → IsCell cell
+    ensures found { (cell : Option ℕ) (rest : Text) → IsCell cell
         → text.old.now ≡ cell_word cell ++ rest → IsSome result }
 {
     match *text {
@@ -225,7 +225,7 @@ fn take_columns(text: &mut &[u8], cards: &mut [Card; 52], ends: &mut [u8; 8]) ->
     ensures ends { IfSome result (λ _. AscendTo 0 ends.new 52) }
     ensures bits { IfSome result (AreBitsOf (take (slice_index ends.new 7) cards.new)) }
     ensures deck { length cards.new ≡ 52 }
-    ensures found { (columns : List (List ℕ)) (rest : List ℕ) → length columns ≡ 8
+    ensures found { (columns : List Pile) (rest : Text) → length columns ≡ 8
         → All (All IsCard) columns → size_of columns ≤ 52
         → text.old.now ≡ flat_map column_line columns ++ rest → IsSome result }
 {
@@ -256,7 +256,7 @@ fn read_column(text: &[u8], cards: &mut [Card; 52], before: Laid, most: usize) -
         ++ drop (3 * laid.count + 2) text.now) }
     ensures bits { IfSome result (λ laid. AreBitsOf (take before.count cards.old) before.bits
         → AreBitsOf (take laid.count cards.new) laid.bits) }
-    ensures found { (column rest : List ℕ) → All IsCard column
+    ensures found { (column : Pile) (rest : Text) → All IsCard column
         → before.count + length column ≤ most
         → drop (3 * before.count) text.now ≡ column_line column ++ rest → IsSome result }
 {

@@ -1,6 +1,6 @@
 -- Words of lemmas for lists of moves in one form, for runs, and for what a pile can hold.
 use Rattle.std.specs.Prelude.{◌∷◌, [], IfSome, List, map, Option, ℕ}
-use Rattle.fc_card.specs.{IsCard}
+use Rattle.fc_card.specs.{IsCard, Types.{Card, Order}}
 use Rattle.fc_board.specs.{Boards.{Board}, Games.{Builds, Game}, Moves.{OneCard}}
 use Rattle.fc_board.specs.Passages.{carried_move, image, Passage, run_image}
 use Rattle.fc_board.specs.Play.{IsWon, Played, Plays}
@@ -10,13 +10,13 @@ use Rattle.fc_board.specs.declared.{moves.Move.{Move}, run_move.RunMove.{RunMove
 -- -------- Words of lemmas for what a pile can hold.
 
 -- what a cell can hold
-abbrev pub IsCell : Option ℕ → Type 0
+abbrev pub IsCell : Option Card → Type 0
 IsCell cell = IfSome cell IsCard
 
 -- -------- Words of lemmas for runs.
 
 -- each card goes on the one before it
-abbrev pub IsRun : Game → List ℕ → Type 0
+abbrev pub IsRun : Game → List Card → Type 0
 IsRun game [] = Unit {0}
 IsRun game (card ∷ []) = Unit {0}
 IsRun game (card ∷ next ∷ cards) = Builds game next card × IsRun game (next ∷ cards)
@@ -34,7 +34,7 @@ MovesPlay game board moves after = Played (Step game) board moves after
 abbrev pub MovesWin : Game → Board → List Move → Type 0
 MovesWin game board moves = (after : Board) × MovesPlay game board moves after × IsWon after
 
-abbrev pub images : List ℕ → List ℕ → List Move → List Move
+abbrev pub images : Order → Order → List Move → List Move
 images columns cells moves = map (image columns cells) moves
 
 abbrev pub carried_moves : Passage → List Move → List Move
@@ -50,5 +50,5 @@ RunLegal game board moves = (after : Board) × RunPlays game board moves after
 abbrev pub RunWins : Game → Board → List RunMove → Type 0
 RunWins game board moves = (after : Board) × RunPlays game board moves after × IsWon after
 
-abbrev pub run_images : List ℕ → List ℕ → List RunMove → List RunMove
+abbrev pub run_images : Order → Order → List RunMove → List RunMove
 run_images columns cells moves = map (run_image columns cells) moves

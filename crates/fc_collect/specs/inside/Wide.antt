@@ -1,9 +1,10 @@
 -- Orders with further places at their end, and passages with such orders.
-use Rattle.std.specs.Prelude.{◌<◌, ◌≡◌, length, List, slice_index, ℕ}
+use Rattle.std.specs.Prelude.{◌<◌, ◌≡◌, length, slice_index, ℕ}
+use Rattle.fc_card.specs.Types.{Order}
 use Rattle.fc_board.specs.{Games.{eight_off, Game}, Passages.{IsPassage, Passage}}
 
 -- the order has eight places, and begins as the other one does
-pub record Widens (wide order : List ℕ) : Type 0 where
+pub record Widens (wide order : Order) : Type 0 where
   pub eight : length wide ≡ 8
   pub same : (place : ℕ) → place < length order → slice_index wide place ≡ slice_index order place
 

@@ -1,7 +1,7 @@
 //! The line of `closed`: whether the boards of a collection are closed, or what is in the way.
 ghost use Rattle.std.specs.List.{find, list_any};
-ghost use Rattle.std.specs.Prelude.{◌++◌, ◌≡◌, [], IfOk, List, map, not, OnOk, ℕ};
-ghost use Rattle.fc_board.specs.declared.moves.Move.{Move as OneCard};
+ghost use Rattle.std.specs.Prelude.{◌++◌, ◌≡◌, [], IfOk, List, map, not, OnOk};
+ghost use Rattle.{fc_board.specs.declared.moves.Move.{Move as OneCard}, fc_card.specs.Types.{Text}};
 ghost use Rattle.fc_bytes.specs.{HoldsMove, IsAllowed, legal_moves, move_bytes};
 ghost use Rattle.fc_collect.specs.Closed.{Closed as IsClosed, Finding, finding_line};
 ghost use Rattle.fc_collect.specs.Closed.{finding_object, finding_of, flaw_of, Flawed, flawless};
@@ -205,7 +205,7 @@ pub(crate) trait PrintsFinding {
     type Refusal: PrintsRefusal;
 
     /// The text of what is found.
-    ghost text: { Finding → List ℕ };
+    ghost text: { Finding → Text };
 
     /// Prints the name of a record, and what is wrong with its board.
     fn print_flawed(name: &[u8], flaw: Flaw, out: &mut Vec<u8>) -> Result<(), AllocError>

@@ -2,7 +2,7 @@
 ghost use Rattle.std.specs.{Fmt.{decimal}, List.{count_by, filter}, Option.{is_some}};
 ghost use Rattle.std.specs.Prelude.{◌++◌, ◌+◌, ◌||◌, ◌∷◌, ◌≡◌, [], false, IfOk, length, List, OnOk};
 ghost use Rattle.std.specs.Prelude.{ℕ};
-ghost use Rattle.fc_board.specs.Play.{list_verdict};
+ghost use Rattle.{fc_board.specs.Play.{list_verdict}, fc_card.specs.Types.{Text}};
 ghost use Rattle.fc_record.specs.{inside.Fitting.{AllFit}, Tables.{is_win}};
 ghost use Rattle.fc_collect.specs.Groups.{figures, figures_line, figures_object, Member};
 ghost use Rattle.fc_collect.specs.{Groups.{solution_of}, inside.{figures_seen, Gathers, group_key}};
@@ -186,7 +186,7 @@ pub(crate) trait PrintsFigures {
     type Refusal: PrintsRefusal;
 
     /// The text of figures with their names.
-    ghost text: { List (List ℕ × ℕ) → List ℕ };
+    ghost text: { List (Text × ℕ) → Text };
 
     /// Prints the figures.
     fn print(figures: &Figures, out: &mut Vec<u8>) -> Result<(), AllocError>

@@ -1,6 +1,7 @@
 //! What a command prints for the records of a collection.
 ghost use Rattle.std.specs.{Option.{option_map}, Prelude.{◌++◌, ◌+◌, ◌^◌, ◌∷◌, ◌≡◌, ◌≤◌, [], Bool}};
 ghost use Rattle.std.specs.Prelude.{IfOk, length, List, OnOk, true, ℕ};
+ghost use Rattle.fc_card.specs.Types.{Text};
 ghost use Rattle.fc_record.specs.Grammar.{after_header, Contents as SaidContents, contents_seen};
 ghost use Rattle.fc_record.specs.Grammar.{Heading as SaidHeading, heading_seen, reading_after};
 ghost use Rattle.fc_record.specs.Grammar.{reading_of};
@@ -27,10 +28,10 @@ pub trait Command {
     type Kept: Drop;
 
     /// The lines for a record after these earlier ones, by its number and what it says.
-    ghost lines: { List Member → ℕ → SaidHeading → SaidContents → List ℕ };
+    ghost lines: { List Member → ℕ → SaidHeading → SaidContents → Text };
 
     /// The lines at the end, by how many records there are and for those that are accepted.
-    ghost ending: { Counts → List Member → List ℕ };
+    ghost ending: { Counts → List Member → Text };
 
     /// Whether these records fail together, which counts as one more that is refused.
     ghost fails: { List Member → Bool };

@@ -1,4 +1,5 @@
 -- What clauses see of the lists and of the printed text that the code holds.
+use Rattle.fc_card.specs.Types.{Text}
 use Rattle.fc_record.specs.declared.record.move_list.Form.TheVariants as form
 use Rattle.std.proofs.Math.Bool.{Bool-set}
 use Rattle.std.specs.Coded.{×_prop, Coded-set, coded_list, coded_ℕ, le_prop, Unit-prop}
@@ -47,10 +48,10 @@ AllFit-prop game lists x y i place d within = ListFits-prop game (get_or lists p
 -- -------- The text of a board, where a record has it as it is printed; two proofs that it is are equal.
 
 -- the printed text of the board, if it is a text
-abbrev pub IsPrinted : Option (List ℕ) → Board → Type 0
+abbrev pub IsPrinted : Option Text → Board → Type 0
 IsPrinted printed board = IfSome printed (λ text. text ≡ text_of board)
 
-pub IsPrinted-prop : (printed : Option (List ℕ)) (board : Board) → IsProp (IsPrinted printed board)
+pub IsPrinted-prop : (printed : Option Text) (board : Board) → IsProp (IsPrinted printed board)
 IsPrinted-prop None board = Unit-prop
 IsPrinted-prop (Some text) board = Coded-set (coded_list coded_ℕ) text (text_of board)
 

@@ -1,7 +1,7 @@
 //! What is printed for a record that is refused, and the reasons for refusing a record and a move.
 ghost use Rattle.std.specs.Option.{option_map};
-ghost use Rattle.std.specs.Prelude.{◌++◌, ◌+◌, ◌^◌, ◌∷◌, ◌≡◌, ◌≤◌, [], List, OnOk, Option, ℕ};
-ghost use Rattle.{fc_board.specs.Steps.{step_reason}, fc_card.specs.{card_text}};
+ghost use Rattle.std.specs.Prelude.{◌++◌, ◌+◌, ◌^◌, ◌∷◌, ◌≡◌, ◌≤◌, [], OnOk, Option};
+ghost use Rattle.{fc_board.specs.Steps.{step_reason}, fc_card.specs.{card_text, Types.{Text}}};
 ghost use Rattle.fc_text.specs.{Bytes.{blank}, Faults.{board_reason}};
 ghost use Rattle.fc_record.specs.Printing.{record_reason, refusal_line};
 ghost use Rattle.fc_record.specs.{RecordTexts.{RecordText as SaidText}, Tables.{refusal_object}};
@@ -18,7 +18,7 @@ use std::alloc::AllocError;
 /// What is printed for each refused record.
 pub trait PrintsRefusal {
     /// The text, by the record's number and place, its name and its fault.
-    ghost text: { SaidText → Option (List ℕ) → FaultValue → List ℕ };
+    ghost text: { SaidText → Option Text → FaultValue → Text };
 
     /// Prints that the record of this number is refused, whose first byte is at `start` in its
     /// collection.
@@ -30,7 +30,7 @@ pub trait PrintsRefusal {
         out: &mut Vec<u8>,
     ) -> Result<(), AllocError>
         requires small { start + fault.place ≤ 2 ^ 62 }
-        ensures printed { (bytes : List ℕ) → OnOk result (out.new.items ≡ out.old.items
+        ensures printed { (bytes : Text) → OnOk result (out.new.items ≡ out.old.items
             ++ text (record { number = number; start = start; bytes = bytes })
             (option_map (λ name. name.now) name.entry) fault) };
 }

@@ -1,7 +1,8 @@
 //! The lines and words of a board's text, taken one after another.
 ghost use Rattle.std.specs.{Option.{option_to_list}, Prelude.{◌<◌, ◌∷◌, ◌≡◌, ◌≤◌, [], false}};
-ghost use Rattle.std.specs.Prelude.{IfErr, List, map, MatchOption, None, set, Some, ℕ};
-ghost use Rattle.{fc_board.specs.Boards.{IsWellFormed}, fc_card.specs.{IsCard, IsLowest, NoCard}};
+ghost use Rattle.std.specs.Prelude.{IfErr, map, MatchOption, None, set, Some};
+ghost use Rattle.fc_card.specs.{IsCard, IsLowest, NoCard, Types.{Text}};
+ghost use Rattle.fc_board.specs.Boards.{IsWellFormed};
 ghost use Rattle.fc_text.specs.{Faults.{cards_at_home}, reader.{board_known, ends_known, has_room}};
 ghost use Rattle.fc_text.specs.reader.{is_begun, is_named_suit, is_seen, known_height, Lays};
 ghost use Rattle.fc_text.specs.reader.{nothing_known, seen_of, Sees, TakesPart};
@@ -183,7 +184,7 @@ impl<R: Rule> Reader<R> {
     /// Puts a card on the last column, if it was not seen before.
     pub(crate) fn put_card(&mut self, card: Card) -> Result<(), BoardFaultKind>
         requires { IsCard card }
-        ensures taken { (word : List ℕ) → card_spelled word ≡ Some card
+        ensures taken { (word : Text) → card_spelled word ≡ Some card
             → TakesPart R.game self.old Column (Some word) self.new result }
         ensures kept { IfErr result (λ _. self.new ≡ self.old) }
     {
