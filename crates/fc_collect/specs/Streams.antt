@@ -54,6 +54,9 @@ pub record Stream (T : Type 0) : Type 0 where
   pub old : Counted T
   pub new : Counted T
 
+abbrev pub stream : {T : Type 0} → (T → Option Text) → Counted T → Counted T → Stream T
+stream bytes old new = record { bytes = bytes; old = old; new = new }
+
 -- the bytes that the input had and those that it has left, those that the output held and those that it holds
 pub record StreamBytes : Type 0 where
   pub input : Option Text

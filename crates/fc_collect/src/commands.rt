@@ -1,7 +1,8 @@
 //! The runs of the commands over collections.
 ghost use Rattle.std.specs.Prelude.{◌≡◌};
 ghost use Rattle.fc_collect.specs.{Limits.{AreCountable, standard}, Promises.{ResultFits}};
-ghost use Rattle.fc_collect.specs.{Runs.{count_format, printing_of, RunsWithin}, Streams.{HasRoom}};
+ghost use Rattle.fc_collect.specs.Runs.{count_format, printing_of, RunsWithin};
+ghost use Rattle.fc_collect.specs.Streams.{HasRoom, stream};
 ghost use Rattle.fc_collect.specs.declared.commands.Format.TheVariants.{Lines};
 ghost use Rattle.fc_collect.specs.declared.commands.RunKind.TheVariants.{Canon, Check, Expand};
 ghost use Rattle.fc_collect.specs.declared.commands.RunKind.TheVariants.{Group, Share, Show, Table};
@@ -107,8 +108,8 @@ pub fn run_show<Rd: Read, Wr: Write>(
     requires input_low { HasRoom input.old }
     requires output_low { HasRoom output.old }
     ensures { RunsWithin standard (ResultFits standard (printing_of Show variant))
-        (record { bytes = Rd.remaining; old = input.old; new = input.new })
-        (record { bytes = Wr.contents; old = output.old; new = output.new }) result }
+        (stream Rd.remaining input.old input.new) (stream Wr.contents output.old output.new)
+        result }
 {
     run_whole(alloc, RunKind::Show, variant, input, output)
 }
@@ -124,8 +125,8 @@ pub fn run_canon<Rd: Read, Wr: Write>(
     requires input_low { HasRoom input.old }
     requires output_low { HasRoom output.old }
     ensures { RunsWithin standard (ResultFits standard (printing_of Canon variant))
-        (record { bytes = Rd.remaining; old = input.old; new = input.new })
-        (record { bytes = Wr.contents; old = output.old; new = output.new }) result }
+        (stream Rd.remaining input.old input.new) (stream Wr.contents output.old output.new)
+        result }
 {
     run_whole(alloc, RunKind::Canon, variant, input, output)
 }
@@ -140,8 +141,8 @@ pub fn run_check<Rd: Read, Wr: Write>(
     requires input_low { HasRoom input.old }
     requires output_low { HasRoom output.old }
     ensures { RunsWithin standard (ResultFits standard (printing_of Check variant))
-        (record { bytes = Rd.remaining; old = input.old; new = input.new })
-        (record { bytes = Wr.contents; old = output.old; new = output.new }) result }
+        (stream Rd.remaining input.old input.new) (stream Wr.contents output.old output.new)
+        result }
 {
     run_whole(alloc, RunKind::Check, variant, input, output)
 }
@@ -156,8 +157,8 @@ pub fn run_expand<Rd: Read, Wr: Write>(
     requires input_low { HasRoom input.old }
     requires output_low { HasRoom output.old }
     ensures { RunsWithin standard (ResultFits standard (printing_of Expand variant))
-        (record { bytes = Rd.remaining; old = input.old; new = input.new })
-        (record { bytes = Wr.contents; old = output.old; new = output.new }) result }
+        (stream Rd.remaining input.old input.new) (stream Wr.contents output.old output.new)
+        result }
 {
     run_whole(alloc, RunKind::Expand, variant, input, output)
 }
@@ -173,8 +174,8 @@ pub fn run_group<Rd: Read, Wr: Write>(
     requires input_low { HasRoom input.old }
     requires output_low { HasRoom output.old }
     ensures { RunsWithin standard (ResultFits standard (printing_of Group variant))
-        (record { bytes = Rd.remaining; old = input.old; new = input.new })
-        (record { bytes = Wr.contents; old = output.old; new = output.new }) result }
+        (stream Rd.remaining input.old input.new) (stream Wr.contents output.old output.new)
+        result }
 {
     run_whole(alloc, RunKind::Group, variant, input, output)
 }
@@ -190,8 +191,8 @@ pub fn run_share<Rd: Read, Wr: Write>(
     requires input_low { HasRoom input.old }
     requires output_low { HasRoom output.old }
     ensures { RunsWithin standard (ResultFits standard (printing_of Share variant))
-        (record { bytes = Rd.remaining; old = input.old; new = input.new })
-        (record { bytes = Wr.contents; old = output.old; new = output.new }) result }
+        (stream Rd.remaining input.old input.new) (stream Wr.contents output.old output.new)
+        result }
 {
     run_whole(alloc, RunKind::Share, variant, input, output)
 }
@@ -207,8 +208,8 @@ pub fn run_unique<Rd: Read, Wr: Write>(
     requires input_low { HasRoom input.old }
     requires output_low { HasRoom output.old }
     ensures { RunsWithin standard (ResultFits standard (printing_of Unique variant))
-        (record { bytes = Rd.remaining; old = input.old; new = input.new })
-        (record { bytes = Wr.contents; old = output.old; new = output.new }) result }
+        (stream Rd.remaining input.old input.new) (stream Wr.contents output.old output.new)
+        result }
 {
     run_whole(alloc, RunKind::Unique, variant, input, output)
 }
@@ -224,8 +225,8 @@ pub fn run_table<Rd: Read, Wr: Write>(
     requires input_low { HasRoom input.old }
     requires output_low { HasRoom output.old }
     ensures { RunsWithin standard (ResultFits standard (printing_of (Table Lines) variant))
-        (record { bytes = Rd.remaining; old = input.old; new = input.new })
-        (record { bytes = Wr.contents; old = output.old; new = output.new }) result }
+        (stream Rd.remaining input.old input.new) (stream Wr.contents output.old output.new)
+        result }
 {
     run_whole(alloc, RunKind::Table(Format::Lines), variant, input, output)
 }
@@ -241,69 +242,64 @@ fn run_whole<Rd: Read, Wr: Write>(
     requires input_low { HasRoom input.old }
     requires output_low { HasRoom output.old }
     ensures { RunsWithin standard (ResultFits standard (printing_of kind variant))
-        (record { bytes = Rd.remaining; old = input.old; new = input.new })
-        (record { bytes = Wr.contents; old = output.old; new = output.new }) result }
+        (stream Rd.remaining input.old input.new) (stream Wr.contents output.old output.new)
+        result }
 {
-    let limits = Limits::STANDARD;
-    run_within(alloc, kind, variant, limits, Seed::KNOWN, input, output)
+    let config = RunConfig {
+        alloc,
+        variant,
+        limits: Limits::STANDARD,
+        seed: Seed::KNOWN,
+    };
+    run_within(config, kind, input, output)
 }
 
-/// Reads a collection within these limits, and writes what a run of this kind does. The output is
+/// Reads a collection with these settings, and writes what a run of this kind does. The output is
 /// the same for each seed.
 pub fn run_within<Rd: Read, Wr: Write>(
-    alloc: Global,
+    config: RunConfig,
     kind: RunKind,
-    variant: Variant,
-    limits: Limits,
-    seed: Seed,
     input: &mut Counted<Rd>,
     output: &mut Counted<Wr>,
 ) -> Result<Summary, RunFault>
-    requires limits { AreCountable limits }
+    requires limits { AreCountable config.limits }
     requires input_low { HasRoom input.old }
     requires output_low { HasRoom output.old }
-    ensures { RunsWithin limits (ResultFits limits (printing_of kind variant))
-        (record { bytes = Rd.remaining; old = input.old; new = input.new })
-        (record { bytes = Wr.contents; old = output.old; new = output.new }) result }
+    ensures { RunsWithin config.limits
+        (ResultFits config.limits (printing_of kind config.variant))
+        (stream Rd.remaining input.old input.new) (stream Wr.contents output.old output.new)
+        result }
 {
-    let config = RunConfig {
-        variant,
-        limits,
-        seed,
-    };
     match kind {
-        RunKind::Show => run_records::<EachRecord<ShowLines>, _, _>(alloc, config, input, output),
-        RunKind::Canon => run_records::<EachRecord<CanonLines>, _, _>(alloc, config, input, output),
-        RunKind::Check => run_records::<EachRecord<CheckLines>, _, _>(alloc, config, input, output),
-        RunKind::Group => run_records::<EachGroup<GroupLines>, _, _>(alloc, config, input, output),
-        RunKind::Share => run_records::<EachGroup<ShareLines>, _, _>(alloc, config, input, output),
-        RunKind::Expand => run_records::<EachRecord<ExpandLines>, _, _>(
-            alloc, config, input, output,
-        ),
-        RunKind::Unique => run_records::<UniqueLines, _, _>(alloc, config, input, output),
-        RunKind::Table(format) => run_table_within(alloc, config, format, input, output),
-        RunKind::Same => run_records::<SameLines, _, _>(alloc, config, input, output),
+        RunKind::Show => run_records::<EachRecord<ShowLines>, _, _>(config, input, output),
+        RunKind::Canon => run_records::<EachRecord<CanonLines>, _, _>(config, input, output),
+        RunKind::Check => run_records::<EachRecord<CheckLines>, _, _>(config, input, output),
+        RunKind::Group => run_records::<EachGroup<GroupLines>, _, _>(config, input, output),
+        RunKind::Share => run_records::<EachGroup<ShareLines>, _, _>(config, input, output),
+        RunKind::Expand => run_records::<EachRecord<ExpandLines>, _, _>(config, input, output),
+        RunKind::Unique => run_records::<UniqueLines, _, _>(config, input, output),
+        RunKind::Table(format) => run_table_within(config, format, input, output),
+        RunKind::Same => run_records::<SameLines, _, _>(config, input, output),
         RunKind::Count(CountFormat::Words) => run_records::<Count<FiguresLine>, _, _>(
-            alloc, config, input, output,
+            config, input, output,
         ),
         RunKind::Count(CountFormat::Json) => run_records::<Count<FiguresObject>, _, _>(
-            alloc, config, input, output,
+            config, input, output,
         ),
         RunKind::Symmetries => run_records::<EachRecord<SymmetryLines>, _, _>(
-            alloc, config, input, output,
+            config, input, output,
         ),
         RunKind::Closed(CountFormat::Words) => run_records::<Closed<FindingLine>, _, _>(
-            alloc, config, input, output,
+            config, input, output,
         ),
         RunKind::Closed(CountFormat::Json) => run_records::<Closed<FindingObject>, _, _>(
-            alloc, config, input, output,
+            config, input, output,
         ),
     }
 }
 
 // Reads a collection, and writes it as a table in this format.
 fn run_table_within<Rd: Read, Wr: Write>(
-    alloc: Global,
     config: RunConfig,
     format: Format,
     input: &mut Counted<Rd>,
@@ -314,15 +310,15 @@ fn run_table_within<Rd: Read, Wr: Write>(
     requires output_low { HasRoom output.old }
     ensures { RunsWithin config.limits
         (ResultFits config.limits (printing_of (Table format) config.variant))
-        (record { bytes = Rd.remaining; old = input.old; new = input.new })
-        (record { bytes = Wr.contents; old = output.old; new = output.new }) result }
+        (stream Rd.remaining input.old input.new) (stream Wr.contents output.old output.new)
+        result }
 {
     match format {
-        Format::Lines => run_records::<EachRecord<TableLines>, _, _>(alloc, config, input, output),
+        Format::Lines => run_records::<EachRecord<TableLines>, _, _>(config, input, output),
         Format::Header => {
             write_bytes(output, TABLE_HEADER)?;
-            run_records::<EachRecord<TableLines>, _, _>(alloc, config, input, output)
+            run_records::<EachRecord<TableLines>, _, _>(config, input, output)
         }
-        Format::Json => run_records::<EachRecord<TableObjects>, _, _>(alloc, config, input, output),
+        Format::Json => run_records::<EachRecord<TableObjects>, _, _>(config, input, output),
     }
 }

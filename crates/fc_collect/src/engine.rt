@@ -7,10 +7,9 @@ ghost use Rattle.fc_collect.specs.inside.{IsAllowed, last_output, output_counts,
 ghost use Rattle.fc_collect.specs.{inside.{Remembers, text_at}, Limits.{AreCountable, standard}};
 ghost use Rattle.fc_collect.specs.Promises.{IsWithinLimits, ReadsAsCounted, ResultFits, Transfers};
 ghost use Rattle.fc_collect.specs.{Promises.{WritesAsCounted}, Records.{if_record, outputs_after}};
-ghost use Rattle.fc_collect.specs.Streams.{bytes_of, GrowsBy, HasRoom, inner_of};
+ghost use Rattle.fc_collect.specs.Streams.{bytes_of, GrowsBy, HasRoom, inner_of, stream};
 
 use crate::{Counted, Limits, MOST_BYTES, MOST_RECORD_BYTES, RunConfig, RunFault, Summary};
-use std::alloc::Global;
 use std::io::{Read, Write};
 
 mod command;
@@ -19,7 +18,7 @@ mod search;
 mod window;
 mod writing;
 
-pub use command::Command;
+pub use command::{Accepted, Command};
 use progress::{Printed, Progress, are_small, take_complete_records, take_text};
 use window::Window;
 use writing::{FULL, write_out};
@@ -50,7 +49,6 @@ pub fn is_within_limits(collection: &[u8]) -> bool
 /// prints any of it, writes once `FULL` bytes are pending and before each read, and flushes the
 /// output at the end. A call that fails is not tried again, also where it was interrupted.
 pub fn run_records<C: Command, Rd: Read, Wr: Write>(
-    alloc: Global,
     config: RunConfig,
     input: &mut Counted<Rd>,
     output: &mut Counted<Wr>,
@@ -67,13 +65,13 @@ pub fn run_records<C: Command, Rd: Read, Wr: Write>(
           refused = refused_with C.fails config.variant;
         }))
         (bytes_of
-        (record { bytes = Rd.remaining; old = input.old; new = input.new })
-        (record { bytes = Wr.contents; old = output.old; new = output.new })) result }
+        (stream Rd.remaining input.old input.new) (stream Wr.contents output.old output.new)
+        ) result }
 {
-    let mut window = Window::new(alloc)?;
-    let pending = Vec::with_capacity(alloc, PENDING_ROOM)?;
+    let mut window = Window::new(config.alloc)?;
+    let pending = Vec::with_capacity(config.alloc, PENDING_ROOM)?;
     let mut printed = Printed {
-        kept: C::start(alloc, config.seed),
+        kept: C::start(config.alloc, config.seed),
         progress: Progress {
             number: config.limits.number,
             start: config.limits.place,
@@ -87,16 +85,15 @@ pub fn run_records<C: Command, Rd: Read, Wr: Write>(
             return Err(RunFault::Read);
         };
         if given == 0 {
-            return finish::<C, Wr>(alloc, config, &mut printed, window.as_slice(), output);
+            return finish::<C, Wr>(config, &mut printed, window.as_slice(), output);
         }
-        consume::<C, Wr>(alloc, config, &mut printed, &mut window, searched, output)?;
+        consume::<C, Wr>(config, &mut printed, &mut window, searched, output)?;
     }
     Err(RunFault::ReaderNeverEnds)
 }
 
 // Prints and writes the records that a header ends, if what is held passes no limit.
 fn consume<C: Command, Wr: Write>(
-    alloc: Global,
     config: RunConfig,
     printed: &mut Printed<C::Kept>,
     window: &mut Window,
@@ -123,7 +120,7 @@ fn consume<C: Command, Wr: Write>(
     if !is_allowed(config.limits, printed.progress, held, searched) {
         return Err(RunFault::TooLarge);
     }
-    let front = take_complete_records::<C, Wr>(alloc, config, printed, held, searched, output)?;
+    let front = take_complete_records::<C, Wr>(config, printed, held, searched, output)?;
     write_out(&mut printed.pending, output)?;
     window.drop_front(front);
     Ok(())
@@ -144,7 +141,6 @@ fn is_allowed(limits: Limits, progress: Progress, held: &[u8], searched: usize) 
 
 // Prints and writes the last record and the end, and flushes the output.
 fn finish<C: Command, Wr: Write>(
-    alloc: Global,
     config: RunConfig,
     printed: &mut Printed<C::Kept>,
     held: &[u8],
@@ -169,9 +165,15 @@ fn finish<C: Command, Wr: Write>(
         printed.old.progress (text_at printed.old.progress held.now)
         (Wr.contents (inner_of output.old)) (Wr.contents (inner_of output.new)) result }
 {
-    take_text::<C, Wr>(alloc, config.variant, printed, held, output)?;
+    take_text::<C, Wr>(config.alloc, config.variant, printed, held, output)?;
     let summary = printed.progress.summary(config.limits.number);
-    let failed = C::end(alloc, &printed.kept, summary, &mut printed.pending, output)?;
+    let failed = C::end(
+        config.alloc,
+        &printed.kept,
+        summary,
+        &mut printed.pending,
+        output,
+    )?;
     write_text(output, printed.pending.as_slice())?;
     Ok(with_failed(summary, failed))
 }

@@ -6,8 +6,8 @@ mod limits;
 
 pub use counted::Counted;
 pub use faults::{RunFault, Summary};
+pub(crate) use limits::KeyHasher;
 pub use limits::{
-    Limits, MOST_BYTES, MOST_COUNTABLE, MOST_READS, MOST_RECORD_BYTES, MOST_RECORDS, Seed,
-    limits_are_defined,
+    Limits, MOST_BYTES, MOST_COUNTABLE, MOST_READS, MOST_RECORD_BYTES, MOST_RECORDS, RunConfig,
+    Seed, limits_are_defined,
 };
-pub(crate) use limits::{KeyHasher, RunConfig};

@@ -2,7 +2,7 @@
 use Rattle.std.specs.{Io.KnownBytes.{Appends, Consumes, IsAtEnd}, Prelude.{◌++◌, ◌+◌, ◌<◌, ◌||◌}}
 use Rattle.std.specs.Prelude.{◌↔◌, ◌≡◌, ◌≢◌, ◌≤◌, [], ⊤, Bool, drop, Err, false, if◌then◌else◌}
 use Rattle.std.specs.Prelude.{length, List, map, Ok, Option, Result, take, true, ℕ}
-use Rattle.{fc_board.specs.declared.rule.Variant.{Variant}, fc_card.specs.Types.{Card, Text}}
+use Rattle.{fc_board.specs.declared.rule.Variant.{Variant}, fc_card.specs.Types.{Card, Pile, Text}}
 use Rattle.fc_board.specs.{Boards.{Board}, Games.{Game}, Moves.{MoveList, OneCard, Runs}}
 use Rattle.fc_record.specs.RecordTexts.{ends_line}
 use Rattle.fc_collect.specs.{Limits.{most_bytes}, Promises.{Begins}, Streams.{CallCounts}}
@@ -29,6 +29,12 @@ is_alone byte = is_between 0 10 byte || is_between 14 127 byte
 -- with an end after them, if they are to have one
 abbrev pub part : (is_ended : Bool) → List Card → List ℕ
 part is_ended cards = if is_ended then ended cards else cards
+
+-- -------- Boards of the laws.
+
+-- these columns alone
+abbrev pub of_columns : List Pile → Board
+of_columns columns = record { heights = []; cells = []; columns = columns }
 
 -- -------- What taking one piece of a text adds.
 

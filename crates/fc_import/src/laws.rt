@@ -12,7 +12,7 @@ ghost use Rattle.fc_collect.specs.declared.streams.faults.Summary.{Summary};
 ghost use Rattle.fc_import.specs.Import.{AreIn, BoardNeedsNoNote, count_text, Imported, IsApart};
 ghost use Rattle.fc_import.specs.Import.{IsBuilt, IsNoBoard, IsPrinted, IsShown, lines_in};
 ghost use Rattle.fc_import.specs.Import.{ListNeedsNoNote, Makes, may_be, most_dealt, numbered};
-ghost use Rattle.fc_import.specs.Import.{Reading, refusals, StaysLast};
+ghost use Rattle.fc_import.specs.{Import.{Reading, refusals, StaysLast}, inside.{of_columns}};
 ghost use Rattle.fc_import.specs.Notes.{name_by, Place, place_text, SaysUnless, State};
 ghost use Rattle.fc_import.specs.Scan.{HasFewCards, is_list, IsQuiet, moves_in, named_card};
 ghost use Rattle.fc_import.specs.Scan.{named_cards, said_in};
@@ -112,38 +112,21 @@ pub fn solutions_are_whole()
 /// are no rows, and of those that are said to be rows one has a number or a colon before its cards,
 /// if they are columns.
 pub fn lines_are_in_layouts()
-    ensures columns { lines_in Columns (record {
-      heights = [];
-      cells = [];
-      columns = (51 ∷ 47 ∷ []) ∷ [] ∷ (50 ∷ []) ∷ [];
-    }) ≡ 51 ∷ 47 ∷ 52 ∷ 50 ∷ 52 ∷ [] }
-    ensures rows { lines_in Rows (record {
-      heights = [];
-      cells = [];
-      columns = (51 ∷ 47 ∷ []) ∷ [] ∷ (50 ∷ []) ∷ [];
-    }) ≡ 51 ∷ 50 ∷ 52 ∷ 47 ∷ 52 ∷ [] }
-    ensures columns_in_line { lines_in ColumnsInLine (record {
-      heights = [];
-      cells = [];
-      columns = (51 ∷ 47 ∷ []) ∷ [] ∷ (50 ∷ []) ∷ [];
-    }) ≡ 51 ∷ 47 ∷ 52 ∷ 50 ∷ 52 ∷ [] }
-    ensures deal { lines_in Deal (record {
-      heights = [];
-      cells = [];
-      columns = (51 ∷ 47 ∷ []) ∷ [] ∷ (50 ∷ []) ∷ [];
-    }) ≡ 51 ∷ 50 ∷ 47 ∷ 52 ∷ [] }
+    ensures columns { lines_in Columns
+        (of_columns ((51 ∷ 47 ∷ []) ∷ [] ∷ (50 ∷ []) ∷ [])) ≡ 51 ∷ 47 ∷ 52 ∷ 50 ∷ 52 ∷ [] }
+    ensures rows { lines_in Rows
+        (of_columns ((51 ∷ 47 ∷ []) ∷ [] ∷ (50 ∷ []) ∷ [])) ≡ 51 ∷ 50 ∷ 52 ∷ 47 ∷ 52 ∷ [] }
+    ensures columns_in_line { lines_in ColumnsInLine
+        (of_columns ((51 ∷ 47 ∷ []) ∷ [] ∷ (50 ∷ []) ∷ [])) ≡ 51 ∷ 47 ∷ 52 ∷ 50 ∷ 52 ∷ [] }
+    ensures deal { lines_in Deal
+        (of_columns ((51 ∷ 47 ∷ []) ∷ [] ∷ (50 ∷ []) ∷ [])) ≡ 51 ∷ 50 ∷ 47 ∷ 52 ∷ [] }
     ensures cut { ¬ AreIn Columns (codes "KH" ++ line_feed ∷ codes "KS")
-        (record { heights = []; cells = []; columns = (50 ∷ 51 ∷ []) ∷ [] }) }
-    ensures cut_in_line { ¬ AreIn ColumnsInLine (codes "KH|KS")
-        (record { heights = []; cells = []; columns = (50 ∷ 51 ∷ []) ∷ [] }) }
+        (of_columns ((50 ∷ 51 ∷ []) ∷ [])) }
+    ensures cut_in_line { ¬ AreIn ColumnsInLine (codes "KH|KS") (of_columns ((50 ∷ 51 ∷ []) ∷ [])) }
     ensures joined_in_line { ¬ AreIn ColumnsInLine (codes "KH KS")
-        (record { heights = []; cells = []; columns = (50 ∷ []) ∷ (51 ∷ []) ∷ [] }) }
+        (of_columns ((50 ∷ []) ∷ (51 ∷ []) ∷ [])) }
     ensures parted { AreIn ColumnsInLine (codes "[KH];KS/QH|QS")
-        (record {
-          heights = [];
-          cells = [];
-          columns = (50 ∷ []) ∷ (51 ∷ []) ∷ (46 ∷ []) ∷ (47 ∷ []) ∷ [];
-        }) }
+        (of_columns ((50 ∷ []) ∷ (51 ∷ []) ∷ (46 ∷ []) ∷ (47 ∷ []) ∷ [])) }
     ensures no_rows { (piece : Text) → may_be AsColumns Rows piece ≡ false }
     ensures no_columns { may_be AsRows Columns (codes "KH KS") ≡ false }
     ensures cells_alone { may_be AsRows Columns (codes "Freecells: KH") ≡ false }

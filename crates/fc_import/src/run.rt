@@ -3,7 +3,7 @@ ghost use Rattle.std.specs.Prelude.{◌++◌, ◌+◌, ◌-◌, ◌<◌, ◌^◌
 ghost use Rattle.fc_card.specs.Types.{Text};
 ghost use Rattle.fc_collect.specs.Limits.{most_bytes, standard};
 ghost use Rattle.fc_collect.specs.{Promises.{ReadsAsCounted, WritesAsCounted}, Runs.{RunsWithin}};
-ghost use Rattle.fc_collect.specs.Streams.{counts_of, GrowsBy, HasRoom, inner_of};
+ghost use Rattle.fc_collect.specs.Streams.{counts_of, GrowsBy, HasRoom, inner_of, stream};
 ghost use Rattle.fc_collect.specs.declared.streams.faults.RunFault.TheVariants.{Write as WriteFault};
 ghost use Rattle.fc_import.specs.Import.{ImportFits, Makes, with_tally};
 ghost use Rattle.fc_import.specs.inside.{more_counts, ReadsMore, ReadsToEnd, WritesMade};
@@ -43,8 +43,8 @@ pub fn run_import<Rd: Read, Wr: Write>(
     requires output_low { HasRoom output.old }
     requires silent { said.old.items ≡ [] }
     ensures runs { RunsWithin standard (ImportFits variant options said.new.items)
-        (record { bytes = Rd.remaining; old = input.old; new = input.new })
-        (record { bytes = Wr.contents; old = output.old; new = output.new }) result }
+        (stream Rd.remaining input.old input.new) (stream Wr.contents output.old output.new)
+        result }
     ensures ended { result ≡ Err WriteFault
         → (counts_of input.new).ends ≡ (counts_of input.old).ends + 1 }
 {

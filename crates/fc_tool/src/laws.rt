@@ -12,7 +12,7 @@ ghost use Rattle.fc_board.specs.declared.rule.Variant.TheVariants.{BakersGame, E
 ghost use Rattle.fc_deal.specs.{deal, dealt_board, IsDealNumber};
 ghost use Rattle.fc_collect.specs.{Limits.{largest, standard}, Records.{records_from}};
 ghost use Rattle.fc_collect.specs.Runs.{ending_of_kind, output_of_kind};
-ghost use Rattle.fc_collect.specs.Streams.{counts_of, inner_of};
+ghost use Rattle.fc_collect.specs.Streams.{counts_of, inner_of, stream};
 ghost use Rattle.fc_collect.specs.declared.commands.CountFormat.TheVariants.{Words};
 ghost use Rattle.fc_collect.specs.declared.commands.CountFormat.TheVariants as figures;
 ghost use Rattle.fc_collect.specs.declared.commands.Format.{Format};
@@ -34,6 +34,7 @@ ghost use Rattle.fc_tool.specs.declared.request.Task.TheVariants.{Same, Share, S
 ghost use Rattle.fc_tool.specs.declared.request.Task.TheVariants.{Table, Unique};
 ghost use Rattle.fc_tool.specs.declared.request.WordsFault.TheVariants.{Parser};
 
+use crate::Streams;
 use fc_collect::Counted;
 use std::io::{Read, Write};
 
@@ -343,7 +344,7 @@ pub fn good_runs_say_nothing()
 /// the flush failed. So nothing said is lost in silence.
 pub fn nothing_said_is_lost_in_silence<Er: Write>(silent: &Counted<Er>, said: &Counted<Er>)
     ensures { (text : Text)
-        → TriesToWrite (record { bytes = Er.contents; old = silent.now; new = said.now }) text
+        → TriesToWrite (stream Er.contents silent.now said.now) text
         → (counts_of said.now).failures ≡ (counts_of silent.now).failures
         → Appends (Er.contents (inner_of silent.now)) (Er.contents (inner_of said.now)) text }
 {}
@@ -354,7 +355,7 @@ pub fn a_deal_that_ends_well_is_written<Wr: Write>(before: &Counted<Wr>, after: 
     ensures written { (game : Game) (number : ℕ) (message : Text)
         → EndsDealing game number
         (record {
-          output = record { bytes = Wr.contents; old = before.now; new = after.now };
+          output = stream Wr.contents before.now after.now;
           status = 0;
           message = message;
         })
@@ -364,7 +365,7 @@ pub fn a_deal_that_ends_well_is_written<Wr: Write>(before: &Counted<Wr>, after: 
     ensures moved { (game : Game) (number : ℕ) (message held : Text)
         → EndsDealing game number
         (record {
-          output = record { bytes = Wr.contents; old = before.now; new = after.now };
+          output = stream Wr.contents before.now after.now;
           status = 0;
           message = message;
         })
@@ -377,22 +378,18 @@ pub fn a_deal_that_ends_well_is_written<Wr: Write>(before: &Counted<Wr>, after: 
 /// output that stays as it was fits only where nothing is printed, and that of another input only
 /// where both are printed alike.
 pub fn a_program_that_ends_well_has_written_what_is_due<Rd: Read, Wr: Write, Er: Write>(
-    input: &Counted<Rd>,
-    left: &Counted<Rd>,
-    before: &Counted<Wr>,
-    after: &Counted<Wr>,
-    silent: &Counted<Er>,
-    said: &Counted<Er>,
+    before: &Streams<Rd, Wr, Er>,
+    after: &Streams<Rd, Wr, Er>,
 )
     ensures { (task : Task) (kind : RunKind) (called : Text) (status : ℕ) (read held : Text)
         → run_of_task Lines task ≡ Some kind
         → EndsProgram (called ∷ command_of task ∷ [])
-        (record { bytes = Rd.remaining; old = input.now; new = left.now })
-        (record { bytes = Wr.contents; old = before.now; new = after.now })
-        (record { bytes = Er.contents; old = silent.now; new = said.now }) status → status < 2
-        → Rd.remaining (inner_of input.now) ≡ Some read
-        → Wr.contents (inner_of before.now) ≡ Some held
-        → Wr.contents (inner_of after.now) ≡ Some (held
+        (stream Rd.remaining before.now.input after.now.input)
+        (stream Wr.contents before.now.output after.now.output)
+        (stream Er.contents before.now.errors after.now.errors) status → status < 2
+        → Rd.remaining (inner_of before.now.input) ≡ Some read
+        → Wr.contents (inner_of before.now.output) ≡ Some held
+        → Wr.contents (inner_of after.now.output) ≡ Some (held
         ++ (output_of_kind kind FreeCell (records_from standard read)
         ++ ending_of_kind kind FreeCell (records_from standard read))) }
 {}

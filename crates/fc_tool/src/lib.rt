@@ -7,5 +7,5 @@ mod program;
 mod request;
 
 pub use command_line::read_words;
-pub use program::{Asked, end_without_words, run_program};
+pub use program::{Asked, Streams, end_without_words, run_program};
 pub use request::{Options, Request, Task, WordsFault};

@@ -6,7 +6,7 @@ ghost use Rattle.std.specs.String.{string_bytes};
 ghost use Rattle.{fc_card.specs.Types.{Text}, fc_import.specs.Import.{ImportFits}};
 ghost use Rattle.fc_collect.specs.Limits.{fault_words, standard};
 ghost use Rattle.fc_collect.specs.Promises.{WritesAsCounted, WritesText};
-ghost use Rattle.fc_collect.specs.Streams.{HasRoom, inner_of};
+ghost use Rattle.fc_collect.specs.Streams.{HasRoom, inner_of, stream};
 ghost use Rattle.fc_collect.specs.declared.streams.faults.RunFault.TheVariants.{Memory};
 ghost use Rattle.fc_tool.specs.{AsksForImport, AsksToImport, CountsUpTo, deal_job, EndsBy};
 ghost use Rattle.fc_tool.specs.{EndsDeal, EndsDealing, EndsJob, EndsParsing, EndsProgram, EndsRun};
@@ -18,7 +18,8 @@ use crate::request::{Options, Request, Task, WordsFault};
 use arrayvec::ArrayString;
 use fc_board::{BakersGame, FreeCell};
 use fc_collect::{
-    Counted, Limits, RunFault, RunKind, Seed, Summary, Variant, run_within, write_bytes, write_text,
+    Counted, Limits, RunConfig, RunFault, RunKind, Seed, Summary, Variant, run_within, write_bytes,
+    write_text,
 };
 use fc_deal::{DealFault, Numbered, deal_board};
 use fc_import::{ImportOptions, LinesAre, Noted, run_import};
@@ -26,6 +27,17 @@ use fc_text::write_board;
 use std::alloc::Global;
 use std::io::{self, Read, Write};
 use std::marker::Model;
+
+/// The streams of a process.
+#[derive(Drop)]
+pub struct Streams<Rd, Wr, Er> {
+    /// Standard input.
+    pub input: Counted<Rd>,
+    /// Standard output.
+    pub output: Counted<Wr>,
+    /// Standard error.
+    pub errors: Counted<Er>,
+}
 
 /// Does what the words ask for, the first of which is the program's name, and returns the exit
 /// status.
@@ -40,21 +52,20 @@ pub fn run_program<Rd: Read, Wr: Write, Er: Write>(
     alloc: Global,
     seed: Seed,
     words: &[String],
-    input: &mut Counted<Rd>,
-    output: &mut Counted<Wr>,
-    errors: &mut Counted<Er>,
+    streams: &mut Streams<Rd, Wr, Er>,
 ) -> u8
-    requires input_low { HasRoom input.old }
-    requires output_low { HasRoom output.old }
-    requires errors_low { HasRoom errors.old }
+    requires input_low { HasRoom streams.old.input }
+    requires output_low { HasRoom streams.old.output }
+    requires errors_low { HasRoom streams.old.errors }
     ensures ends { EndsProgram (map string_bytes words.now)
-        (record { bytes = Rd.remaining; old = input.old; new = input.new })
-        (record { bytes = Wr.contents; old = output.old; new = output.new })
-        (record { bytes = Er.contents; old = errors.old; new = errors.new }) result }
+        (stream Rd.remaining streams.old.input streams.new.input)
+        (stream Wr.contents streams.old.output streams.new.output)
+        (stream Er.contents streams.old.errors streams.new.errors) result }
     ensures quiet { result < 2 → AsksToImport (map string_bytes words.now)
-        ⊎ Keeps (Er.contents (inner_of errors.old)) (Er.contents (inner_of errors.new)) }
+        ⊎ Keeps (Er.contents (inner_of streams.old.errors))
+        (Er.contents (inner_of streams.new.errors)) }
 {
-    Asked::by(alloc, words).run(alloc, seed, input, output, errors)
+    Asked::by(alloc, words).run(alloc, seed, streams)
 }
 
 /// What the words of a command line ask for.
@@ -99,33 +110,33 @@ impl Asked {
         &self,
         alloc: Global,
         seed: Seed,
-        input: &mut Counted<Rd>,
-        output: &mut Counted<Wr>,
-        errors: &mut Counted<Er>,
+        streams: &mut Streams<Rd, Wr, Er>,
     ) -> u8
-        requires input_low { HasRoom input.old }
-        requires output_low { HasRoom output.old }
-        requires errors_low { HasRoom errors.old }
+        requires input_low { HasRoom streams.old.input }
+        requires output_low { HasRoom streams.old.output }
+        requires errors_low { HasRoom streams.old.errors }
         ensures ends { (message : Text)
-            × EndsBy self.now (record { bytes = Rd.remaining; old = input.old; new = input.new })
+            × EndsBy self.now (stream Rd.remaining streams.old.input streams.new.input)
             (record {
-              output = record { bytes = Wr.contents; old = output.old; new = output.new };
+              output = stream Wr.contents streams.old.output streams.new.output;
               status = result;
               message = message;
             })
-            × TriesToWrite
-            (record { bytes = Er.contents; old = errors.old; new = errors.new }) message }
+            × TriesToWrite (stream Er.contents streams.old.errors streams.new.errors) message }
         ensures quiet { result < 2 → AsksForImport self.now
-            ⊎ Keeps (Er.contents (inner_of errors.old)) (Er.contents (inner_of errors.new)) }
+            ⊎ Keeps (Er.contents (inner_of streams.old.errors))
+            (Er.contents (inner_of streams.new.errors)) }
     {
         match &self.answer {
             Ok(Some(request)) => {
                 let job = Job::of(request);
-                run_job(alloc, seed, job, input, output, errors)
+                run_job(alloc, seed, job, streams)
             }
-            Ok(None) => say(&Ending::silent(2), errors),
-            Err(WordsFault::Memory) => say(&out_of_memory(), errors),
-            Err(WordsFault::Parser(error)) => end_parsing(alloc, error, output, errors),
+            Ok(None) => say(&Ending::silent(2), &mut streams.errors),
+            Err(WordsFault::Memory) => say(&out_of_memory(), &mut streams.errors),
+            Err(WordsFault::Parser(error)) => {
+                end_parsing(alloc, error, &mut streams.output, &mut streams.errors)
+            }
         }
     }
 }
@@ -183,38 +194,42 @@ fn run_job<Rd: Read, Wr: Write, Er: Write>(
     alloc: Global,
     seed: Seed,
     job: Option<Job>,
-    input: &mut Counted<Rd>,
-    output: &mut Counted<Wr>,
-    errors: &mut Counted<Er>,
+    streams: &mut Streams<Rd, Wr, Er>,
 ) -> u8
-    requires input_low { HasRoom input.old }
-    requires output_low { HasRoom output.old }
-    requires errors_low { HasRoom errors.old }
+    requires input_low { HasRoom streams.old.input }
+    requires output_low { HasRoom streams.old.output }
+    requires errors_low { HasRoom streams.old.errors }
     requires countable { CountsUpTo job }
     ensures ends { (message : Text)
-        × EndsJob job (record { bytes = Rd.remaining; old = input.old; new = input.new })
+        × EndsJob job (stream Rd.remaining streams.old.input streams.new.input)
         (record {
-          output = record { bytes = Wr.contents; old = output.old; new = output.new };
+          output = stream Wr.contents streams.old.output streams.new.output;
           status = result;
           message = message;
         })
-        × TriesToWrite
-        (record { bytes = Er.contents; old = errors.old; new = errors.new }) message }
+        × TriesToWrite (stream Er.contents streams.old.errors streams.new.errors) message }
     ensures quiet { result < 2 → IsImport job
-        ⊎ Keeps (Er.contents (inner_of errors.old)) (Er.contents (inner_of errors.new)) }
+        ⊎ Keeps (Er.contents (inner_of streams.old.errors))
+        (Er.contents (inner_of streams.new.errors)) }
 {
     let ending = match job {
         Some(Job::Import(variant, lines_are, noted)) => {
             let options = ImportOptions { lines_are, noted };
-            return import(alloc, variant, options, input, output, errors);
+            return import(alloc, variant, options, streams);
         }
         Some(Job::Run(kind, variant, limits)) => {
-            finish(&run_within(alloc, kind, variant, limits, seed, input, output))
+            let config = RunConfig {
+                alloc,
+                variant,
+                limits,
+                seed,
+            };
+            finish(&run_within(config, kind, &mut streams.input, &mut streams.output))
         }
-        Some(Job::Deal(game, number)) => run_deal(game, number, output),
+        Some(Job::Deal(game, number)) => run_deal(game, number, &mut streams.output),
         None => Ending::silent(2),
     };
-    say(&ending, errors)
+    say(&ending, &mut streams.errors)
 }
 
 // Imports the input, says what is changed and left out, and returns the exit status.
@@ -222,29 +237,33 @@ fn import<Rd: Read, Wr: Write, Er: Write>(
     alloc: Global,
     variant: Variant,
     options: ImportOptions,
-    input: &mut Counted<Rd>,
-    output: &mut Counted<Wr>,
-    errors: &mut Counted<Er>,
+    streams: &mut Streams<Rd, Wr, Er>,
 ) -> u8
-    requires input_low { HasRoom input.old }
-    requires output_low { HasRoom output.old }
-    requires errors_low { HasRoom errors.old }
+    requires input_low { HasRoom streams.old.input }
+    requires output_low { HasRoom streams.old.output }
+    requires errors_low { HasRoom streams.old.errors }
     ensures { (message : Text) × ((said : Text)
         × EndsRun standard said (ImportFits variant options said)
-        (record { bytes = Rd.remaining; old = input.old; new = input.new })
+        (stream Rd.remaining streams.old.input streams.new.input)
         (record {
-          output = record { bytes = Wr.contents; old = output.old; new = output.new };
+          output = stream Wr.contents streams.old.output streams.new.output;
           status = result;
           message = message;
         }))
-        × TriesToWrite
-        (record { bytes = Er.contents; old = errors.old; new = errors.new }) message }
+        × TriesToWrite (stream Er.contents streams.old.errors streams.new.errors) message }
 {
     let mut said = Vec::new(alloc);
-    let outcome = run_import(alloc, variant, options, input, output, &mut said);
+    let outcome = run_import(
+        alloc,
+        variant,
+        options,
+        &mut streams.input,
+        &mut streams.output,
+        &mut said,
+    );
     let ending = finish(&outcome);
     let line = ending.line.as_str().as_bytes();
-    let _ = say_notes(said.as_slice(), line, errors);
+    let _ = say_notes(said.as_slice(), line, &mut streams.errors);
     ending.status
 }
 
@@ -264,7 +283,7 @@ fn run_deal<Wr: Write>(game: DealtGame, number: u32, output: &mut Counted<Wr>) -
     requires output_low { HasRoom output.old }
     ensures ends { EndsDeal game number
         (record {
-          output = record { bytes = Wr.contents; old = output.old; new = output.new };
+          output = stream Wr.contents output.old output.new;
           status = result.status;
           message = result.line.bytes;
         }) }
@@ -280,7 +299,7 @@ fn give_deal<R: Numbered, Wr: Write>(number: u32, output: &mut Counted<Wr>) -> E
     requires output_low { HasRoom output.old }
     ensures ends { EndsDealing R.game number
         (record {
-          output = record { bytes = Wr.contents; old = output.old; new = output.new };
+          output = stream Wr.contents output.old output.new;
           status = result.status;
           message = result.line.bytes;
         }) }
@@ -304,12 +323,11 @@ fn end_parsing<Wr: Write, Er: Write>(
     ensures ends { (message : Text)
         × EndsParsing error.now
         (record {
-          output = record { bytes = Wr.contents; old = output.old; new = output.new };
+          output = stream Wr.contents output.old output.new;
           status = result;
           message = message;
         })
-        × TriesToWrite
-        (record { bytes = Er.contents; old = errors.old; new = errors.new }) message }
+        × TriesToWrite (stream Er.contents errors.old errors.new) message }
     ensures quiet { result < 2 →
         Keeps (Er.contents (inner_of errors.old)) (Er.contents (inner_of errors.new)) }
 {
@@ -328,7 +346,7 @@ fn give_text<Wr: Write>(text: &[u8], output: &mut Counted<Wr>) -> Ending
     requires output_low { HasRoom output.old }
     ensures ends { EndsWriting text.now
         (record {
-          output = record { bytes = Wr.contents; old = output.old; new = output.new };
+          output = stream Wr.contents output.old output.new;
           status = result.status;
           message = result.line.bytes;
         }) }
@@ -345,10 +363,10 @@ fn give_text<Wr: Write>(text: &[u8], output: &mut Counted<Wr>) -> Ending
 pub fn end_without_words<Er: Write>(error: &io::Error, errors: &mut Counted<Er>) -> u8
     requires errors_low { HasRoom errors.old }
     ensures memory { error_kind error.now ≡ OutOfMemory → (result ≡ 3)
-        × TriesToWrite (record { bytes = Er.contents; old = errors.old; new = errors.new })
+        × TriesToWrite (stream Er.contents errors.old errors.new)
         (error_line (fault_words Memory)) }
     ensures other { error_kind error.now ≢ OutOfMemory → (result ≡ 2)
-        × TriesToWrite (record { bytes = Er.contents; old = errors.old; new = errors.new })
+        × TriesToWrite (stream Er.contents errors.old errors.new)
         (error_line (codes "a word of the command line is not UTF-8")) }
 {
     if error.kind() == io::ErrorKind::OutOfMemory {
@@ -362,7 +380,7 @@ pub fn end_without_words<Er: Write>(error: &io::Error, errors: &mut Counted<Er>)
 fn say<Er: Write>(ending: &Ending, errors: &mut Counted<Er>) -> u8
     requires errors_low { HasRoom errors.old }
     ensures status { result ≡ ending.now.status }
-    ensures said { TriesToWrite (record { bytes = Er.contents; old = errors.old; new = errors.new })
+    ensures said { TriesToWrite (stream Er.contents errors.old errors.new)
         ending.now.line.bytes }
     ensures quiet { ending.now.line.bytes ≡ [] →
         Keeps (Er.contents (inner_of errors.old)) (Er.contents (inner_of errors.new)) }

@@ -4,7 +4,7 @@
 mod watched;
 
 use fc_collect::{Counted, Limits, Seed};
-use fc_tool::{Asked, Request, Task, end_without_words};
+use fc_tool::{Asked, Request, Streams, Task, end_without_words};
 use std::io::{self, IsTerminal};
 use std::process::ExitCode;
 use std::random::RandomSource;
@@ -29,11 +29,14 @@ fn run(rt: &HostRuntime, words: &[String]) -> u8 {
     let has_terminal = rt.stderr().is_terminal();
     let shows = has_terminal && any_size && !rt.stdout().is_terminal();
     let progress = Progress::new(rt, has_terminal, shows);
-    let mut input = Counted::new(Watched::new(rt.stdin(), progress));
-    let mut output = Counted::new(rt.stdout());
-    let mut errors = Counted::new(rt.stderr());
-    let status = asked.run(rt.alloc(), seed(rt), &mut input, &mut output, &mut errors);
-    if has_terminal && !any_size && status == 3 && input.into_inner().progress().is_past_one_run() {
+    let mut streams = Streams {
+        input: Counted::new(Watched::new(rt.stdin(), progress)),
+        output: Counted::new(rt.stdout()),
+        errors: Counted::new(rt.stderr()),
+    };
+    let status = asked.run(rt.alloc(), seed(rt), &mut streams);
+    let watched = streams.input.into_inner();
+    if has_terminal && !any_size && status == 3 && watched.progress().is_past_one_run() {
         let _ = eprintln!(rt; "{ANY_SIZE}");
     }
     status

@@ -7,7 +7,9 @@ ghost use Rattle.fcanon_runs.specs.{NeedsRoom};
 
 use crate::numbers::{NO_FORMAT, NO_GAME, NO_TASK, answer_to, kind_of};
 use crate::output::{Written, hand_over};
-use fc_collect::{Counted, Limits, RunFault, RunKind, Seed, Summary, Variant, run_within};
+use fc_collect::{
+    Counted, Limits, RunConfig, RunFault, RunKind, Seed, Summary, Variant, run_within,
+};
 use std::alloc::Global;
 
 /// What a call of `fcanon_run` is to do.
@@ -66,8 +68,13 @@ pub extern "C" fn fcanon_run(
     let Some(kind) = kind_of(request.task, request.format) else {
         return NO_FORMAT;
     };
-    let limits = limits_of(request.any_size);
-    match run_over(alloc, kind, variant, limits, Seed(request.seed), input) {
+    let config = RunConfig {
+        alloc,
+        variant,
+        limits: limits_of(request.any_size),
+        seed: Seed(request.seed),
+    };
+    match run_over(config, kind, input) {
         Ok(printed) => hand_over(printed.text.as_slice(), printed.summary, output, written),
         Err(fault) => answer_to(fault),
     }
@@ -92,22 +99,15 @@ struct Printed {
 }
 
 // Runs over the input from its first byte to its last.
-fn run_over(
-    alloc: Global,
-    kind: RunKind,
-    variant: Variant,
-    limits: Limits,
-    seed: Seed,
-    input: &[u8],
-) -> Result<Printed, RunFault>
-    requires { AreCountable limits }
-    ensures done { IfOk result (λ printed. OutputOf limits (printing_of kind variant) input.now
-        printed.text.items printed.summary) }
-    ensures fault { IfErr result (λ fault. FaultOf limits input.now (fault_answer fault)) }
+fn run_over(config: RunConfig, kind: RunKind, input: &[u8]) -> Result<Printed, RunFault>
+    requires { AreCountable config.limits }
+    ensures done { IfOk result (λ printed. OutputOf config.limits
+        (printing_of kind config.variant) input.now printed.text.items printed.summary) }
+    ensures fault { IfErr result (λ fault. FaultOf config.limits input.now (fault_answer fault)) }
 {
     let mut reader = Counted::new(input);
-    let mut writer = Counted::new(Vec::new(alloc));
-    match run_within(alloc, kind, variant, limits, seed, &mut reader, &mut writer) {
+    let mut writer = Counted::new(Vec::new(config.alloc));
+    match run_within(config, kind, &mut reader, &mut writer) {
         Ok(summary) => Ok(Printed {
             text: writer.into_inner(),
             summary,

@@ -76,32 +76,39 @@ fn push_runs_from<R: Rule>(runs: &mut ArrayVec<RunBytes, 672>, board: &Board<R>,
     };
     for to in 0..8_u8 {
         if to != from {
-            push_runs_between(runs, board, from, to, longest, card);
+            let pair = ColumnPair { from, to, longest };
+            push_runs_between(runs, board, pair, card);
         }
     }
 }
 
-/// Pushes the moves of several cards between these columns that the game allows, where so many
-/// cards at the end of the first are a run, and this is its last one.
-fn push_runs_between<R: Rule>(
-    runs: &mut ArrayVec<RunBytes, 672>,
-    board: &Board<R>,
+/// Two columns, and how many cards at the end of the first are a run.
+#[derive(Clone, Copy)]
+struct ColumnPair {
     from: u8,
     to: u8,
     longest: usize,
+}
+
+/// Pushes the moves of several cards between these columns that the game allows, where this is the
+/// last card of the first.
+fn push_runs_between<R: Rule>(
+    runs: &mut ArrayVec<RunBytes, 672>,
+    board: &Board<R>,
+    pair: ColumnPair,
     card: Card,
 )
-    requires columns { (from < 8) × (to < 8) }
-    requires longest { longest ≡ longest_run R.game (column_at board.now from) }
-    requires card { last_card (column_at board.now from) ≡ Some card }
+    requires columns { (pair.from < 8) × (pair.to < 8) }
+    requires longest { pair.longest ≡ longest_run R.game (column_at board.now pair.from) }
+    requires card { last_card (column_at board.now pair.from) ≡ Some card }
     requires room { array_vec_len runs.old + 12 ≤ 672 }
     ensures runs { runs.new.items
-        ≡ runs.old.items ++ map run_bytes (legal_runs_between R.game board.now from to) }
+        ≡ runs.old.items ++ map run_bytes (legal_runs_between R.game board.now pair.from pair.to) }
     ensures few { array_vec_len runs.new ≤ array_vec_len runs.old + 12 }
 {
-    match board.card_at(Source::Column(to)) {
-        Some(last) => push_run_onto(runs, board, from, to, longest, card, last),
-        None => push_runs_of_each_count(runs, board, from, to, longest),
+    match board.card_at(Source::Column(pair.to)) {
+        Some(last) => push_run_onto(runs, board, pair, card, last),
+        None => push_runs_of_each_count(runs, board, pair),
     }
 }
 
@@ -110,45 +117,41 @@ fn push_runs_between<R: Rule>(
 fn push_run_onto<R: Rule>(
     runs: &mut ArrayVec<RunBytes, 672>,
     board: &Board<R>,
-    from: u8,
-    to: u8,
-    longest: usize,
+    pair: ColumnPair,
     card: Card,
     last: Card,
 )
-    requires columns { (from < 8) × (to < 8) }
-    requires longest { longest ≡ longest_run R.game (column_at board.now from) }
-    requires card { last_card (column_at board.now from) ≡ Some card }
-    requires last { last_card (column_at board.now to) ≡ Some last }
+    requires columns { (pair.from < 8) × (pair.to < 8) }
+    requires longest { pair.longest ≡ longest_run R.game (column_at board.now pair.from) }
+    requires card { last_card (column_at board.now pair.from) ≡ Some card }
+    requires last { last_card (column_at board.now pair.to) ≡ Some last }
     requires room { array_vec_len runs.old + 12 ≤ 672 }
     ensures runs { runs.new.items
-        ≡ runs.old.items ++ map run_bytes (legal_runs_between R.game board.now from to) }
+        ≡ runs.old.items ++ map run_bytes (legal_runs_between R.game board.now pair.from pair.to) }
     ensures few { array_vec_len runs.new ≤ array_vec_len runs.old + 12 }
 {
     let count = last.rank().number().saturating_sub(card.rank().number());
-    if count < 2 || usize::from(count) > longest {
+    if count < 2 || usize::from(count) > pair.longest {
         return;
     }
-    push_run(runs, board, from, to, count);
+    push_run(runs, board, pair.from, pair.to, count);
 }
 
 /// The same for each number of cards that a run can have.
 fn push_runs_of_each_count<R: Rule>(
     runs: &mut ArrayVec<RunBytes, 672>,
     board: &Board<R>,
-    from: u8,
-    to: u8,
-    longest: usize,
+    pair: ColumnPair,
 )
-    requires columns { (from < 8) × (to < 8) }
-    requires longest { longest ≡ longest_run R.game (column_at board.now from) }
+    requires columns { (pair.from < 8) × (pair.to < 8) }
+    requires longest { pair.longest ≡ longest_run R.game (column_at board.now pair.from) }
     requires room { array_vec_len runs.old + 12 ≤ 672 }
     ensures runs { runs.new.items
-        ≡ runs.old.items ++ map run_bytes (legal_runs_between R.game board.now from to) }
+        ≡ runs.old.items ++ map run_bytes (legal_runs_between R.game board.now pair.from pair.to) }
     ensures few { array_vec_len runs.new ≤ array_vec_len runs.old + 12 }
 {
-    for more in 0..longest.min(13).saturating_sub(1) {
-        push_run(runs, board, from, to, more as u8 + 2);
+    for more in 0..pair.longest.min(13).saturating_sub(1) {
+        push_run(runs, board, pair.from, pair.to, more as u8 + 2);
     }
 }
 

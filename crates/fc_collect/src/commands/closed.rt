@@ -11,16 +11,14 @@ ghost use Rattle.fc_collect.specs.inside.{AreKeys, IsOn, KeepsBoard, KeepsBoards
 use crate::commands::count::push_figure;
 use crate::commands::unique::keep_key;
 use crate::{
-    AnyBoard, AnyGame, Command, Counted, GroupKey, KeyHasher, RunFault, Seed, Summary,
+    Accepted, AnyBoard, AnyGame, Command, Counted, GroupKey, KeyHasher, RunFault, Seed, Summary,
     key_and_passage, write_full,
 };
 use arrayvec::ArrayVec;
 use fc_board::{Board, Rule};
 use fc_bytes::MoveBytes;
 use fc_bytes::calls::children::push_legal_moves;
-use fc_record::{
-    Contents, Heading, PrintsRefusal, RefusalLine, RefusalObject, push_json_string, push_name,
-};
+use fc_record::{PrintsRefusal, RefusalLine, RefusalObject, push_json_string, push_name};
 use indexmap::IndexSet;
 use std::alloc::{AllocError, Global};
 use std::io::Write;
@@ -79,18 +77,17 @@ impl<P: PrintsFinding> Command for Closed<P> {
     fn accept<R: AnyGame>(
         alloc: Global,
         kept: &mut KeptBoards,
-        number: usize,
-        heading: Heading<'_>,
-        contents: Contents<'_, R>,
+        accepted: Accepted<'_, R>,
         _out: &mut Vec<u8>,
     ) -> Result<(), AllocError> {
-        let (key, _) = key_and_passage(&contents.board);
+        let board = &accepted.contents.board;
+        let (key, _) = key_and_passage(board);
         keep_key(&mut kept.keys, key)?;
         let mut name = Vec::new(alloc);
-        push_name(number, heading.name, &mut name)?;
+        push_name(accepted.number, accepted.heading.name, &mut name)?;
         kept.boards.push(KeptBoard {
             name,
-            board: R::any_board(&contents.board),
+            board: R::any_board(board),
         })?;
         Ok(())
     }

@@ -9,13 +9,11 @@ ghost use Rattle.fc_collect.specs.{Groups.{solution_of}, inside.{figures_seen, G
 ghost use Rattle.fc_collect.specs.inside.{HasBoard, KeepsSolved, KeepsTally};
 
 use crate::{
-    AnyGame, Command, Counted, Gathered, GroupKey, RunFault, Seed, Summary, key_and_passage,
-    write_full,
+    Accepted, AnyGame, Command, Counted, Gathered, GroupKey, RunFault, Seed, Summary,
+    key_and_passage, write_full,
 };
 use fc_board::{Board, Rule};
-use fc_record::{
-    Contents, Heading, MoveList, PrintsRefusal, RefusalLine, RefusalObject, push_number,
-};
+use fc_record::{MoveList, PrintsRefusal, RefusalLine, RefusalObject, push_number};
 use std::alloc::{AllocError, Global};
 use std::io::Write;
 use std::marker::PhantomData;
@@ -73,11 +71,10 @@ impl<P: PrintsFigures> Command for Count<P> {
     fn accept<R: AnyGame>(
         _alloc: Global,
         tally: &mut Tally,
-        _number: usize,
-        _heading: Heading<'_>,
-        contents: Contents<'_, R>,
+        accepted: Accepted<'_, R>,
         _out: &mut Vec<u8>,
     ) -> Result<(), AllocError> {
+        let contents = &accepted.contents;
         let lists = contents.lists.as_slice();
         let wins = count_wins(&contents.board, lists);
         let (key, _) = key_and_passage(&contents.board);

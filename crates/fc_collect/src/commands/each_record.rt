@@ -2,8 +2,8 @@
 
 ghost use Rattle.std.specs.Prelude.{[], false};
 
-use crate::{AnyGame, Command, Counted, RunFault, Seed, Summary};
-use fc_record::{Contents, Heading, PrintsRecord};
+use crate::{Accepted, AnyGame, Command, Counted, RunFault, Seed, Summary};
+use fc_record::PrintsRecord;
 use std::alloc::{AllocError, Global};
 use std::io::Write;
 use std::marker::PhantomData;
@@ -32,11 +32,14 @@ impl<P: PrintsRecord> Command for EachRecord<P> {
     fn accept<R: AnyGame>(
         alloc: Global,
         _kept: &mut (),
-        number: usize,
-        heading: Heading<'_>,
-        contents: Contents<'_, R>,
+        accepted: Accepted<'_, R>,
         out: &mut Vec<u8>,
     ) -> Result<(), AllocError> {
+        let Accepted {
+            number,
+            heading,
+            contents,
+        } = accepted;
         P::print::<R>(alloc, number, heading, contents, out)
     }
 

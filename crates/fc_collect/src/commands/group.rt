@@ -4,10 +4,10 @@ ghost use Rattle.fc_collect.specs.Groups.{canonical_text, group_lines, Member};
 ghost use Rattle.fc_collect.specs.inside.{group_key, HasBoard, KeepsNames};
 
 use crate::commands::names::GroupNames;
-use crate::{AnyGame, Counted, Gathering, GroupKey, RunFault, write_full};
+use crate::{Accepted, AnyGame, Counted, Gathering, GroupKey, RunFault, write_full};
 use fc_board::{BakersGame, EightOff, FreeCell, Variant};
 use fc_canon::Passage;
-use fc_record::{Contents, Heading, push_header, push_name, push_number};
+use fc_record::{push_header, push_name, push_number};
 use std::alloc::{AllocError, Global};
 use std::io::Write;
 
@@ -24,13 +24,11 @@ impl Gathering for GroupLines {
 
     fn first<R: AnyGame>(
         alloc: Global,
-        number: usize,
-        heading: Heading<'_>,
-        _contents: Contents<'_, R>,
+        accepted: Accepted<'_, R>,
         _passage: Passage<R>,
     ) -> Result<GroupNames, AllocError> {
         let mut names = Vec::new(alloc);
-        push_name(number, heading.name, &mut names)?;
+        push_name(accepted.number, accepted.heading.name, &mut names)?;
         let first_len = names.len();
         Ok(GroupNames {
             names,
@@ -42,13 +40,11 @@ impl Gathering for GroupLines {
     fn add<R: AnyGame>(
         _alloc: Global,
         kept: &mut GroupNames,
-        number: usize,
-        heading: Heading<'_>,
-        _contents: Contents<'_, R>,
+        accepted: Accepted<'_, R>,
         _passage: Passage<R>,
     ) -> Result<(), AllocError> {
         kept.names.push(b' ')?;
-        push_name(number, heading.name, &mut kept.names)?;
+        push_name(accepted.number, accepted.heading.name, &mut kept.names)?;
         kept.count += 1;
         Ok(())
     }

@@ -3,10 +3,10 @@ ghost use Rattle.std.specs.Prelude.{◌++◌, ◌≡◌, [], false, OnOk};
 ghost use Rattle.fc_collect.specs.{Groups.{Member}, inside.{IsCanonOf, KeepsFirst}};
 ghost use Rattle.fc_collect.specs.Runs.{passage_found, passage_to, same_lines};
 
-use crate::{AnyCanon, AnyGame, Command, Counted, RunFault, Seed, Summary};
+use crate::{Accepted, AnyCanon, AnyGame, Command, Counted, RunFault, Seed, Summary};
 use fc_board::{Board, Rule};
 use fc_canon::{Passage, passage_from};
-use fc_record::{Contents, Heading, RefusalLine, push_name, push_passage_words};
+use fc_record::{RefusalLine, push_name, push_passage_words};
 use std::alloc::{AllocError, Global};
 use std::io::Write;
 
@@ -35,18 +35,16 @@ impl Command for SameLines {
     fn accept<R: AnyGame>(
         _alloc: Global,
         kept: &mut Option<AnyCanon>,
-        number: usize,
-        heading: Heading<'_>,
-        contents: Contents<'_, R>,
+        accepted: Accepted<'_, R>,
         out: &mut Vec<u8>,
     ) -> Result<(), AllocError> {
         match kept {
             Some(first) => {
-                push_name(number, heading.name, out)?;
-                push_found(&passage_to::<R>(first, &contents.board), out)
+                push_name(accepted.number, accepted.heading.name, out)?;
+                push_found(&passage_to::<R>(first, &accepted.contents.board), out)
             }
             None => {
-                *kept = Some(R::any_canon(&contents.board));
+                *kept = Some(R::any_canon(&accepted.contents.board));
                 Ok(())
             }
         }

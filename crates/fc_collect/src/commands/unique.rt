@@ -4,9 +4,10 @@ ghost use Rattle.std.specs.{List.{list_any}, Prelude.{◌≡◌, [], false, IfOk
 ghost use Rattle.fc_collect.specs.{Groups.{unique_lines}, inside.{AreKeys, same_key}};
 
 use crate::{
-    AnyGame, Command, Counted, GroupKey, KeyHasher, RunFault, Seed, Summary, key_and_passage,
+    Accepted, AnyGame, Command, Counted, GroupKey, KeyHasher, RunFault, Seed, Summary,
+    key_and_passage,
 };
-use fc_record::{Contents, Heading, PrintsRecord, RefusalLine, ShowLines};
+use fc_record::{PrintsRecord, RefusalLine, ShowLines};
 use indexmap::IndexSet;
 use std::alloc::{AllocError, Global};
 use std::io::Write;
@@ -35,16 +36,19 @@ impl Command for UniqueLines {
     fn accept<R: AnyGame>(
         alloc: Global,
         keys: &mut IndexSet<GroupKey, KeyHasher>,
-        number: usize,
-        heading: Heading<'_>,
-        contents: Contents<'_, R>,
+        accepted: Accepted<'_, R>,
         out: &mut Vec<u8>,
     ) -> Result<(), AllocError> {
-        let (key, _) = key_and_passage(&contents.board);
+        let (key, _) = key_and_passage(&accepted.contents.board);
         let is_new = keep_key(keys, key)?;
         if !is_new {
             return Ok(());
         }
+        let Accepted {
+            number,
+            heading,
+            contents,
+        } = accepted;
         ShowLines::print::<R>(alloc, number, heading, contents, out)
     }
 

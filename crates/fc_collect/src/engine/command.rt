@@ -12,12 +12,31 @@ ghost use Rattle.fc_collect.specs.Streams.{GrowsBy, HasRoom, inner_of};
 ghost use Rattle.fc_collect.specs.declared.streams.faults.Summary.{Summary as Counts};
 
 use crate::{AnyGame, Counted, RunFault, Seed, Summary};
-use fc_board::{BakersGame, EightOff, FreeCell, Variant};
+use fc_board::{BakersGame, EightOff, FreeCell, Rule, Variant};
 use fc_record::{
     Contents, Heading, PrintsRefusal, RecordFault, RecordText, Unread, read_contents, read_heading,
 };
 use std::alloc::{AllocError, Global};
 use std::io::Write;
+
+/// An accepted record, whose game is `R`.
+#[derive(Drop)]
+pub struct Accepted<'a, R: Rule> {
+    /// The number of the record.
+    pub number: usize,
+    /// What its header says.
+    pub heading: Heading<'a>,
+    /// What comes after that.
+    pub contents: Contents<'a, R>,
+}
+
+// A record whose header was read.
+struct Headed<'a> {
+    text: RecordText<'a>,
+    heading: Heading<'a>,
+    // What comes after the header.
+    body: &'a [u8],
+}
 
 /// A command: what it prints for each accepted record as it comes, and at the end for all of them.
 pub trait Command {
@@ -43,24 +62,23 @@ pub trait Command {
     fn start(alloc: Global, seed: Seed) -> Self::Kept
         ensures { keeps result [] };
 
-    /// Prints the lines for the record of this number, whose game is `R`, and keeps what is to be
-    /// kept of it.
+    /// Prints the lines for the record, and keeps what is to be kept of it.
     ///
     /// After an `Err` nothing is said of what was printed, nor of what is kept.
     fn accept<R: AnyGame>(
         alloc: Global,
         kept: &mut Self::Kept,
-        number: usize,
-        heading: Heading<'_>,
-        contents: Contents<'_, R>,
+        accepted: Accepted<'_, R>,
         out: &mut Vec<u8>,
     ) -> Result<(), AllocError>
         ensures printed { OnOk result ((members : List Member) → keeps kept.old members
-            → out.new.items ≡ out.old.items ++ lines members number
-            (heading_seen R.VARIANT heading.entry) (contents_seen contents.entry)) }
+            → out.new.items ≡ out.old.items ++ lines members accepted.entry.number
+            (heading_seen R.VARIANT accepted.entry.heading)
+            (contents_seen accepted.entry.contents)) }
         ensures kept { OnOk result ((members : List Member) → keeps kept.old members
-            → keeps kept.new (members ++ member_of number
-            (heading_seen R.VARIANT heading.entry) (contents_seen contents.entry) ∷ [])) };
+            → keeps kept.new (members ++ member_of accepted.entry.number
+            (heading_seen R.VARIANT accepted.entry.heading)
+            (contents_seen accepted.entry.contents) ∷ [])) };
 
     /// Prints the lines at the end, after what is pending, and returns whether all records fail
     /// together. What is printed is written once enough of it is pending.
@@ -100,13 +118,18 @@ pub(crate) fn take_record<A: Command>(
 {
     match read_heading(variant, text.bytes) {
         Err(fault) => refuse::<A::Refusal>(text, None, fault, out),
-        Ok((named, heading, body)) => match named {
-            Variant::FreeCell => take_headed::<A, FreeCell>(alloc, kept, text, heading, body, out),
-            Variant::BakersGame => {
-                take_headed::<A, BakersGame>(alloc, kept, text, heading, body, out)
+        Ok((named, heading, body)) => {
+            let headed = Headed {
+                text,
+                heading,
+                body,
+            };
+            match named {
+                Variant::FreeCell => take_headed::<A, FreeCell>(alloc, kept, headed, out),
+                Variant::BakersGame => take_headed::<A, BakersGame>(alloc, kept, headed, out),
+                Variant::EightOff => take_headed::<A, EightOff>(alloc, kept, headed, out),
             }
-            Variant::EightOff => take_headed::<A, EightOff>(alloc, kept, text, heading, body, out),
-        },
+        }
     }
 }
 
@@ -114,27 +137,38 @@ pub(crate) fn take_record<A: Command>(
 fn take_headed<A: Command, R: AnyGame>(
     alloc: Global,
     kept: &mut A::Kept,
-    text: RecordText<'_>,
-    heading: Heading<'_>,
-    body: &[u8],
+    headed: Headed<'_>,
     out: &mut Vec<u8>,
 ) -> Result<bool, AllocError>
-    requires body { body.now ≡ after_header text.bytes.now }
-    requires shorter { length body.now ≤ length text.bytes.now }
-    requires within { text.start + length text.bytes.now ≤ 2 ^ 60 }
+    requires body { headed.body.now ≡ after_header headed.text.bytes.now }
+    requires shorter { length headed.body.now ≤ length headed.text.bytes.now }
+    requires within { headed.text.start + length headed.text.bytes.now ≤ 2 ^ 60 }
     ensures printed { OnOk result ((members : List Member) → A.keeps kept.old members
         → out.new.items ≡ out.old.items ++ printed_or A.Refusal.text (A.lines members)
-        (as_text text.entry) (reading_after (heading_seen R.VARIANT heading.entry)
-        text.entry.bytes.now)) }
+        (as_text headed.entry.text)
+        (reading_after (heading_seen R.VARIANT headed.entry.heading)
+        headed.entry.text.bytes.now)) }
     ensures refused { IfOk result (λ refused. refused
-        ≡ refuses (reading_after (heading_seen R.VARIANT heading.entry) text.entry.bytes.now)) }
+        ≡ refuses (reading_after (heading_seen R.VARIANT headed.entry.heading)
+        headed.entry.text.bytes.now)) }
     ensures kept { OnOk result ((members : List Member) → A.keeps kept.old members
-        → A.keeps kept.new (members ++ if_accepted text.entry.number
-        (reading_after (heading_seen R.VARIANT heading.entry) text.entry.bytes.now))) }
+        → A.keeps kept.new (members ++ if_accepted headed.entry.text.number
+        (reading_after (heading_seen R.VARIANT headed.entry.heading)
+        headed.entry.text.bytes.now))) }
 {
+    let Headed {
+        text,
+        heading,
+        body,
+    } = headed;
     match read_contents::<R>(alloc, text.bytes.len() - body.len(), body) {
         Ok(contents) => {
-            A::accept::<R>(alloc, kept, text.number, heading, contents, out)?;
+            let accepted = Accepted {
+                number: text.number,
+                heading,
+                contents,
+            };
+            A::accept::<R>(alloc, kept, accepted, out)?;
             Ok(false)
         }
         Err(Unread::Fault(fault)) => refuse::<A::Refusal>(text, heading.name, fault, out),

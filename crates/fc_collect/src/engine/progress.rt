@@ -125,7 +125,6 @@ fn pass(progress: &mut Progress, bytes: &[u8])
 ///
 /// What is printed is written once enough of it is pending.
 pub(crate) fn take_complete_records<C: Command, Wr: Write>(
-    alloc: Global,
     config: RunConfig,
     printed: &mut Printed<C::Kept>,
     held: &[u8],
@@ -158,7 +157,7 @@ pub(crate) fn take_complete_records<C: Command, Wr: Write>(
     let mut from = searched;
     while let Some(len) = next_header(&held[front..], from) {
         let text = &held[front..front + len];
-        take_text::<C, Wr>(alloc, config.variant, printed, text, output)?;
+        take_text::<C, Wr>(config.alloc, config.variant, printed, text, output)?;
         front += len;
         from = 1;
     }

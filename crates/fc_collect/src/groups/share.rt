@@ -11,7 +11,7 @@ ghost use Rattle.fc_collect.specs.{inside.Wide.{IsWide}, Streams.{GrowsBy, HasRo
 
 use crate::groups::solution::{Shared, SharedMember, Solution, as_eight_off, first_winning_list};
 use crate::groups::{Gathering, GroupKey};
-use crate::{AnyGame, Counted, RunFault, write_full};
+use crate::{Accepted, AnyGame, Counted, RunFault, write_full};
 use fc_board::{Board, Rule};
 use fc_canon::Passage;
 use fc_card::Group;
@@ -33,14 +33,12 @@ impl Gathering for ShareLines {
     // Most groups have one member, so the first one gets room for itself alone.
     fn first<R: AnyGame>(
         alloc: Global,
-        number: usize,
-        heading: Heading<'_>,
-        contents: Contents<'_, R>,
+        accepted: Accepted<'_, R>,
         passage: Passage<R>,
     ) -> Result<Shared, AllocError> {
         let mut kept = Shared::new(alloc);
         kept.members.reserve_exact(1)?;
-        ShareLines::add::<R>(alloc, &mut kept, number, heading, contents, passage)?;
+        ShareLines::add::<R>(alloc, &mut kept, accepted, passage)?;
         Ok(kept)
     }
 
@@ -48,11 +46,14 @@ impl Gathering for ShareLines {
     fn add<R: AnyGame>(
         alloc: Global,
         kept: &mut Shared,
-        number: usize,
-        heading: Heading<'_>,
-        contents: Contents<'_, R>,
+        accepted: Accepted<'_, R>,
         passage: Passage<R>,
     ) -> Result<(), AllocError> {
+        let Accepted {
+            number,
+            heading,
+            contents,
+        } = accepted;
         let Contents { board, lists, .. } = contents;
         let member = kept_member(alloc, number, heading, &board, &passage)?;
         kept.members.push(member)?;

@@ -6,6 +6,7 @@ ghost use Rattle.fc_collect.specs.Limits.{begun_of, begun_with, largest, most_by
 ghost use Rattle.fc_collect.specs.Limits.{most_record_bytes, most_records, standard};
 
 use fc_board::Variant;
+use std::alloc::Global;
 use std::hash::{BuildHasher, FoldHasher, Hasher};
 
 /// The most reads of a run, the one that finds the end included.
@@ -26,6 +27,8 @@ pub const MOST_COUNTABLE: usize = 1 << 60;
 /// The settings of a run.
 #[derive(Clone, Copy)]
 pub struct RunConfig {
+    /// Where a run takes its memory.
+    pub alloc: Global,
     /// The game of the records without a header.
     pub variant: Variant,
     /// How much is read, and where that is in its collection.

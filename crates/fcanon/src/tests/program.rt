@@ -2,7 +2,7 @@
 use super::command_line::words_of;
 use super::streams::Pieces;
 use fc_collect::{Counted, RunFault, Seed};
-use fc_tool::{end_without_words, run_program};
+use fc_tool::{Streams, end_without_words, run_program};
 use std::alloc::{AllocError, Global};
 use std::io::{self, ErrorKind, Read, Write};
 use std::test::Fail;
@@ -15,18 +15,17 @@ fn end_of_run<Rd: Read + Drop, Wr: Write + Drop>(
     output: Wr,
 ) -> Result<(u8, Wr, Vec<u8>), AllocError> {
     let words = words_of(alloc, line)?;
-    let mut input = Counted::new(input);
-    let mut output = Counted::new(output);
-    let mut errors = Counted::new(Vec::new(alloc));
-    let status = run_program(
-        alloc,
-        Seed::KNOWN,
-        words.as_slice(),
-        &mut input,
-        &mut output,
-        &mut errors,
-    );
-    Ok((status, output.into_inner(), errors.into_inner()))
+    let mut streams = Streams {
+        input: Counted::new(input),
+        output: Counted::new(output),
+        errors: Counted::new(Vec::new(alloc)),
+    };
+    let status = run_program(alloc, Seed::KNOWN, words.as_slice(), &mut streams);
+    Ok((
+        status,
+        streams.output.into_inner(),
+        streams.errors.into_inner(),
+    ))
 }
 
 /// Takes no byte.

@@ -1,7 +1,7 @@
 //! Runs over streams that hand over some bytes a call, or fail at a call.
 use fc_collect::{
-    CountFormat, Counted, Limits, RunFault, RunKind, Seed, Summary, Variant, run_canon, run_check,
-    run_expand, run_group, run_share, run_show, run_table, run_unique, run_within,
+    CountFormat, Counted, Limits, RunConfig, RunFault, RunKind, Seed, Summary, Variant, run_canon,
+    run_check, run_expand, run_group, run_share, run_show, run_table, run_unique, run_within,
 };
 use std::alloc::{AllocError, Global};
 use std::io::{self, ErrorKind, Read, Write};
@@ -125,8 +125,13 @@ fn run(alloc: Global, command: Command, reader: Pieces<'_>, writer: Taking) -> R
         Command::Unique => run_unique(alloc, variant, &mut input, &mut output),
         Command::Table => run_table(alloc, variant, &mut input, &mut output),
         Command::Other(kind) => {
-            let (limits, seed) = (Limits::STANDARD, Seed::KNOWN);
-            run_within(alloc, kind, variant, limits, seed, &mut input, &mut output)
+            let config = RunConfig {
+                alloc,
+                variant,
+                limits: Limits::STANDARD,
+                seed: Seed::KNOWN,
+            };
+            run_within(config, kind, &mut input, &mut output)
         }
     };
     Ran {

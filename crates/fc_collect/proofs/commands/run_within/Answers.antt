@@ -15,49 +15,49 @@ pub returns-in-Show : goal.returns-in-Show
 returns-in-Show g c =
     let ensured = c.run_records.ensures in
     rw c.in-Show.is
-    (Runs-alone c.args.limits (printed show_lines c.args.variant) (ending_of_kind Show c.args.variant) (count_by (is_refused c.args.variant)) _ _
+    (Runs-alone c.args.config.limits (printed show_lines c.args.config.variant) (ending_of_kind Show c.args.config.variant) (count_by (is_refused c.args.config.variant)) _ _
     c.run_records.result ensured.read_counted ensured.write_counted ensured.wrote)
 
 pub returns-in-Canon : goal.returns-in-Canon
 returns-in-Canon g c =
     let ensured = c.run_records-in-Canon.ensures in
     rw c.in-Canon.is
-    (Runs-alone c.args.limits (printed canon_lines c.args.variant) (ending_of_kind Canon c.args.variant) (count_by (is_refused c.args.variant)) _ _
+    (Runs-alone c.args.config.limits (printed canon_lines c.args.config.variant) (ending_of_kind Canon c.args.config.variant) (count_by (is_refused c.args.config.variant)) _ _
     c.run_records-in-Canon.result ensured.read_counted ensured.write_counted ensured.wrote)
 
 pub returns-in-Check : goal.returns-in-Check
 returns-in-Check g c =
     let ensured = c.run_records-in-Check.ensures in
     rw c.in-Check.is
-    (Runs-alone c.args.limits (printed check_lines c.args.variant) (ending_of_kind Check c.args.variant) (count_by (is_refused c.args.variant)) _ _
+    (Runs-alone c.args.config.limits (printed check_lines c.args.config.variant) (ending_of_kind Check c.args.config.variant) (count_by (is_refused c.args.config.variant)) _ _
     c.run_records-in-Check.result ensured.read_counted ensured.write_counted ensured.wrote)
 
 pub returns-in-Expand : goal.returns-in-Expand
 returns-in-Expand g c =
     let ensured = c.run_records-in-Expand.ensures in
     rw c.in-Expand.is
-    (Runs-alone c.args.limits (printed expand_lines c.args.variant) (ending_of_kind Expand c.args.variant) (count_by (is_refused c.args.variant)) _ _
+    (Runs-alone c.args.config.limits (printed expand_lines c.args.config.variant) (ending_of_kind Expand c.args.config.variant) (count_by (is_refused c.args.config.variant)) _ _
     c.run_records-in-Expand.result ensured.read_counted ensured.write_counted ensured.wrote)
 
 pub returns-in-Symmetries : goal.returns-in-Symmetries
 returns-in-Symmetries g c =
     let ensured = c.run_records-in-Symmetries.ensures in
     rw c.in-Symmetries.is
-    (Runs-alone c.args.limits (printed symmetry_lines c.args.variant) (ending_of_kind Symmetries c.args.variant) (count_by (is_refused c.args.variant)) _ _
+    (Runs-alone c.args.config.limits (printed symmetry_lines c.args.config.variant) (ending_of_kind Symmetries c.args.config.variant) (count_by (is_refused c.args.config.variant)) _ _
     c.run_records-in-Symmetries.result ensured.read_counted ensured.write_counted ensured.wrote)
 
 pub returns-in-Group : goal.returns-in-Group
 returns-in-Group g c =
     let ensured = c.run_records-in-Group.ensures in
     rw c.in-Group.is
-    (Runs-alone c.args.limits (printed (λ number heading contents. []) c.args.variant) (ending_of_kind Group c.args.variant) (count_by (is_refused c.args.variant)) _ _
+    (Runs-alone c.args.config.limits (printed (λ number heading contents. []) c.args.config.variant) (ending_of_kind Group c.args.config.variant) (count_by (is_refused c.args.config.variant)) _ _
     c.run_records-in-Group.result ensured.read_counted ensured.write_counted ensured.wrote)
 
 pub returns-in-Share : goal.returns-in-Share
 returns-in-Share g c =
     let ensured = c.run_records-in-Share.ensures in
     rw c.in-Share.is
-    (Runs-alone c.args.limits (printed (λ number heading contents. []) c.args.variant) (ending_of_kind Share c.args.variant) (count_by (is_refused c.args.variant)) _ _
+    (Runs-alone c.args.config.limits (printed (λ number heading contents. []) c.args.config.variant) (ending_of_kind Share c.args.config.variant) (count_by (is_refused c.args.config.variant)) _ _
     c.run_records-in-Share.result ensured.read_counted ensured.write_counted ensured.wrote)
 
 pub returns-in-Unique : goal.returns-in-Unique
@@ -75,7 +75,7 @@ returns-in-Count-Words g c =
     let ensured = c.run_records-in-Count-Words.ensures in
     let format = rw c.in-Count-Words.is at c.in-Count-Words.field-0-is in
     rw (c.in-Count-Words.is ∙ ap Count format)
-    (Runs-alone c.args.limits (printed (λ number heading contents. []) c.args.variant) (ending_of_kind (Count Words) c.args.variant) (count_by (is_refused c.args.variant)) _ _
+    (Runs-alone c.args.config.limits (printed (λ number heading contents. []) c.args.config.variant) (ending_of_kind (Count Words) c.args.config.variant) (count_by (is_refused c.args.config.variant)) _ _
     c.run_records-in-Count-Words.result ensured.read_counted ensured.write_counted ensured.wrote)
 
 pub returns-in-Count-Json : goal.returns-in-Count-Json
@@ -83,7 +83,7 @@ returns-in-Count-Json g c =
     let ensured = c.run_records-in-Count-Json.ensures in
     let format = rw c.in-Count-Json.is at c.in-Count-Json.field-0-is in
     rw (c.in-Count-Json.is ∙ ap Count format)
-    (Runs-alone c.args.limits (printed_with refusal_object (λ number heading contents. []) c.args.variant) (ending_of_kind (Count Json) c.args.variant) (count_by (is_refused c.args.variant)) _ _
+    (Runs-alone c.args.config.limits (printed_with refusal_object (λ number heading contents. []) c.args.config.variant) (ending_of_kind (Count Json) c.args.config.variant) (count_by (is_refused c.args.config.variant)) _ _
     c.run_records-in-Count-Json.result ensured.read_counted ensured.write_counted ensured.wrote)
 
 pub returns-in-Closed-Words : goal.returns-in-Closed-Words
@@ -91,7 +91,7 @@ returns-in-Closed-Words g c =
     let ensured = c.run_records-in-Closed-Words.ensures in
     let format = rw c.in-Closed-Words.is at c.in-Closed-Words.field-0-is in
     rw (c.in-Closed-Words.is ∙ ap Closed format)
-    (Runs-alone c.args.limits (printed (λ number heading contents. []) c.args.variant) (ending_of_kind (Closed Words) c.args.variant) (refused_with has_flaw c.args.variant) _ _
+    (Runs-alone c.args.config.limits (printed (λ number heading contents. []) c.args.config.variant) (ending_of_kind (Closed Words) c.args.config.variant) (refused_with has_flaw c.args.config.variant) _ _
     c.run_records-in-Closed-Words.result ensured.read_counted ensured.write_counted ensured.wrote)
 
 pub returns-in-Closed-Json : goal.returns-in-Closed-Json
@@ -99,5 +99,5 @@ returns-in-Closed-Json g c =
     let ensured = c.run_records-in-Closed-Json.ensures in
     let format = rw c.in-Closed-Json.is at c.in-Closed-Json.field-0-is in
     rw (c.in-Closed-Json.is ∙ ap Closed format)
-    (Runs-alone c.args.limits (printed_with refusal_object (λ number heading contents. []) c.args.variant) (ending_of_kind (Closed Json) c.args.variant) (refused_with has_flaw c.args.variant) _ _
+    (Runs-alone c.args.config.limits (printed_with refusal_object (λ number heading contents. []) c.args.config.variant) (ending_of_kind (Closed Json) c.args.config.variant) (refused_with has_flaw c.args.config.variant) _ _
     c.run_records-in-Closed-Json.result ensured.read_counted ensured.write_counted ensured.wrote)

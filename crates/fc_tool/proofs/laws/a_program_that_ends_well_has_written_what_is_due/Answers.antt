@@ -65,6 +65,6 @@ module _ {R W : Type 0} (input : Stream R) (output : Stream W) (status : ℕ) (m
 
 pub returns : goal.returns
 returns g c task kind called status read held is_run program low given holds =
-    answered (record { bytes = g.Rd.Read.remaining; old = c.args.input.now; new = c.args.left.now })
-    (record { bytes = g.Wr.Write.contents; old = c.args.before.now; new = c.args.after.now })
+    answered (record { bytes = g.Rd.Read.remaining; old = c.args.before.now.input; new = c.args.after.now.input })
+    (record { bytes = g.Wr.Write.contents; old = c.args.before.now.output; new = c.args.after.now.output })
     status program.message task kind called is_run read held low given holds program.answer program.reads program.ends

@@ -15,7 +15,7 @@ returns g c =
         c.say_notes.result,
         record {
           counted = c.say_notes.ensures.counted;
-          bytes = subst (λ text. WritesText text (messages (inner_of c.args.errors.now)) (messages (inner_of c.say_notes.new.errors)) c.say_notes.result)
+          bytes = subst (λ text. WritesText text (messages (inner_of c.args.streams.now.errors)) (messages (inner_of c.say_notes.new.errors)) c.say_notes.result)
               (ap (λ front. front ++ c.as_bytes-line.result.now) c.as_slice.ensures.value ∙ ap (λ rest. notes ++ rest) line) c.say_notes.ensures.bytes;
         },
       ),

@@ -7,6 +7,6 @@ use Rattle.fc_bytes.proofs.calls.run_moves.push_runs_of_each_count.Given as goal
 abbrev pub invariant-loop-more : goal.invariant-loop-more
 invariant-loop-more g l = record {
   runs : l.runs.items ≡ l.fn.runs.items ++ map run_bytes
-      (filter (λ run. is_none (run_refusal g.R.Rule.game l.fn.board run)) (map (λ more. Run l.fn.from l.fn.to (Some (more + 2))) (places l.more)));
+      (filter (λ run. is_none (run_refusal g.R.Rule.game l.fn.board run)) (map (λ more. Run l.fn.pair.from l.fn.pair.to (Some (more + 2))) (places l.more)));
   few : length l.runs.items ≤ length l.fn.runs.items + l.more;
 }
