@@ -77,13 +77,15 @@ abbrev pub over_cells : ℕ → ℕ → List ℕ → List Move
 over_cells from to [] = move_between (FromColumn from) (ToColumn to) ∷ []
 over_cells from to (cell ∷ cells) = move_between (FromColumn from) (ToCell cell) ∷ (over_cells from to cells ++ move_between (FromCell cell) (ToColumn to) ∷ [])
 
--- the least of reach, twice reach, four times reach and so on that is half of the count or more; no more doublings are needed than there are helpers
+-- the least of reach, twice reach, four times reach and so on that is half of the count or more;
+-- no more doublings are needed than there are helpers
 -- said again: half_is_the_least_of_its_kind
 abbrev pub half : ℕ → ℕ → List ℕ → ℕ
 half reach count [] = reach
 half reach count (helper ∷ spare_columns) = if nat_le count (2 * reach) then reach else half (2 * reach) count spare_columns
 
--- so many cards go from column to column over these cells and helper columns: over the cells alone if they are enough; else the last ones wait in the first helper column while the others go
+-- so many cards go from column to column over these cells and helper columns:
+-- over the cells alone if they are enough; else the last ones wait in the first helper column while the others go
 abbrev pub expansion : List ℕ → ℕ → ℕ → ℕ → List ℕ → List Move
 expansion cells count from to [] = over_cells from to (take (count - 1) cells)
 expansion cells count from to (helper ∷ spare_columns) =

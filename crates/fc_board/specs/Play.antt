@@ -10,7 +10,8 @@ use Rattle.fc_board.specs.declared.run_move.RunMove.{RunMove, TheVariants.{One, 
 
 -- -------- Lists of moves, of one card each or of several, played one after another. From: standard FreeCell move notation, whose lists name every move; nothing goes home by itself.
 
--- by what it is for one move to lead from board to board: each move leads on in its turn, and the board is this one after the last
+-- by what it is for one move to lead from board to board: each move leads on in its turn,
+-- and the board is this one after the last
 abbrev pub Played : {Item : Type 0} → (Board → Item → Board → Type 0) → Board → List Item → Board → Type 0
 Played Leads board [] after = after ≡ board
 Played Leads board (move ∷ moves) after = (between : Board) × Leads board move between × Played Leads between moves after
@@ -42,14 +43,16 @@ pub record Stops {Item : Type 0} (Leads : Board → Item → Board → Type 0) (
   pub fits : FitsGame move
   pub refused : reason before move ≡ Some fault
 
--- the game allows the moves before this index, counted from 0, has the piles of the move there, and refuses it for this reason
+-- the game allows the moves before this index, counted from 0, has the piles of the move there,
+-- and refuses it for this reason
 abbrev pub RefusedAt : Game → Board → MoveList → ℕ → StepFault → Type 0
 RefusedAt game board (OneCard moves) = Stops (Step game) (Fits game) (refusal game) board moves
 RefusedAt game board (Runs moves) = Stops (RunStep game) (RunFits game) (run_refusal game) board moves
 
 -- -------- What becomes of a list of moves on a board, move by move. From: the games' published building rules.
 
--- a list is allowed to its end and the board is won then, or it is allowed and the board is not won, or the move at this index, from 0, is refused
+-- a list is allowed to its end and the board is won then, or it is allowed and the board is not won,
+-- or the move at this index, from 0, is refused
 pub data Verdict : Type 0 where
   Won : Verdict
   OnlyLegal : Verdict
@@ -90,7 +93,8 @@ list_verdict game board (Runs moves) = run_verdict game board moves
 
 -- -------- A passage names the places of moves anew, so that on the board that it leads to they are moves of the same cards. From: standard FreeCell move notation, which names columns and cells by their places.
 
--- a list of moves plays from the one board as its image under the passage from the other: they are legal together, win together, and are refused at one index for one reason
+-- a list of moves plays from the one board as its image under the passage from the other:
+-- they are legal together, win together, and are refused at one index for one reason
 pub record PlaysAlike (game : Game) (passage : Passage) (board other : Board) : Type 0 where
   pub legal : (moves : MoveList) → Legal game board moves ↔ Legal game other (list_image passage moves)
   pub wins : (moves : MoveList) → Wins game board moves ↔ Wins game other (list_image passage moves)

@@ -261,7 +261,8 @@ pub record Step (game : Game) (board : Board) (move : Move) (after : Board) : Ty
   pub moved : after ≡ put_on (taken_from board move.from) card move.to
 
 -- ---- a move of several cards
--- so many cards at the end of the one column are a run, may go to the end of the other, and are no more than the capacity; then they are there
+-- so many cards at the end of the one column are a run, may go to the end of the other,
+-- and are no more than the capacity; then they are there
 pub record RunGoes (game : Game) (board : Board) (from to : ℕ) (said : Option ℕ) (after : Board) : Type 0 where
   pub apart : from ≢ to
   -- the last card of the source

@@ -149,7 +149,8 @@ HasNoBoardAt game renamings before after place =
     HaveKeys game renamings before after place × (place < length before)
     × ((default : BoardBytes) → HoldsNone (HoldsBoard game) (slice_index_or before place default))
 
--- the renamings that with some orders lead from the board to itself, in the order of their words, and how many; what comes after them is as it was
+-- the renamings that with some orders lead from the board to itself, in the order of their words,
+-- and how many; what comes after them is as it was
 abbrev pub HasSymmetries : Game → BoardBytes → List (List ℕ) → List (List ℕ) → ℕ → Type 0
 HasSymmetries game board before after count =
     (held : Board) × (symmetries : List Renaming) × HoldsBoard game board held
@@ -289,7 +290,8 @@ abbrev pub OfLegalMoves : Game → BoardBytes → (List Move → Type 0) → Typ
 OfLegalMoves game board IsSo = (held : Board) × HoldsBoard game board held × IsSo (legal_moves game held)
 
 -- ---- the moves of several cards that a board allows
--- the moves of two and more cards between these columns that the game allows, each with its number, in the order of these
+-- the moves of two and more cards between these columns that the game allows, each with its number,
+-- in the order of these
 abbrev pub legal_runs_between : Game → Board → ℕ → ℕ → List RunMove
 legal_runs_between game board from to =
     filter (λ run. is_none (run_refusal game board run)) (map (λ more. Run from to (Some (more + 2))) (places 12))

@@ -6,7 +6,7 @@ use Rattle.fc_record.specs.{Grammar.{begins_with}, RecordTexts.{ends_line, heade
 use Rattle.fc_collect.specs.Records.{limits_after, records_from}
 use Rattle.fc_collect.specs.declared.streams.limits.Limits.{Limits}
 
--- -------- The lines of a collection that begin with `@`, and the numbers and places of records after other records.
+-- -------- The lines of a collection that begin with `@`, and the numbers and places of records after other records. From: this project's profile.
 
 -- where a line begins that is a header
 abbrev pub header_start : Piece → Text

@@ -23,7 +23,7 @@ pub record IsWithinLimits (limits : Limits) (read : Text) : Type 0 where
   pub bytes : limits.place + length read ≤ limits.bytes
   pub texts : All (IsSmall limits) (cut (first_of limits) read)
 
--- -------- What writes promise of the bytes that go out: a whole text, or some front of it where a write fails.
+-- -------- What writes promise of the bytes that go out: a whole text, or some front of it where a write fails. From: this project's profile.
 
 -- what they add to its failures at a fault
 abbrev pub fault_failures : RunFault → ℕ

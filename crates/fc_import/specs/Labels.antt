@@ -7,7 +7,7 @@ use Rattle.fc_text.specs.{Bytes.{colon}, Lines.{Piece, with_end, words_from}}
 use Rattle.fc_import.specs.declared.labels.LabelKind.{LabelKind, TheVariants.{Bare, Cells, Column}}
 use Rattle.fc_import.specs.declared.labels.LabelKind.TheVariants.{Columns, Foundations, Unknown}
 
--- -------- The table of names, in any case.
+-- -------- The table of names, in any case. From: the names that sites, books and solvers use.
 
 abbrev pub foundations_names : List Text
 foundations_names = codes "foundations" ∷ codes "foundation" ∷ codes "founds" ∷ codes "found" ∷ codes "decks" ∷ codes "deck" ∷ codes "home" ∷ []
@@ -26,7 +26,7 @@ columns_names = codes "columns" ∷ codes "tableau" ∷ codes "stacks" ∷ codes
 abbrev pub is_among : (word : Text) → (names : List Text) → Bool
 is_among word names = list_any (str_eq_ignore_ascii_case word) names
 
--- -------- Labels.
+-- -------- Labels. From: this project's profile.
 
 -- a digit from 1 to 8
 abbrev pub is_column_number : Text → Bool

@@ -29,7 +29,7 @@ uncommented line = before_first (λ byte. byte == number_sign) line
 abbrev pub words_of : Text → List (Piece × ℕ)
 words_of line = map with_end (words_from parts_words 0 (uncommented line))
 
--- -------- The cards that they name.
+-- -------- The cards that they name. From: how sites, books and solvers write them.
 
 -- a word names a card as a board's text spells it, or with its suit first
 abbrev pub named_card : Text → Option Card
@@ -42,7 +42,7 @@ cards_in line = flat_map (λ word. option_to_list (named_card word.0.bytes)) (wo
 abbrev pub named_cards : Text → List Card
 named_cards line = if begins_with header_mark line then [] else cards_in line
 
--- -------- The moves that they name: `2a`, `23v2`, `2->6`, `5 to a`, with numbers and labels before them, as `12. 2a` and `Solution: 2a`.
+-- -------- The moves that they name: `2a`, `23v2`, `2->6`, `5 to a`, with numbers and labels before them, as `12. 2a` and `Solution: 2a`. From: standard FreeCell move notation, and how sites and programs write it.
 
 -- what words name so far: the moves, each after a blank; the pile that a move is from whose target comes next, and whether its arrow has a point; whether each word is of a move; how many moves are no numbers: none, one, or more; and whether one of those came before any other word
 pub record Said : Type 0 where
@@ -151,7 +151,7 @@ after_word game text said word =
     let next = after_gap after in
     if is_label word.0.bytes after then said else before_dots (after_next game said said.from word.0.bytes next) next
 
--- -------- The move that a line of Freecell Solver's says, as `Move 2 cards from stack 0 to stack 5`.
+-- -------- The move that a line of Freecell Solver's says, as `Move 2 cards from stack 0 to stack 5`. From: what `fc-solve -m` prints.
 
 -- the column of `stack 0`, the cell of `freecell 0`, and `the foundations`
 abbrev pub pile_said : (kind number : Text) → ℕ
@@ -193,7 +193,7 @@ abbrev pub solver_said : Game → List (Piece × ℕ) → Text
 solver_said game words =
     if is_said words then if_move game (move_said (word_at words 1) (word_at words 4) (word_at words 5) (word_at words 7) (word_at words 8)) else []
 
--- -------- All that a line says of moves.
+-- -------- All that a line says of moves. From: this project's profile.
 
 abbrev pub said_in : Game → Text → Said
 said_in game line =
@@ -231,7 +231,7 @@ is_drawn line = list_all (λ word. is_drawn_word word.0.bytes) (words_of line)
 abbrev pub lists_moves : Game → (in_words : Bool) → (line : Text) → Bool
 lists_moves game in_words line = is_list game line && not (in_words && is_drawn line)
 
--- -------- How many moves a line names, and whether they may be cut into signs.
+-- -------- How many moves a line names, and whether they may be cut into signs. From: this project's profile.
 
 -- single characters, of which the first two are a move: so moves may be cut into two
 abbrev pub begins_single : Game → List (Piece × ℕ) → Bool
@@ -246,7 +246,7 @@ are_single game words = nat_le 4 (length words) && list_all (λ word. length wor
 abbrev pub moves_in : Game → Text → ℕ
 moves_in game line = count_by (λ byte. byte == blank) (said_in game line).moves
 
--- -------- What a line may be that no board and no list is made of.
+-- -------- What a line may be that no board and no list is made of. From: this project's profile.
 
 -- a line of other words names few moves: less than four, by at most half of its words, but for a number alone; one at most that is no number, and that not first; and it has no moves in forms that are not read
 pub record HasFewMoves (game : Game) (line : Text) : Type 0 where

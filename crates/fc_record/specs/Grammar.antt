@@ -178,7 +178,7 @@ reading_by (Ok heading) bytes = reading_after heading bytes
 abbrev pub reading_of : Variant → Text → Reading
 reading_of variant bytes = reading_by (heading_of variant bytes) bytes
 
--- -------- What clauses see of what the code holds of a record.
+-- -------- What clauses see of what the code holds of a record. From: this project.
 
 -- the heading of a record of this variant
 abbrev pub heading_seen : Variant → HeldHeading → Heading

@@ -5,7 +5,7 @@ use Rattle.std.specs.{List.Sorted.{IsStrictlySortedBy}, Ordering.{nat_cmp, order
 use Rattle.std.specs.Prelude.{◌==◌, ◌||◌, ◌≡◌, [], Bool, List, slice_index_or, ℕ}
 use Rattle.fc_card.specs.Types.{Order, Text}
 
--- -------- The bytes of the formats that are no letters, by name.
+-- -------- The bytes of the formats that are no letters, by name. From: ASCII.
 
 abbrev pub tab : ℕ
 tab = 9
@@ -35,7 +35,7 @@ colon = 58
 abbrev pub is_gap : ℕ → Bool
 is_gap byte = byte == blank || byte == tab
 
--- -------- Texts and words in order, and words that are joined end to end.
+-- -------- Texts and words in order, and words that are joined end to end. From: the lexicographic order.
 
 -- the words end to end
 abbrev pub joined : List Text → Text

@@ -88,7 +88,7 @@ pub record AreWords (separates : ℕ → Bool) (place : ℕ) (text : Text) (word
 abbrev pub moved : ℕ → Piece → Piece
 moved places piece = record { start = places + piece.start; bytes = piece.bytes }
 
--- -------- What it is for a word to come next in a line. Which bytes separate words, each kind of text says.
+-- -------- What it is for a word to come next in a line. Which bytes separate words, each kind of text says. From: this project's profile.
 
 -- from this place on the word is the first of the line, or there is none
 abbrev pub ComesNext : (ℕ → Bool) → Text → ℕ → Option Token → Type 0

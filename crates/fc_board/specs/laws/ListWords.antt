@@ -21,7 +21,8 @@ IsRun game [] = Unit {0}
 IsRun game (card ∷ []) = Unit {0}
 IsRun game (card ∷ next ∷ cards) = Builds game next card × IsRun game (next ∷ cards)
 
--- moves that stay within these piles and take no other cards take so many last cards of the one column to the end of the other
+-- moves that stay within these piles and take no other cards take so many last cards of the one column to
+-- the end of the other
 abbrev pub CanGoOver : Game → Board → ℕ → ℕ → ℕ → Type 0
 CanGoOver game board from to count = (moves : List Move) × Confined board from to (last_cards count (column_at board from)) board moves × Plays game board (OneCard moves) (run_moved board from to count)
 
