@@ -186,7 +186,7 @@ def pebbles():
     far, edge = reach * (2 ** most - 1), reach * 2 ** (most - 1)
     shown = play(reach, most, far)
     picture, high = Picture("Pebbles that come as far as three can, move by move, below an edge and above it"), 26 + 14 * len(shown)
-    x = {place: 20 + (place - 1) * 36 + (14 if place > edge else 0) for place in range(1, far + 1)}
+    x = {place: 20 + (place - 1) * 36 + (34 if place > edge else 0) for place in range(1, far + 1)}
     draw_side(picture, x[1], 20, f"up to the edge: h + r = {edge}", range(1, edge + 1), high, "#e4ecf7")
     draw_side(picture, x[edge + 1], 20, f"above it: h = {edge - reach}", range(edge + 1, far + 1), high, "#e3f1e8")
     for row, now in enumerate(shown):
