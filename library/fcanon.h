@@ -4,12 +4,12 @@
  *
  * Answers. A call answers 0 (FCANON_DONE) if and only if it did what is said here, and each other
  * answer if and only if its reason holds. Then it has written nothing, except the place of a fault
- * (fcanon_read), the keys before it (fcanon_keys), and the place and the move of fcanon_closed. Of several reasons it answers the first, in
- * the order of the arguments.
+ * (fcanon_read), the keys before it (fcanon_keys), and the place and the move of fcanon_closed. Of
+ * several reasons it answers the first, in the order of the arguments.
  *
  * Pointers. A pointer may be null only before a size of 0: that of a text, of boards of fcanon_keys, of
- * keys, and of room for moves, runs, keys and child hashes. What a call writes must not overlap anything else that is handed to
- * that call: only fcanon_play and fcanon_play_run work in place on their board, fcanon_carry and
+ * keys, and of room for moves, runs, keys and child hashes. What a call writes must not overlap anything
+ * else that is handed to that call: only fcanon_play and fcanon_play_run work in place on their board, fcanon_carry and
  * fcanon_carry_run on their move, and fcanon_move_sums on its sums.
  * size_t, uint32_t and sums must be aligned as C aligns them; boards, passages, moves, hashes and texts may be
  * anywhere. None of this is tested, as with memcpy. What the bytes are is tested: no bytes of a board,
@@ -223,12 +223,13 @@ FCANON_CALL uint32_t fcanon_hash(uint32_t game, const fcanon_board *board, uint8
  * them with its board by fcanon_move_sums. */
 FCANON_CALL uint32_t fcanon_sums(uint32_t game, const fcanon_board *board, fcanon_class_sums *sums);
 
-/* Makes the sums those of the board on which this card, 1 to 52, lies on the one no more, but on the other:
- * of the board after a move of one card, if they were those of the board before. from and onto are 0 to 54:
- * a card, or FCANON_ON_FOOT, FCANON_ON_CELL or FCANON_ON_HOME. The card that it lies on stands before it in
- * its column. Other numbers are answered by FCANON_NO_MOVE; whether the card lay there is not looked at.
- * With from and onto exchanged the move is taken back. Of cards that go from column to column together the
- * first alone needs it: the others lie on what they lay on. */
+/* Takes the sums along with a move of one card, 1 to 52: those of the board before the move become those of
+ * the board after it. from is what the card lay on, onto what it lies on then, 0 to 54: in a column the card
+ * before it or FCANON_ON_FOOT, else FCANON_ON_CELL or FCANON_ON_HOME. So 5H goes from 6S to a cell by
+ * fcanon_move_sums(game, FCANON_CARD(5, 2), FCANON_CARD(6, 3), FCANON_ON_CELL, &sums). Other numbers are
+ * answered by FCANON_NO_MOVE; whether the card lay there is not looked at. With from and onto exchanged the
+ * move is taken back. Of cards that go from column to column together the first alone needs it: the others
+ * lie on what they lay on. */
 FCANON_CALL uint32_t fcanon_move_sums(uint32_t game, uint8_t card, uint8_t from, uint8_t onto,
     fcanon_class_sums *sums);
 

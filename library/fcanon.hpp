@@ -183,7 +183,7 @@ public:
 
     std::uint32_t game() const noexcept { return number; }
     const fcanon_class_sums &sums() const noexcept { return held; }
-    /* The card lies on the one no more, but on the other: as fcanon_move_sums. */
+    /* Takes the sums along with a move of this card: as fcanon_move_sums. */
     void move(std::uint8_t card, std::uint8_t from, std::uint8_t onto) {
         detail::must(fcanon_move_sums(number, card, from, onto, &held));
     }

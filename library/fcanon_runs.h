@@ -59,7 +59,7 @@ typedef struct {
 
 typedef struct {
     size_t length;  /* of the whole output, in bytes */
-    size_t records; /* how many the input has; for an import, boards and refused pieces */
+    size_t records; /* how many the input has; for an import, boards and refused blocks */
     size_t refused; /* how many of them are refused, and one more where FCANON_TASK_CLOSED finds a
                        flaw; the program's status is 1 where this is not 0 */
 } fcanon_written;

@@ -20,7 +20,7 @@ namespace fcanon {
 struct Printed {
     std::string text;    /* what the program prints to standard output */
     std::string said;    /* what it prints to standard error: the notes of an import */
-    std::size_t records; /* how many were read; of an import, how many boards and refused pieces */
+    std::size_t records; /* how many were read; of an import, how many boards and refused blocks */
     std::size_t refused; /* how many of them are refused, and one more where FCANON_TASK_CLOSED finds a flaw */
 
     /* The status that the program ends with. */

@@ -14,7 +14,7 @@ export interface Printed {
   text: Uint8Array;
   /** The notes of an import, as the program has them on standard error. */
   said: Uint8Array;
-  /** How many records were read; of an import, how many boards and refused pieces. */
+  /** How many records were read; of an import, how many boards and refused blocks. */
   records: number;
   /** How many of them are refused, and one more where `closed` finds a flaw. */
   refused: number;

@@ -155,7 +155,7 @@ def close(store: Store, words: argparse.Namespace) -> int:
             data = stream.read()
         game = next((number for number, name in enumerate(GAMES) if path.endswith(f".{name}.keys")), None)
         if game is None or not reader.is_closed(data, GAMES[game]):
-            say([f"not closed: {path}\n"])
+            say([f"not closed: {escaped(shown(path))}\n"])
             status = 1
             continue
         keys = [data[at:at + BOARD_BYTES] for at in range(0, len(data), BOARD_BYTES)]

@@ -1,7 +1,7 @@
 """The tables and views of a store.
 
 `application_id` says that a database is a store, and `user_version` which version its tables have. Positions, records and
-solutions are only ever added.
+solutions are only added, and taken out by `forget`.
 """
 
 import sqlite3

@@ -16,8 +16,8 @@ POSITION = "select id from position where game = ? and key = ?"
 
 UNSOLVED = """from position where id > ? and not exists (select 1 from solution where position = id)
     and not exists (select 1 from closure where position = id)
-    and not exists (select 1 from attempt where position = id and (outcome = 'said unsolvable'
-        or solver = ? and boards >= ? and (seconds >= ? or seconds = 0) and (? or seconds = 0)))"""
+    and not exists (select 1 from attempt where position = id and solver = ? and (outcome = 'said unsolvable'
+        or boards >= ? and (seconds >= ? or seconds = 0) and (? or seconds = 0)))"""
 
 
 class Added(NamedTuple):
@@ -255,8 +255,8 @@ class Store:
     # ---- solving
 
     def unsolved(self, solver: str, limits: Limits, after: int) -> List[Position]:
-        """Some positions after this one that have no solution and are not known to have none, and that this solver did not
-        give up within these limits."""
+        """Some positions after this one that have no solution and are not known to have none, and that this solver neither gave
+        up within these limits nor said to have none."""
         rows = self.table.execute(f"select id, game, key {UNSOLVED} order by id limit 256", unsolved_by(solver, limits, after))
         return [Position(*row) for row in rows]
 

@@ -2,6 +2,7 @@
 
 import re
 import sys
+from collections import deque
 from pathlib import Path
 
 sys.path.append(str(Path(__file__).resolve().parent.parent.parent / "tests"))
@@ -152,6 +153,48 @@ def way():
     return picture
 
 
+# ---- pebbles on a line
+
+
+def play(reach, most, far):
+    """The shortest play that brings one of so many pebbles so far; each is put down or taken up in reach of a lower one, or of the floor at 0."""
+    before, left = {frozenset(): None}, deque([frozenset()])
+    while far not in left[0]:
+        now = left.popleft()
+        for place in range(1, far + 1):
+            then = now ^ {place}
+            if len(then) <= most and then not in before and any(low in now | {0} for low in range(place - reach, place)):
+                before[then] = now
+                left.append(then)
+    now, shown = left[0], []
+    while now is not None:
+        shown.insert(0, now)
+        now = before[now]
+    return shown
+
+
+def draw_side(picture, x, y, title, places, high, colour):
+    picture.words(x, y, title, 12)
+    for at, place in enumerate(places):
+        picture.box(x + at * 36, y + 6, 34, high, colour)
+        picture.words(x + at * 36 + 17, y + 20, str(place), 11, PALE, "middle")
+
+
+def pebbles():
+    """The play that comes farthest with one pebble to a place and three of them; the edge is that of the proof in docs/TWO_PROOFS.md."""
+    reach, most = 1, 3
+    far, edge = reach * (2 ** most - 1), reach * 2 ** (most - 1)
+    shown = play(reach, most, far)
+    picture, high = Picture("Pebbles that come as far as three can, move by move, below an edge and above it"), 26 + 14 * len(shown)
+    x = {place: 20 + (place - 1) * 36 + (34 if place > edge else 0) for place in range(1, far + 1)}
+    draw_side(picture, x[1], 20, f"up to the edge: h + r = {edge}", range(1, edge + 1), high, "#e4ecf7")
+    draw_side(picture, x[edge + 1], 20, f"above it: h = {edge - reach}", range(edge + 1, far + 1), high, "#e3f1e8")
+    for row, now in enumerate(shown):
+        for place in sorted(now):
+            picture.box(x[place] + 11, 46 + row * 14, 12, 12, BLUE if place <= edge else GREEN)
+    return picture
+
+
 # ---- bars
 
 
@@ -192,4 +235,4 @@ def speed():
     return bars("Instructions a record, of fcanon, a baseline and a limit", series, groups, "")
 
 
-PICTURES = {"boards": boards, "layers": layers, "way": way, "merging": merging, "speed": speed}
+PICTURES = {"boards": boards, "layers": layers, "way": way, "pebbles": pebbles, "merging": merging, "speed": speed}

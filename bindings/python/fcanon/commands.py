@@ -18,7 +18,7 @@ class Printed(NamedTuple):
     said: bytes
     """What it prints to standard error: the notes of an import."""
     records: int
-    """How many records were read; of an import, how many boards and refused pieces."""
+    """How many records were read; of an import, how many boards and refused blocks."""
     refused: int
     """How many of them are refused, and one more where "closed" finds a flaw."""
 

@@ -75,7 +75,7 @@ pub struct Printed {
     pub text: Vec<u8>,
     /// What it prints to standard error: the notes of an import.
     pub said: Vec<u8>,
-    /// How many records were read; of an import, how many boards and refused pieces.
+    /// How many records were read; of an import, how many boards and refused blocks.
     pub records: usize,
     /// How many of them are refused, and one more where `Closed` finds a flaw.
     pub refused: usize,
