@@ -11,6 +11,7 @@ use fc_text::put;
 use std::simd::prelude::*;
 
 /// The bytes of the cards, and room after them, so that sixteen bytes can be copied from each.
+#[inline(always)]
 pub(crate) fn bytes_of_laid(cards: &[Card; 52]) -> [u8; 80]
     ensures bytes { take 52 result ≡ map card_byte cards.now }
     ensures codes { All IsCode result }
