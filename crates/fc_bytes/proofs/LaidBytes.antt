@@ -153,6 +153,15 @@ pub record ArePieces (bytes starts counts : List ℕ) : Type 0 where
   pub inside : AreInside starts counts
   pub room : 52 ≤ length bytes
 
+pub pieces-of : {bytes starts counts : List ℕ} → length bytes ≡ 80 → length starts ≡ 8 →
+    length counts ≡ 8 → AreInside starts counts → ArePieces bytes starts counts
+pieces-of long eight counted inside = record {
+  eight = eight;
+  counted = counted;
+  inside = inside;
+  room = omega (arith, long);
+}
+
 module _ {bytes starts counts : List ℕ} (are : ArePieces bytes starts counts) where
   abbrev all : List (List ℕ)
   all = pieces bytes starts counts
@@ -219,6 +228,16 @@ pub record AreOrdered (bytes bounds order : List ℕ) : Type 0 where
   pub eight : length order ≡ 8
   pub is : IsOrder order
   pub room : 52 ≤ length bytes
+
+pub ordered-of : {bytes bounds order : List ℕ} → length bytes ≡ 80 → length bounds ≡ 9 →
+    AreBounds bounds 52 → length order ≡ 8 → IsOrder order → AreOrdered bytes bounds order
+ordered-of long nine up eight is = record {
+  up = up;
+  nine = nine;
+  eight = eight;
+  is = is;
+  room = omega (arith, long);
+}
 
 module _ {bytes bounds order : List ℕ} (are : AreOrdered bytes bounds order) where
   abbrev columns : List (List ℕ)

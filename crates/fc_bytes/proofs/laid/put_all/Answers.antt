@@ -1,16 +1,12 @@
 use Rattle.std.proofs.Common.{◌++◌, ◌+◌, ◌-◌, ◌∙◌, ◌≡◌, ap, arith, drop, length, take}
 use Rattle.std.{proofs.lemmas.List.{length-drop, length-take-le}, specs.List.{slice_range}}
 use Rattle.fc_bytes.proofs.LaidBytes.{all-joined, ArePieces, joined-long, joined-put, joined-room}
+use Rattle.fc_bytes.proofs.LaidBytes.{pieces-of}
 use Rattle.fc_bytes.proofs.laid.put_all.Goals as goal
 
 pub put-end-requires : goal.put-end-requires
 put-end-requires c =
-    let are : ArePieces c.args.from.now c.args.starts.now c.args.counts.now = record {
-      eight = c.told-starts;
-      counted = c.told-counts;
-      inside = c.requires.inside;
-      room = omega (arith, c.told-from);
-    } in
+    let are = pieces-of c.told-from c.told-starts c.told-counts c.requires.inside in
     let kept = c.loop-place.invariant in
     let start = c.from-start.result in
     let count = c.from-count.result in
@@ -25,12 +21,7 @@ put-end-requires c =
 
 pub loop-place-preserved : goal.loop-place-preserved
 loop-place-preserved c =
-    let are : ArePieces c.args.from.now c.args.starts.now c.args.counts.now = record {
-      eight = c.told-starts;
-      counted = c.told-counts;
-      inside = c.requires.inside;
-      room = omega (arith, c.told-from);
-    } in
+    let are = pieces-of c.told-from c.told-starts c.told-counts c.requires.inside in
     let kept = c.loop-place.invariant in
     let start = c.from-start.result in
     let count = c.from-count.result in
@@ -54,12 +45,7 @@ loop-place-preserved c =
 
 -- all pieces are put
 whole : (c : goal.After-loop-place) → ArePieces c.args.from.now c.args.starts.now c.args.counts.now
-whole c = record {
-  eight = c.told-starts;
-  counted = c.told-counts;
-  inside = c.requires.inside;
-  room = omega (arith, c.told-from);
-}
+whole c = pieces-of c.told-from c.told-starts c.told-counts c.requires.inside
 
 pub returns-clause-end : goal.returns-clause-end
 returns-clause-end c =

@@ -1,17 +1,12 @@
 use Rattle.std.{proofs.Common.{◌∙◌, ap, arith, length, List, ℕ}, specs.List.{flat_map}}
 use Rattle.fc_card.specs.{pick}
-use Rattle.fc_bytes.proofs.LaidBytes.{AreOrdered, ordered-counts, ordered-inside, ordered-pieces}
+use Rattle.fc_bytes.proofs.LaidBytes.{ordered-counts, ordered-inside, ordered-of, ordered-pieces}
 use Rattle.fc_bytes.proofs.laid.put_in_order.Goals as goal
 
 pub put_pieces-requires-clause-inside : goal.put_pieces-requires-clause-inside
 put_pieces-requires-clause-inside c =
-    let are : AreOrdered c.args.from.now c.args.bounds.now c.args.order.now = record {
-      up = c.requires.bounds;
-      nine = c.told-bounds;
-      eight = c.requires.order;
-      is = c.in_order-counts.ensures.order;
-      room = omega (arith, c.told-from);
-    } in
+    let are = ordered-of c.told-from c.told-bounds c.requires.bounds c.requires.order
+    c.in_order-counts.ensures.order in
     let starts = c.in_order-starts.ensures.value
     ∙ ap (λ starts. pick starts c.args.order.now) c.starts_between.ensures in
     let counts = c.in_order-counts.ensures.value
@@ -21,13 +16,8 @@ put_pieces-requires-clause-inside c =
 
 pub put_pieces-requires-clause-room : goal.put_pieces-requires-clause-room
 put_pieces-requires-clause-room c =
-    let are : AreOrdered c.args.from.now c.args.bounds.now c.args.order.now = record {
-      up = c.requires.bounds;
-      nine = c.told-bounds;
-      eight = c.requires.order;
-      is = c.in_order-counts.ensures.order;
-      room = omega (arith, c.told-from);
-    } in
+    let are = ordered-of c.told-from c.told-bounds c.requires.bounds c.requires.order
+    c.in_order-counts.ensures.order in
     let starts = c.in_order-starts.ensures.value
     ∙ ap (λ starts. pick starts c.args.order.now) c.starts_between.ensures in
     let counts = c.in_order-counts.ensures.value
@@ -42,13 +32,8 @@ put_pieces-requires-clause-room c =
 
 pub returns-clause-end : goal.returns-clause-end
 returns-clause-end c =
-    let are : AreOrdered c.args.from.now c.args.bounds.now c.args.order.now = record {
-      up = c.requires.bounds;
-      nine = c.told-bounds;
-      eight = c.requires.order;
-      is = c.in_order-counts.ensures.order;
-      room = omega (arith, c.told-from);
-    } in
+    let are = ordered-of c.told-from c.told-bounds c.requires.bounds c.requires.order
+    c.in_order-counts.ensures.order in
     let starts = c.in_order-starts.ensures.value
     ∙ ap (λ starts. pick starts c.args.order.now) c.starts_between.ensures in
     let counts = c.in_order-counts.ensures.value
@@ -60,13 +45,8 @@ returns-clause-end c =
 
 pub returns-clause-bytes : goal.returns-clause-bytes
 returns-clause-bytes c =
-    let are : AreOrdered c.args.from.now c.args.bounds.now c.args.order.now = record {
-      up = c.requires.bounds;
-      nine = c.told-bounds;
-      eight = c.requires.order;
-      is = c.in_order-counts.ensures.order;
-      room = omega (arith, c.told-from);
-    } in
+    let are = ordered-of c.told-from c.told-bounds c.requires.bounds c.requires.order
+    c.in_order-counts.ensures.order in
     let starts = c.in_order-starts.ensures.value
     ∙ ap (λ starts. pick starts c.args.order.now) c.starts_between.ensures in
     let counts = c.in_order-counts.ensures.value
@@ -77,13 +57,8 @@ returns-clause-bytes c =
 
 pub returns-clause-lengths : goal.returns-clause-lengths
 returns-clause-lengths c =
-    let are : AreOrdered c.args.from.now c.args.bounds.now c.args.order.now = record {
-      up = c.requires.bounds;
-      nine = c.told-bounds;
-      eight = c.requires.order;
-      is = c.in_order-counts.ensures.order;
-      room = omega (arith, c.told-from);
-    } in
+    let are = ordered-of c.told-from c.told-bounds c.requires.bounds c.requires.order
+    c.in_order-counts.ensures.order in
     c.in_order-counts.ensures.value
     ∙ ordered-counts are c.lengths_between.result
     (c.lengths_between.ensures c.args.from.now (omega (arith, c.told-from)))

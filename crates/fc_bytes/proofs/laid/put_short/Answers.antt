@@ -2,17 +2,12 @@ use Rattle.std.proofs.Common.{◌++◌, ◌+◌, ◌-◌, ◌∙◌, ◌≡◌, 
 use Rattle.std.proofs.lemmas.List.{Elements.{All-get_or}, length-drop, length-take-le}
 use Rattle.std.specs.List.{slice_range}
 use Rattle.fc_bytes.proofs.LaidBytes.{all-joined, all-put, ArePieces, joined-long, joined-put}
-use Rattle.fc_bytes.proofs.LaidBytes.{joined-room}
+use Rattle.fc_bytes.proofs.LaidBytes.{joined-room, pieces-of}
 use Rattle.fc_bytes.proofs.laid.put_short.Goals as goal
 
 pub put-requires : goal.put-requires
 put-requires c =
-    let are : ArePieces c.args.from.now c.args.starts.now c.args.counts.now = record {
-      eight = c.told-starts;
-      counted = c.told-counts;
-      inside = c.requires.inside;
-      room = omega (arith, c.told-from);
-    } in
+    let are = pieces-of c.told-from c.told-starts c.told-counts c.requires.inside in
     let kept = c.loop-place.invariant in
     let start = c.from-start.result in
     let stop = c.requires.inside c.loop-place.place c.loop-place-test.true in
@@ -26,12 +21,7 @@ put-requires c =
 
 pub loop-place-preserved : goal.loop-place-preserved
 loop-place-preserved c =
-    let are : ArePieces c.args.from.now c.args.starts.now c.args.counts.now = record {
-      eight = c.told-starts;
-      counted = c.told-counts;
-      inside = c.requires.inside;
-      room = omega (arith, c.told-from);
-    } in
+    let are = pieces-of c.told-from c.told-starts c.told-counts c.requires.inside in
     let kept = c.loop-place.invariant in
     let start = c.from-start.result in
     let count = c.from-count.result in
@@ -63,12 +53,7 @@ loop-place-preserved c =
 
 -- all pieces are put
 whole : (c : goal.After-loop-place) → ArePieces c.args.from.now c.args.starts.now c.args.counts.now
-whole c = record {
-  eight = c.told-starts;
-  counted = c.told-counts;
-  inside = c.requires.inside;
-  room = omega (arith, c.told-from);
-}
+whole c = pieces-of c.told-from c.told-starts c.told-counts c.requires.inside
 
 pub returns-clause-end : goal.returns-clause-end
 returns-clause-end c =
