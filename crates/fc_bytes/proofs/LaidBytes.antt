@@ -1,41 +1,19 @@
 -- Columns that lie end to end, as bytes.
-use Rattle.std.proofs.Common.{◌++◌, ◌+◌, ◌-◌, ◌<◌, ◌∙◌, ◌∷◌, ◌≡◌, ◌≤◌, [], ap, arith, cond}
-use Rattle.std.proofs.Common.{drop, get_or, length, length-append, List, map, nat_lt, refl, subst, suc}
-use Rattle.std.proofs.Common.{sym, take, ℕ}
-use Rattle.std.proofs.Math.Seq.{take-add, take-append-add}
-use Rattle.std.proofs.lemmas.Bool.{lt-ltb, le-ltb}
-use Rattle.std.proofs.lemmas.Grind.{flat_map-append}
-use Rattle.std.proofs.lemmas.List.{append-nil, append_assoc, drop-drop, drop-map, ext_get_or}
-use Rattle.std.proofs.lemmas.List.{get_or-drop, get_or-take, length-drop, length-take-le}
+use Rattle.std.proofs.Common.{◌++◌, ◌+◌, ◌-◌, ◌<◌, ◌∙◌, ◌∷◌, ◌≡◌, ◌≤◌, [], ap, arith, cond, drop}
+use Rattle.std.proofs.Common.{get_or, length, length-append, List, map, nat_lt, refl, subst, suc}
+use Rattle.std.proofs.{Common.{sym, take, zero, ℕ}, lemmas.Bool.{le-ltb, lt-ltb}}
+use Rattle.std.proofs.lemmas.{Grind.{flat_map-append}, List.{append-nil, drop-map}}
+use Rattle.std.proofs.lemmas.List.{Elements.{All-from_get_or}, ext_get_or}
+use Rattle.std.proofs.lemmas.List.{Folds.{flat_map-map, length-flat_map-take}, get_or-drop}
+use Rattle.std.proofs.lemmas.List.{get_or-map, get_or-take, length-drop, length-map, length-take-le}
 use Rattle.std.proofs.lemmas.List.{take-map, take-take, take_all, take_more}
-use Rattle.std.proofs.lemmas.List.Elements.{All-from_get_or}
-use Rattle.std.proofs.lemmas.List.Folds.{flat_map-map, length-flat_map-take}
-use Rattle.std.specs.List.{flat_map, slice_range}
-use Rattle.fc_card.specs.{AllBelow, IsOrder, pick}
-use Rattle.fc_card.specs.laws.OrderLaws.{get_or-pick, length-pick}
+use Rattle.std.{proofs.Math.Seq.{take-append-add}, specs.List.{flat_map, slice_range}}
+use Rattle.fc_card.specs.{AllBelow, IsOrder, laws.OrderLaws.{get_or-pick, length-pick}, pick}
 use Rattle.fc_board.proofs.ColumnsLemmas.{all_cards_laid, column_at, columns_in_front, is_between}
 use Rattle.fc_board.proofs.ColumnsLemmas.{last_at_most, length-columns_from, length-range}
+use Rattle.fc_board.proofs.PassageLemmas.{map-pick}
 use Rattle.fc_board.specs.inside.{AreBounds, AscendTo, columns_between, columns_from}
-use Rattle.fc_bytes.proofs.ExactBytes.{padded_there}
-use Rattle.fc_bytes.specs.{padded}
-use Rattle.std.proofs.lemmas.List.{get_or-map, length-map}
-use Rattle.std.proofs.Common.{set}
-use Rattle.std.proofs.lemmas.List.{map-append, take_more_set}
-
--- ---- sixteen bytes more, of which the last may be those of what comes after
-pub sixteen-more : (to from now : List ℕ) (at start done : ℕ) →
-    take (at + done + 16) now ≡ (take at to ++ take done (drop start from))
-    ++ slice_range from (start + done) (start + done + 16) →
-    take (at + (done + 16)) now ≡ take at to ++ take (done + 16) (drop start from)
-sixteen-more to from now at start done put =
-    let on : at + (done + 16) ≡ at + done + 16 = omega arith in
-    let sixteen : start + done + 16 - (start + done) ≡ 16 = omega arith in
-    let rest = drop start from in
-    ap (λ n. take n now) on ∙ put
-    ∙ (λ i. (take at to ++ take done rest)
-    ++ take (sixteen i) (sym (drop-drop done start from) i))
-    ∙ append_assoc (take at to) (take done rest) (take 16 (drop done rest))
-    ∙ ap (λ piece. take at to ++ piece) (sym (take-add done 16 rest))
+use Rattle.fc_bytes.{proofs.ExactBytes.{padded_there}, specs.{inside.{AreInside, pieces}, padded}}
 
 -- where enough bytes are put, the first of them are those that were wanted
 pub all-put : (to from now : List ℕ) (at start count done : ℕ) → at ≤ length to → count ≤ done →
@@ -152,6 +130,97 @@ ascends bounds place up nine inside =
     let within = is_between bounds place up (omega (arith, inside, nine)) in
     omega (arith, within.begins, ap (λ n. get_or bounds n 0) next)
 
+-- ---- pieces that are put end to end
+length-pieces : (bytes starts counts : List ℕ) → length starts ≡ length counts →
+    length (pieces bytes starts counts) ≡ length counts
+length-pieces bytes [] counts same = same
+length-pieces bytes (start ∷ starts) [] same = refl
+length-pieces bytes (start ∷ starts) (count ∷ counts) same =
+    ap suc (length-pieces bytes starts counts (omega (arith, same)))
+
+piece-there : (bytes starts counts : List ℕ) (place : ℕ) → place < length starts →
+    place < length counts → get_or (pieces bytes starts counts) place []
+    ≡ take (get_or counts place 0) (drop (get_or starts place 0) bytes)
+piece-there bytes [] counts place inside within = absurd (omega (arith, inside))
+piece-there bytes (start ∷ starts) [] place inside within = absurd (omega (arith, within))
+piece-there bytes (start ∷ starts) (count ∷ counts) zero inside within = refl
+piece-there bytes (start ∷ starts) (count ∷ counts) (suc place) inside within =
+    piece-there bytes starts counts place (omega (arith, inside)) (omega (arith, within))
+
+pub record ArePieces (bytes starts counts : List ℕ) : Type 0 where
+  pub eight : length starts ≡ 8
+  pub counted : length counts ≡ 8
+  pub inside : AreInside starts counts
+  pub room : 52 ≤ length bytes
+
+pub pieces-of : {bytes starts counts : List ℕ} → length bytes ≡ 80 → length starts ≡ 8 →
+    length counts ≡ 8 → AreInside starts counts → ArePieces bytes starts counts
+pieces-of long eight counted inside = record {
+  eight = eight;
+  counted = counted;
+  inside = inside;
+  room = omega (arith, long);
+}
+
+module _ {bytes starts counts : List ℕ} (are : ArePieces bytes starts counts) where
+  abbrev all : List (List ℕ)
+  all = pieces bytes starts counts
+
+  -- the first of them, end to end
+  abbrev joined : ℕ → List ℕ
+  joined place = flat_map (λ piece. piece) (take place all)
+
+  all-eight : length all ≡ 8
+  all-eight =
+      length-pieces bytes starts counts (are.eight ∙ sym are.counted) ∙ are.counted
+
+  pub all-joined : (place : ℕ) → 8 ≤ place → joined place ≡ flat_map (λ piece. piece) all
+  all-joined place done =
+      ap (flat_map (λ piece. piece)) (take_all place all (omega (arith, all-eight, done)))
+
+  module _ {place : ℕ} (inside : place < 8) where
+    abbrev start : ℕ
+    start = get_or starts place 0
+
+    abbrev count : ℕ
+    count = get_or counts place 0
+
+    there : get_or all place [] ≡ take count (drop start bytes)
+    there =
+        piece-there bytes starts counts place (omega (arith, inside, are.eight))
+        (omega (arith, inside, are.counted))
+
+    long : length (get_or all place []) ≡ count
+    long =
+        ap length there
+        ∙ length-take-le count (drop start bytes)
+        (omega (arith, length-drop start bytes, are.inside place inside, are.room))
+
+    within : place < length all
+    within = omega (arith, all-eight, inside)
+
+    joined-more : joined (place + 1) ≡ joined place ++ get_or all place []
+    joined-more =
+        ap (flat_map (λ piece. piece)) (take_more all place [] within)
+        ∙ flat_map-append (λ piece. piece) (take place all) (get_or all place [] ∷ [])
+        ∙ ap (λ back. joined place ++ back) (append-nil (get_or all place []))
+
+    pub joined-room : length (flat_map (λ piece. piece) all) ≤ 52 →
+        length (joined place) + count ≤ 52
+    joined-room few =
+        let next = length-flat_map-take (λ piece. piece) all place [] within in
+        omega (arith, next, long, few)
+
+    pub joined-long : length (joined (place + 1)) ≡ length (joined place) + count
+    joined-long =
+        let both = length-append (joined place) (get_or all place []) in
+        omega (arith, ap length joined-more, both, long)
+
+    pub joined-put : (front now : List ℕ) → front ≡ joined place → now
+        ≡ front ++ take count (drop start bytes) → now ≡ joined (place + 1)
+    joined-put front now so_far put =
+        put ∙ (λ i. so_far i ++ sym there i) ∙ sym joined-more
+
 -- ---- the columns between bounds, put in order
 pub record AreOrdered (bytes bounds order : List ℕ) : Type 0 where
   pub up : AreBounds bounds 52
@@ -160,12 +229,15 @@ pub record AreOrdered (bytes bounds order : List ℕ) : Type 0 where
   pub is : IsOrder order
   pub room : 52 ≤ length bytes
 
--- the column at a place, which begins and stops at these
-pub record IsAt (bounds order : List ℕ) (place column start stop : ℕ) : Type 0 where
-  pub inside : place < 8
-  pub there : column ≡ get_or order place 0
-  pub starts : start ≡ get_or bounds column 0
-  pub stops : stop ≡ get_or bounds (column + 1) 0
+pub ordered-of : {bytes bounds order : List ℕ} → length bytes ≡ 80 → length bounds ≡ 9 →
+    AreBounds bounds 52 → length order ≡ 8 → IsOrder order → AreOrdered bytes bounds order
+ordered-of long nine up eight is = record {
+  up = up;
+  nine = nine;
+  eight = eight;
+  is = is;
+  room = omega (arith, long);
+}
 
 module _ {bytes bounds order : List ℕ} (are : AreOrdered bytes bounds order) where
   abbrev columns : List (List ℕ)
@@ -174,91 +246,92 @@ module _ {bytes bounds order : List ℕ} (are : AreOrdered bytes bounds order) w
   abbrev picked : List (List ℕ)
   picked = pick (columns_between bytes bounds) order
 
-  -- the columns at the first places, end to end
-  abbrev joined : ℕ → List ℕ
-  joined place = flat_map (λ column. column) (take place picked)
+  abbrev starts : List ℕ
+  starts = pick (take 8 bounds) order
 
-  below : AllBelow (length columns) order
-  below = λ i inside.
-      omega (arith, are.is.within i inside, are.eight, length-between bytes bounds are.nine)
+  abbrev counts : List ℕ
+  counts = map length (pick (columns_between bytes bounds) order)
 
-  eight-picked : length picked ≡ 8
-  eight-picked = length-pick columns order below ∙ are.eight
+  below : AllBelow 8 order
+  below = λ i inside. omega (arith, are.is.within i inside, are.eight)
 
-  pub all-joined : (place : ℕ) → 8 ≤ place → joined place ≡ flat_map (λ column. column) picked
-  all-joined place done =
-      ap (flat_map (λ column. column)) (take_all place picked (omega (arith, eight-picked, done)))
+  below-columns : AllBelow (length columns) order
+  below-columns = λ i inside.
+      omega (arith, below i inside, length-between bytes bounds are.nine)
 
-  pub all-lengths : (place : ℕ) (lengths : List ℕ) → 8 ≤ place → length lengths ≡ 8 →
-      take place lengths ≡ map length (take place picked) → lengths ≡ map length picked
-  all-lengths place lengths done long so_far =
-      sym (take_all place lengths (omega (arith, long, done))) ∙ so_far
-      ∙ ap (map length) (take_all place picked (omega (arith, eight-picked, done)))
+  below-starts : AllBelow (length (take 8 bounds)) order
+  below-starts = λ i inside.
+      omega (arith, below i inside, length-take-le 8 bounds (omega (arith, are.nine)))
 
-  module _ {place column start stop : ℕ} (at : IsAt bounds order place column start stop) where
-    inside-bounds : suc column < length bounds
-    inside-bounds =
-        omega (arith, at.there, are.is.within place (omega (arith, are.eight, at.inside)), are.eight, are.nine)
+  picked-eight : length picked ≡ 8
+  picked-eight = length-pick columns order below-columns ∙ are.eight
 
-    stops-there : get_or bounds (suc column) 0 ≡ stop
-    stops-there =
-        let next : suc column ≡ column + 1 = omega arith in
-        ap (λ column. get_or bounds column 0) next ∙ sym at.stops
+  counts-eight : length counts ≡ 8
+  counts-eight = length-map picked length ∙ picked-eight
 
-    inside-picked : place < length picked
-    inside-picked = omega (arith, eight-picked, at.inside)
+  starts-eight : length starts ≡ 8
+  starts-eight = length-pick (take 8 bounds) order below-starts ∙ are.eight
 
-    pub lies : (start ≤ stop) × (stop ≤ 52)
-    lies =
-        let within = is_between bounds column are.up inside-bounds in
-        (omega (arith, within.begins, at.starts, stops-there), omega (arith, within.stops, stops-there))
+  module _ {place : ℕ} (inside : place < 8) where
+    abbrev column : ℕ
+    column = get_or order place 0
 
-    picked-there : get_or picked place [] ≡ slice_range bytes start stop
-    picked-there =
-        get_or-pick columns order place [] below (omega (arith, are.eight, at.inside))
-        ∙ ap (λ column. get_or columns column []) (sym at.there)
-        ∙ between-there bytes bounds column are.up inside-bounds
-        ∙ (λ i. slice_range bytes (sym at.starts i) (stops-there i))
+    in-order : place < length order
+    in-order = omega (arith, are.eight, inside)
 
-    picked-long : length (get_or picked place []) ≡ stop - start
-    picked-long =
-        ap length picked-there
-        ∙ length-range bytes start stop lies.0 (omega (arith, lies.1, are.room))
+    in-bounds : suc column < length bounds
+    in-bounds = omega (arith, below place in-order, are.nine)
 
-    picked-more : take (place + 1) picked ≡ take place picked ++ get_or picked place [] ∷ []
-    picked-more = take_more picked place [] inside-picked
+    start-there : get_or starts place 0 ≡ get_or bounds column 0
+    start-there =
+        get_or-pick (take 8 bounds) order place 0 below-starts in-order
+        ∙ get_or-take 8 bounds column 0 (below place in-order)
 
-    joined-more : joined (place + 1) ≡ joined place ++ get_or picked place []
-    joined-more =
-        ap (flat_map (λ column. column)) picked-more
-        ∙ flat_map-append (λ column. column) (take place picked) (get_or picked place [] ∷ [])
-        ∙ ap (λ back. joined place ++ back) (append-nil (get_or picked place []))
+    column-there : get_or picked place []
+        ≡ slice_range bytes (get_or bounds column 0) (get_or bounds (suc column) 0)
+    column-there =
+        get_or-pick columns order place [] below-columns in-order
+        ∙ between-there bytes bounds column are.up in-bounds
 
-    pub joined-room : length (flat_map (λ column. column) picked) ≤ 52 →
-        length (joined place) + (stop - start) ≤ 52
-    joined-room few =
-        let next = length-flat_map-take (λ column. column) picked place [] inside-picked in
-        omega (arith, next, picked-long, few)
+    count-there : get_or counts place 0 ≡ get_or bounds (suc column) 0 - get_or bounds column 0
+    count-there =
+        let within = is_between bounds column are.up in-bounds in
+        get_or-map length picked place [] 0 (omega (arith, picked-eight, inside))
+        ∙ ap length column-there
+        ∙ length-range bytes (get_or bounds column 0) (get_or bounds (suc column) 0)
+        within.begins (omega (arith, within.stops, are.room))
 
-    pub joined-long : length (joined (place + 1)) ≡ length (joined place) + (stop - start)
-    joined-long =
-        let both = length-append (joined place) (get_or picked place []) in
-        omega (arith, ap length joined-more, both, picked-long)
+    stops-inside : get_or starts place 0 + get_or counts place 0 ≤ 52
+    stops-inside =
+        let within = is_between bounds column are.up in-bounds in
+        omega (arith, within.begins, within.stops, start-there, count-there)
 
-    pub joined-put : (front now : List ℕ) → front ≡ joined place → now
-        ≡ front ++ slice_range bytes start stop → now ≡ joined (place + 1)
-    joined-put front now so_far put =
-        put ∙ (λ i. so_far i ++ sym picked-there i) ∙ sym joined-more
+    pieces-agree : get_or (pieces bytes starts counts) place [] ≡ get_or picked place []
+    pieces-agree =
+        piece-there bytes starts counts place (omega (arith, starts-eight, inside))
+        (omega (arith, counts-eight, inside))
+        ∙ (λ i. take (count-there i) (drop (start-there i) bytes)) ∙ sym column-there
 
-    pub lengths-more : (lengths : List ℕ) (count : ℕ) → length lengths ≡ 8 → count ≡ stop - start →
-        take place lengths ≡ map length (take place picked) →
-        take (place + 1) (set lengths place count) ≡ map length (take (place + 1) picked)
-    lengths-more lengths count long is so_far =
-        let last : count ≡ length (get_or picked place []) = is ∙ sym picked-long in
-        take_more_set lengths place count (omega (arith, long, at.inside))
-        ∙ (λ i. so_far i ++ last i ∷ [])
-        ∙ sym (map-append length (take place picked) (get_or picked place [] ∷ []))
-        ∙ ap (map length) (sym picked-more)
+  pieces-picked : pieces bytes starts counts ≡ picked
+  pieces-picked =
+      let long = length-pieces bytes starts counts (starts-eight ∙ sym counts-eight) in
+      ext_get_or [] (pieces bytes starts counts) picked
+      (long ∙ counts-eight ∙ sym picked-eight) (λ place inside.
+      pieces-agree (omega (arith, inside, long, counts-eight)))
+
+  -- the lengths in this order are those of the columns in this order
+  pub ordered-counts : (lengths : List ℕ) → lengths ≡ map length columns →
+      pick lengths order ≡ counts
+  ordered-counts lengths are =
+      ap (λ lengths. pick lengths order) are ∙ sym (map-pick length columns order)
+
+  module _ {s c : List ℕ} (are-starts : s ≡ starts) (are-counts : c ≡ counts) where
+    pub ordered-inside : AreInside s c
+    ordered-inside = λ place inside.
+        omega (arith, stops-inside inside, ap (λ s. get_or s place 0) are-starts, ap (λ c. get_or c place 0) are-counts)
+
+    pub ordered-pieces : pieces bytes s c ≡ picked
+    ordered-pieces = (λ i. pieces bytes (are-starts i) (are-counts i)) ∙ pieces-picked
 
 -- ---- bytes before a place, and 0 from there on
 pub before-there : (bytes before : List ℕ) (end : ℕ) → length before ≡ 52 → end ≤ 52 → 52

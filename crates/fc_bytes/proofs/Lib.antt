@@ -1,3 +1,4 @@
+mod BytesInOrder
 mod CarriedBytes
 mod ExactBytes
 mod LaidBytes

@@ -48,6 +48,17 @@ pub record IsExact (bytes : BoardBytes) : Type 0 where
   pub room : sum bytes.lengths ≤ 52
   pub cards : AreLaid (sum bytes.lengths) bytes.cards
 
+-- ---- pieces of bytes
+-- the pieces that start at these places and have so many bytes each
+abbrev pub pieces : List ℕ → List ℕ → List ℕ → List (List ℕ)
+pieces bytes [] counts = []
+pieces bytes (start ∷ starts) [] = []
+pieces bytes (start ∷ starts) (count ∷ counts) = take count (drop start bytes) ∷ pieces bytes starts counts
+
+-- eight of them stop among the first 52 bytes
+abbrev pub AreInside : List ℕ → List ℕ → Type 0
+AreInside starts counts = (place : ℕ) → place < 8 → slice_index starts place + slice_index counts place ≤ 52
+
 -- ---- what is read
 -- the columns that take so many cards each
 abbrev pub columns_decoded : List ℕ → List Card → List Pile
