@@ -1,7 +1,6 @@
 use Rattle.std.proofs.Common.{◌++◌, ◌+◌, ◌-◌, ◌∙◌, ◌≡◌, ap, arith, drop, length, take}
 use Rattle.std.{proofs.lemmas.List.{length-drop, length-take-le}, specs.List.{slice_range}}
-use Rattle.fc_bytes.proofs.LaidBytes.{all-joined, ArePieces, joined-long, joined-put, joined-room}
-use Rattle.fc_bytes.proofs.LaidBytes.{pieces-of}
+use Rattle.fc_bytes.proofs.LaidBytes.{all-joined, joined-long, joined-put, joined-room, pieces-of}
 use Rattle.fc_bytes.proofs.laid.put_all.Goals as goal
 
 pub put-end-requires : goal.put-end-requires
@@ -14,7 +13,8 @@ put-end-requires c =
     let same : start + count - start ≡ count = omega arith in
     let long : length (slice_range c.args.from.now start (start + count)) ≡ count =
     length-take-le (start + count - start) (drop start c.args.from.now) (omega
-    (arith, length-drop start c.args.from.now, c.told-from, stop, c.from-start.ensures, c.from-count.ensures))
+    (arith, length-drop start c.args.from.now, c.told-from, stop, c.from-start.ensures,
+    c.from-count.ensures))
     ∙ same in
     let room = joined-room are c.loop-place-test.true c.requires.room in
     record { room = omega (arith, long, kept.long, kept.at_end, room, c.from-count.ensures) }
@@ -31,27 +31,26 @@ loop-place-preserved c =
     let same : start + count - start ≡ count = omega arith in
     let long : length (slice_range c.args.from.now start (start + count)) ≡ count =
     length-take-le (start + count - start) rest (omega
-    (arith, length-drop start c.args.from.now, c.told-from, stop, c.from-start.ensures, c.from-count.ensures))
+    (arith, length-drop start c.args.from.now, c.told-from, stop, c.from-start.ensures,
+    c.from-count.ensures))
     ∙ same in
     record {
       long = c.put-end.ensures.size ∙ kept.long;
       at_end = omega
-          (arith, c.put-end.ensures.end, long, kept.at_end, c.from-count.ensures, joined-long are c.loop-place-test.true);
+          (arith, c.put-end.ensures.end, long, kept.at_end, c.from-count.ensures,
+          joined-long are c.loop-place-test.true);
       so_far = joined-put are c.loop-place-test.true front
           (take c.put-end.result c.put-end.new.text) kept.so_far
           (c.put-end.ensures.text ∙ ap (λ count. front ++ take count rest) same
           ∙ (λ i. front ++ take (c.from-count.ensures i) (drop (c.from-start.ensures i) c.args.from.now)));
     }
 
--- all pieces are put
-whole : (c : goal.After-loop-place) → ArePieces c.args.from.now c.args.starts.now c.args.counts.now
-whole c = pieces-of c.told-from c.told-starts c.told-counts c.requires.inside
-
 pub returns-clause-end : goal.returns-clause-end
 returns-clause-end c =
-    c.loop-place.invariant.at_end
-    ∙ ap length (all-joined (whole c) c.loop-place.place c.loop-place-test.false)
+    let are = pieces-of c.told-from c.told-starts c.told-counts c.requires.inside in
+    c.loop-place.invariant.at_end ∙ ap length (all-joined are c.loop-place.place c.loop-place-test.false)
 
 pub returns-clause-bytes : goal.returns-clause-bytes
 returns-clause-bytes c =
-    c.loop-place.invariant.so_far ∙ all-joined (whole c) c.loop-place.place c.loop-place-test.false
+    let are = pieces-of c.told-from c.told-starts c.told-counts c.requires.inside in
+    c.loop-place.invariant.so_far ∙ all-joined are c.loop-place.place c.loop-place-test.false
