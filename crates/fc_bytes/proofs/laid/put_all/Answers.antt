@@ -12,9 +12,14 @@ put-end-requires c =
     let stop = c.requires.inside c.loop-place.place c.loop-place-test.true in
     let same : start + count - start ≡ count = omega arith in
     let long : length (slice_range c.args.from.now start (start + count)) ≡ count =
-    length-take-le (start + count - start) (drop start c.args.from.now) (omega
-    (arith, length-drop start c.args.from.now, c.told-from, stop, c.from-start.ensures,
-    c.from-count.ensures))
+    length-take-le (start + count - start) (drop start c.args.from.now) (omega (
+      arith,
+      length-drop start c.args.from.now,
+      c.told-from,
+      stop,
+      c.from-start.ensures,
+      c.from-count.ensures,
+    ))
     ∙ same in
     let room = joined-room are c.loop-place-test.true c.requires.room in
     record { room = omega (arith, long, kept.long, kept.at_end, room, c.from-count.ensures) }
@@ -30,15 +35,25 @@ loop-place-preserved c =
     let stop = c.requires.inside c.loop-place.place c.loop-place-test.true in
     let same : start + count - start ≡ count = omega arith in
     let long : length (slice_range c.args.from.now start (start + count)) ≡ count =
-    length-take-le (start + count - start) rest (omega
-    (arith, length-drop start c.args.from.now, c.told-from, stop, c.from-start.ensures,
-    c.from-count.ensures))
+    length-take-le (start + count - start) rest (omega (
+      arith,
+      length-drop start c.args.from.now,
+      c.told-from,
+      stop,
+      c.from-start.ensures,
+      c.from-count.ensures,
+    ))
     ∙ same in
     record {
       long = c.put-end.ensures.size ∙ kept.long;
-      at_end = omega
-          (arith, c.put-end.ensures.end, long, kept.at_end, c.from-count.ensures,
-          joined-long are c.loop-place-test.true);
+      at_end = omega (
+        arith,
+        c.put-end.ensures.end,
+        long,
+        kept.at_end,
+        c.from-count.ensures,
+        joined-long are c.loop-place-test.true,
+      );
       so_far = joined-put are c.loop-place-test.true front
           (take c.put-end.result c.put-end.new.text) kept.so_far
           (c.put-end.ensures.text ∙ ap (λ count. front ++ take count rest) same
