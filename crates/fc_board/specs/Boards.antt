@@ -60,7 +60,7 @@ pub record IsWellFormed (game : Game) (board : Board) : Type 0 where
   pub cards : All IsCard (cards_in_play board)
   pub one_place : HasEachCardOnce board
 
--- -------- Why parts of a board are no whole deck: a card is in several places, or nowhere. From: this project's profile: of the repeated cards the one of lowest number is named, and of the missing cards the one of lowest number, but only where no card is repeated.
+-- -------- Why parts of a board are no whole deck: a card is in several places, or nowhere. Of the repeated cards the one of lowest number is named, and of the missing cards the one of lowest number, but only where no card is repeated. From: this project's profile.
 
 -- where each card is in so many places, this is what is wrong with the deck
 abbrev pub IsFaultOf : (ℕ → ℕ) → DeckFault → Type 0

@@ -32,7 +32,7 @@ part is_ended cards = if is_ended then ended cards else cards
 
 -- -------- Boards of the laws.
 
--- these columns alone
+-- a board of these columns alone
 abbrev pub of_columns : List Pile → Board
 of_columns columns = record { heights = []; cells = []; columns = columns }
 

@@ -129,7 +129,7 @@ NamesRow section name =
     (start : ℕ) (spelled rest : Text) → str_to_ascii_lowercase spelled ≡ name
     → row_of start (spelled ++ colon ∷ rest) ≡ record { section = section; start = start; words = words_from is_gap (start + (length spelled + 1)) rest }
 
--- -------- Which lines of a board's text are rows, by the lines that come before each. From: this project's profile: a blank line is an empty column, but for those before the first line that is neither blank nor a comment and after the eighth column.
+-- -------- Which lines of a board's text are rows, by the lines that come before each. A blank line is an empty column, but for those before the first line that is neither blank nor a comment and after the eighth column. From: this project's profile.
 
 -- a line that is neither blank nor a comment is among these
 abbrev pub HoldSomething : List Line → Type 0
