@@ -8,6 +8,6 @@ CALL(uint32_t, fcanon_run,
       size_t output_size, fcanon_written *written),
      (request, input, input_size, output, output_size, written))
 CALL(uint32_t, fcanon_import,
-     (uint32_t game, uint32_t lines, const char *input, size_t input_size, char *output,
-      size_t output_size, char *notes, size_t notes_size, fcanon_written *written, size_t *noted),
-     (game, lines, input, input_size, output, output_size, notes, notes_size, written, noted))
+     (const fcanon_import_request *request, const char *input, size_t input_size, char *output,
+      size_t output_size, char *notes, size_t notes_size, fcanon_imported *imported),
+     (request, input, input_size, output, output_size, notes, notes_size, imported))

@@ -144,22 +144,23 @@ static int run(const Words *it) {
     unsigned form = it->options & JSON ? FCANON_FORMAT_JSON : it->options & HEADER ? FCANON_FORMAT_HEADER : FCANON_FORMAT_LINES;
     unsigned lines = it->options & COLUMNS ? FCANON_LINES_COLUMNS : it->options & ROWS ? FCANON_LINES_ROWS : FCANON_LINES_UNSAID;
     fcanon_request request = {it->command, form, it->game, it->options & ANY_SIZE, by_chance()};
-    size_t size = 0, noted = 4096;
+    fcanon_import_request import = {it->game, lines};
+    size_t size = 0;
     char *input = read_input(it->options & ANY_SIZE, &size), *output = NULL, *notes = NULL;
-    fcanon_written written = {2 * size + 4096, 0, 0};
+    fcanon_imported made = {{2 * size + 4096, 0, 0}, 4096};
     uint32_t answer;
     do {
-        size_t room = written.length, notes_room = noted;
+        size_t room = made.written.length, notes_room = made.noted;
         output = with_room(output, room);
         notes = with_room(notes, notes_room);
         answer = it->command == IMPORT
-            ? fcanon_import(it->game, lines, input, size, output, room, notes, notes_room, &written, &noted)
-            : fcanon_run(&request, input, size, output, room, &written);
+            ? fcanon_import(&import, input, size, output, room, notes, notes_room, &made)
+            : fcanon_run(&request, input, size, output, room, &made.written);
     } while (answer == 9);
     if (answer) give_up(answer == 12 ? "out of memory" : answer == 13 ? "input too large" : "reader never ends");
-    if (it->command == IMPORT) fwrite(notes, 1, noted, stderr);
-    if (fwrite(output, 1, written.length, stdout) != written.length || fflush(stdout)) give_up("write fault");
-    return written.refused > 0;
+    if (it->command == IMPORT) fwrite(notes, 1, made.noted, stderr);
+    if (fwrite(output, 1, made.written.length, stdout) != made.written.length || fflush(stdout)) give_up("write fault");
+    return made.written.refused > 0;
 }
 
 int main(int count, char **words) {

@@ -75,12 +75,21 @@ FCANON_CALL uint32_t fcanon_run(const fcanon_request *request, const char *input
 #define FCANON_LINES_COLUMNS 1
 #define FCANON_LINES_ROWS 2
 
-/* Makes a collection of this game of a text, as `fcanon import` does, and puts it to the front of
- * the output. What the program says of the text on standard error is put to the front of the
- * notes, `noted` bytes. At most 16 MiB are taken. */
-FCANON_CALL uint32_t fcanon_import(uint32_t game, uint32_t lines, const char *input, size_t input_size,
-    char *output, size_t output_size, char *notes, size_t notes_size,
-    fcanon_written *written, size_t *noted);
+typedef struct {
+    uint32_t game;  /* of the boards, as in fcanon.h */
+    uint32_t lines; /* what lines are that may be columns or rows */
+} fcanon_import_request;
+
+typedef struct {
+    fcanon_written written; /* of the output */
+    size_t noted;           /* of the notes, in bytes */
+} fcanon_imported;
+
+/* Makes a collection of a text, as `fcanon import` does, and puts it to the front of the output. What
+ * the program says of the text on standard error is put to the front of the notes. At most 16 MiB are
+ * taken. */
+FCANON_CALL uint32_t fcanon_import(const fcanon_import_request *request, const char *input, size_t input_size,
+    char *output, size_t output_size, char *notes, size_t notes_size, fcanon_imported *imported);
 
 #ifdef __cplusplus
 }

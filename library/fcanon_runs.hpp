@@ -54,20 +54,20 @@ namespace detail {
 
 /* Calls with room for some output and notes, and once more with what is needed where that was too little. */
 template <class Call> Printed printed(std::size_t size, std::size_t notes, Call call) {
-    fcanon_written written = {2 * size + 4096, 0, 0};
+    fcanon_imported lengths = {{2 * size + 4096, 0, 0}, notes};
     Printed made = {};
     std::uint32_t answer;
     do {
-        made.text.resize(written.length);
-        made.said.resize(notes);
-        answer = call(made, written, notes);
+        made.text.resize(lengths.written.length);
+        made.said.resize(lengths.noted);
+        answer = call(made, lengths);
     } while (answer == FCANON_NO_ROOM);
     if (answer == 12) throw std::bad_alloc();
     if (answer) throw GaveUp(answer);
-    made.text.resize(written.length);
-    made.said.resize(notes);
-    made.records = written.records;
-    made.refused = written.refused;
+    made.text.resize(lengths.written.length);
+    made.said.resize(lengths.noted);
+    made.records = lengths.written.records;
+    made.refused = lengths.written.refused;
     return made;
 }
 
@@ -79,8 +79,8 @@ inline Printed run(std::uint32_t task, const std::string &text, std::uint32_t ga
                    std::uint32_t format = FCANON_FORMAT_LINES, bool any_size = false) {
     std::random_device chance;
     fcanon_request request = {task, format, game, any_size, static_cast<std::uint64_t>(chance()) << 32 | chance()};
-    return detail::printed(text.size(), 0, [&](Printed &made, fcanon_written &written, std::size_t &) {
-        return fcanon_run(&request, text.data(), text.size(), &made.text[0], made.text.size(), &written);
+    return detail::printed(text.size(), 0, [&](Printed &made, fcanon_imported &lengths) {
+        return fcanon_run(&request, text.data(), text.size(), &made.text[0], made.text.size(), &lengths.written);
     });
 }
 
@@ -88,9 +88,10 @@ inline Printed run(std::uint32_t task, const std::string &text, std::uint32_t ga
  * ones or the others, as FCANON_LINES_ROWS says. */
 inline Printed import_text(const std::string &text, std::uint32_t game = FCANON_FREECELL,
                            std::uint32_t lines = FCANON_LINES_UNSAID) {
-    return detail::printed(text.size(), 4096, [&](Printed &made, fcanon_written &written, std::size_t &noted) {
-        return fcanon_import(game, lines, text.data(), text.size(), &made.text[0], made.text.size(),
-                             &made.said[0], made.said.size(), &written, &noted);
+    fcanon_import_request request = {game, lines};
+    return detail::printed(text.size(), 4096, [&](Printed &made, fcanon_imported &lengths) {
+        return fcanon_import(&request, text.data(), text.size(), &made.text[0], made.text.size(),
+                             &made.said[0], made.said.size(), &lengths);
     });
 }
 

@@ -11,7 +11,8 @@ const LINES = ['unsaid', 'columns', 'rows'];
 const FAULTS = { 1: 'no such game', 10: 'no such task', 11: 'no such format', 12: 'out of memory', 13: 'input too large' };
 const [DONE, NO_ROOM, NO_MEMORY] = [0, 9, 12];
 
-const [REQUEST_BYTES, SEED_PLACE, WRITTEN_BYTES, SIZE_BYTES] = [24, 16, 24, 8];
+const [REQUEST_BYTES, SEED_PLACE, WRITTEN_BYTES] = [24, 16, 24];
+const [IMPORT_REQUEST_BYTES, IMPORTED_BYTES, NOTED_PLACE] = [8, 32, 24];
 
 // Before version 19 Node has no crypto here.
 function seedByChance() {
@@ -44,8 +45,7 @@ export class Runs {
     const words = [COMMANDS.indexOf(task), FORMATS.indexOf(format), GAMES.indexOf(game), Number(anySize)];
     return this.#untilThereIsRoom(input, (room) =>
       this.#lent([REQUEST_BYTES, WRITTEN_BYTES, input.length, room.output], (request, written, given, output) => {
-        const view = new DataView(this.exports.memory.buffer);
-        words.forEach((word, at) => view.setUint32(request + 4 * at, word, true));
+        this.#put(request, words);
         this.#bytes(request + SEED_PLACE, 8).set(seedByChance());
         this.#bytes(given, input.length).set(input);
         const places = [request, given, input.length, output, room.output, written].map(BigInt);
@@ -57,13 +57,14 @@ export class Runs {
   // be columns or rows are what is said.
   import(text, { game = 'freecell', lines = 'unsaid' } = {}) {
     const input = inBytes(text);
+    const words = [GAMES.indexOf(game), LINES.indexOf(lines)];
     return this.#untilThereIsRoom(input, (room) => {
-      const sizes = [WRITTEN_BYTES, SIZE_BYTES, input.length, room.output, room.notes];
-      return this.#lent(sizes, (written, noted, given, output, notes) => {
+      const sizes = [IMPORT_REQUEST_BYTES, IMPORTED_BYTES, input.length, room.output, room.notes];
+      return this.#lent(sizes, (request, imported, given, output, notes) => {
+        this.#put(request, words);
         this.#bytes(given, input.length).set(input);
-        const places = [given, input.length, output, room.output, notes, room.notes, written, noted].map(BigInt);
-        const answer = this.exports.fcanon_import(GAMES.indexOf(game), LINES.indexOf(lines), ...places);
-        return this.#taken(answer, written, output, noted, notes);
+        const places = [request, given, input.length, output, room.output, notes, room.notes, imported].map(BigInt);
+        return this.#taken(this.exports.fcanon_import(...places), imported, output, notes);
       });
     });
   }
@@ -85,14 +86,20 @@ export class Runs {
     }
   }
 
-  #taken(answer, written, output, noted, notes) {
+  #taken(answer, written, output, notes) {
     if (answer !== DONE && answer !== NO_ROOM) throw faultOf(answer);
     const [length, records, refused] = [0, 8, 16].map((at) => this.#number(written + at));
-    const notesLength = notes ? this.#number(noted) : 0;
+    const notesLength = notes ? this.#number(written + NOTED_PLACE) : 0;
     if (answer === NO_ROOM) return { needs: { output: length, notes: notesLength } };
     const said = this.#bytes(notes ?? 0, notesLength).slice();
     const status = Number(refused > 0);
     return { text: this.#bytes(output, length).slice(), said, records, refused, status };
+  }
+
+  // Puts words of 32 bits one after another.
+  #put(place, words) {
+    const view = new DataView(this.exports.memory.buffer);
+    words.forEach((word, at) => view.setUint32(place + 4 * at, word, true));
   }
 
   #bytes(place, length) {

@@ -14,33 +14,32 @@ enum { NO_ROOM = 9, NOTES = 4096 };
 /* What a call is given, and where it writes. */
 typedef struct {
     fcanon_request request;
-    uint32_t lines;
+    fcanon_import_request import;
     const char *input;
     Py_ssize_t size;
     PyObject *output, *notes;
-    fcanon_written written;
-    size_t noted;
+    fcanon_imported made;
 } Run;
 
 typedef uint32_t Call(Run *run);
 
 static uint32_t call_run(Run *it) {
     return fcanon_run(&it->request, it->input, (size_t)it->size, PyBytes_AsString(it->output),
-                      it->written.length, &it->written);
+                      it->made.written.length, &it->made.written);
 }
 
 static uint32_t call_import(Run *it) {
-    return fcanon_import(it->request.game, it->lines, it->input, (size_t)it->size,
-                         PyBytes_AsString(it->output), it->written.length,
-                         PyBytes_AsString(it->notes), it->noted, &it->written, &it->noted);
+    return fcanon_import(&it->import, it->input, (size_t)it->size,
+                         PyBytes_AsString(it->output), it->made.written.length,
+                         PyBytes_AsString(it->notes), it->made.noted, &it->made);
 }
 
-/* Makes the bytes for output and notes, as many as `written` and `noted` say. */
+/* Makes the bytes for output and notes, as many as `made` says. */
 static int make_room(Run *it) {
     Py_CLEAR(it->output);
     Py_CLEAR(it->notes);
-    it->output = PyBytes_FromStringAndSize(NULL, (Py_ssize_t)it->written.length);
-    it->notes = PyBytes_FromStringAndSize(NULL, (Py_ssize_t)it->noted);
+    it->output = PyBytes_FromStringAndSize(NULL, (Py_ssize_t)it->made.written.length);
+    it->notes = PyBytes_FromStringAndSize(NULL, (Py_ssize_t)it->made.noted);
     return it->output && it->notes;
 }
 
@@ -48,7 +47,7 @@ static int make_room(Run *it) {
 static PyObject *answered(Run *it, Call *call) {
     uint32_t answer = NO_ROOM;
     PyObject *made = NULL;
-    it->written = (fcanon_written){2 * (size_t)it->size + 4096, 0, 0};
+    it->made.written = (fcanon_written){2 * (size_t)it->size + 4096, 0, 0};
     while (answer == NO_ROOM && make_room(it)) {
         Py_BEGIN_ALLOW_THREADS
         answer = call(it);
@@ -57,9 +56,9 @@ static PyObject *answered(Run *it, Call *call) {
     if (answer != NO_ROOM) {
         int is_done = answer == 0;
         made = Py_BuildValue("Iy#y#nn", answer, PyBytes_AsString(it->output),
-                             is_done ? (Py_ssize_t)it->written.length : 0,
-                             PyBytes_AsString(it->notes), is_done ? (Py_ssize_t)it->noted : 0,
-                             (Py_ssize_t)it->written.records, (Py_ssize_t)it->written.refused);
+                             is_done ? (Py_ssize_t)it->made.written.length : 0,
+                             PyBytes_AsString(it->notes), is_done ? (Py_ssize_t)it->made.noted : 0,
+                             (Py_ssize_t)it->made.written.records, (Py_ssize_t)it->made.written.refused);
     }
     Py_XDECREF(it->output);
     Py_XDECREF(it->notes);
@@ -80,8 +79,8 @@ static PyObject *run(PyObject *module, PyObject *words) {
 }
 
 static PyObject *import_text(PyObject *module, PyObject *words) {
-    Run it = {.noted = NOTES};
-    if (!PyArg_ParseTuple(words, "IIy#", &it.request.game, &it.lines, &it.input, &it.size))
+    Run it = {.made.noted = NOTES};
+    if (!PyArg_ParseTuple(words, "IIy#", &it.import.game, &it.import.lines, &it.input, &it.size))
         return NULL;
     return answered(&it, call_import);
 }

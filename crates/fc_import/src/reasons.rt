@@ -3,17 +3,24 @@
 use crate::words::Words;
 use fc_board::PlayFault;
 use fc_record::push_number;
-use fc_text::BoardFaultKind;
+use fc_text::{BoardFault, BoardFaultKind, Tokens};
 use std::alloc::{AllocError, Global};
 
-/// Why a board is not imported.
-pub(crate) fn board_reason(alloc: Global, kind: BoardFaultKind) -> Result<Vec<u8>, AllocError> {
+/// Why a board of these lines is not imported. A word that is no card is named.
+pub(crate) fn board_reason(
+    alloc: Global,
+    lines: &[u8],
+    fault: BoardFault,
+) -> Result<Vec<u8>, AllocError> {
+    if let BoardFaultKind::BadCard = fault.kind {
+        return word_reason(alloc, lines, fault.place, fault_words(fault.kind));
+    }
     let mut words = Vec::new(alloc);
     words.extend_from_slice(b"not imported: ")?;
-    if let BoardFaultKind::MissingCard(card) = kind {
+    if let BoardFaultKind::MissingCard(card) = fault.kind {
         words.extend_from_slice(&[card.rank().letter(), card.suit().letter()])?;
     }
-    words.extend_from_slice(fault_words(kind))?;
+    words.extend_from_slice(fault_words(fault.kind))?;
     Ok(words)
 }
 
@@ -23,7 +30,7 @@ fn fault_words(kind: BoardFaultKind) -> &'static [u8] {
         BoardFaultKind::TooManyColumns => b"a ninth column: a board has eight",
         BoardFaultKind::TooManyCells => b"one cell too many: this game has fewer",
         BoardFaultKind::BadCard => {
-            b"no card: write a rank A 2 .. 10 J Q K and a suit C D H S, as 10H or TH"
+            b" is no card: write a rank A 2 .. 10 J Q K and a suit C D H S, as 10H or TH"
         }
         BoardFaultKind::BadFoundation => {
             b"no foundation: write a suit, - and 0 or the rank on top, as H-4"
@@ -64,10 +71,19 @@ pub(crate) fn word_reason(
 ) -> Result<Vec<u8>, AllocError> {
     let mut words = Vec::new(alloc);
     words.extend_from_slice(b"not imported: ")?;
-    let rest = lines.get(at..).unwrap_or(b"");
-    if let Some(word) = Words::new(rest).next() {
-        words.extend_from_slice(word.text.get(..64).unwrap_or(word.text))?;
-    }
+    let word = word_at(lines.get(at..).unwrap_or(b""));
+    words.extend_from_slice(word.get(..64).unwrap_or(word))?;
     words.extend_from_slice(reason)?;
     Ok(words)
+}
+
+// The word that the text begins with; of a text that begins with what parts words, all up to a blank.
+fn word_at(text: &[u8]) -> &[u8] {
+    match Words::new(text).next() {
+        Some(word) if text.starts_with(word.text) => word.text,
+        _ => match Tokens::new(text).next() {
+            Some(token) => token.text,
+            None => b"",
+        },
+    }
 }

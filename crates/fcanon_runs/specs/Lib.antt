@@ -1,7 +1,7 @@
 -- The numbers by which C knows games, tasks and formats, and what a run over memory hands over.
 use Rattle.std.specs.Prelude.{◌++◌, ◌<◌, ◌==◌, ◌∷◌, ◌≡◌, ◌≤◌, ◌⊎◌, [], drop, if◌then◌else◌, length}
 use Rattle.std.specs.Prelude.{slice_index_or, ℕ}
-use Rattle.{fc_board.specs.declared.rule.Variant.{Variant}, fc_card.specs.Types.{Text}}
+use Rattle.{fc_board.specs.declared.rule.Variant.{Variant}, fc_board.specs.Games.{variant_at}, fc_card.specs.Types.{Text}}
 use Rattle.fc_collect.specs.Limits.{largest, most_bytes, standard}
 use Rattle.fc_collect.specs.{Promises.{Begins, IsWithinLimits}, Runs.{count_format}}
 use Rattle.fc_collect.specs.declared.{
@@ -11,9 +11,11 @@ use Rattle.fc_collect.specs.declared.{
   streams.faults.RunFault.{RunFault, TheVariants.{Memory, Read, ReaderNeverEnds, TooLarge, Write}},
   streams.{faults.Summary.{Summary}, limits.Limits.{Limits}},
 }
-use Rattle.{fc_import.specs.Import.{Makes}, fcanon_runs.specs.declared.output.Written.{Written}}
+use Rattle.fc_import.specs.Import.{Makes}
 use Rattle.fc_import.specs.declared.options.LinesAre.{LinesAre, TheVariants.{Columns, Rows, Unsaid}}
 use Rattle.fc_import.specs.declared.options.Noted.TheVariants.{Doubts}
+use Rattle.fcanon_runs.specs.declared.{import.{Imported.{Imported}, ImportRequest.{ImportRequest}}}
+use Rattle.fcanon_runs.specs.declared.output.Written.{Written}
 
 -- ======== The numbers by which C knows games, tasks, formats and faults. From: this project's profile.
 
@@ -68,29 +70,31 @@ FaultOf limits input answer = answer ≡ 13 → (front : Text) × Begins front i
 
 -- ======== What an import of memory hands over. From: this project's profile.
 
--- this text is made of the input, whose lines of cards are said to be this, and this is said of it
-pub record ImportOf (variant : Variant) (lines : ℕ) (input text said : Text) (summary : Summary) : Type 0 where
+-- this text is made of the input, whose lines of cards are said to be these, and this is said of it
+pub record ImportOf (variant : Variant) (lines_are : LinesAre) (input text said : Text) (summary : Summary) : Type 0 where
   pub few : length input ≤ most_bytes
-  pub makes : Makes variant (record { lines_are = lines_at lines; noted = Doubts }) input text said summary
+  pub makes : Makes variant (record { lines_are = lines_are; noted = Doubts }) input text said summary
+
+-- what a request asks for is made of the input, and is as long as is written
+pub record IsImported (request : ImportRequest) (input text said : Text) (imported : Imported) : Type 0 where
+  pub is_import : ImportOf (variant_at request.game) (lines_at request.lines) input text said (counted imported.written)
+  pub long : length text ≡ imported.written.length
+  pub said_long : length said ≡ imported.noted
 
 -- the output begins with what is made of the input, and the notes with what is said of it; both are as they were after that
-pub record HandsOverImport (variant : Variant) (lines : ℕ) (input before after notes_before notes_after : Text) (written : Written) (noted : ℕ) : Type 0 where
+pub record HandsOverImport (request : ImportRequest) (input before after notes_before notes_after : Text) (imported : Imported) : Type 0 where
   pub text : Text
   pub said : Text
-  pub is_import : ImportOf variant lines input text said (counted written)
-  pub long : length text ≡ written.length
-  pub front : after ≡ text ++ drop written.length before
-  pub said_long : length said ≡ noted
-  pub said_front : notes_after ≡ said ++ drop noted notes_before
+  pub is_imported : IsImported request input text said imported
+  pub front : after ≡ text ++ drop imported.written.length before
+  pub said_front : notes_after ≡ said ++ drop imported.noted notes_before
 
--- what is made of the input, or what is said of it, has the length that is written, and is longer than its place
-pub record NeedsRoomForImport (variant : Variant) (lines : ℕ) (input before notes_before : Text) (written : Written) (noted : ℕ) : Type 0 where
+-- what is made of the input, or what is said of it, is longer than its place
+pub record NeedsRoomForImport (request : ImportRequest) (input before notes_before : Text) (imported : Imported) : Type 0 where
   pub text : Text
   pub said : Text
-  pub is_import : ImportOf variant lines input text said (counted written)
-  pub long : length text ≡ written.length
-  pub said_long : length said ≡ noted
-  pub longer : (length before < written.length) ⊎ (length notes_before < noted)
+  pub is_imported : IsImported request input text said imported
+  pub longer : (length before < imported.written.length) ⊎ (length notes_before < imported.noted)
 
 -- an input that is refused as too large has more bytes than an import takes
 abbrev pub ImportFaultOf : Text → Type 0

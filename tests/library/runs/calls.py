@@ -17,6 +17,14 @@ class Written(ctypes.Structure):
     _fields_ = [(name, ctypes.c_size_t) for name in ("length", "records", "refused")]
 
 
+class ImportRequest(ctypes.Structure):
+    _fields_ = [(name, ctypes.c_uint32) for name in ("game", "lines")]
+
+
+class Imported(ctypes.Structure):
+    _fields_ = [("written", Written), ("noted", ctypes.c_size_t)]
+
+
 class Printed(NamedTuple):
     text: bytes
     said: bytes  # by `import` on standard error
@@ -30,9 +38,8 @@ class Runs:
     def __init__(self, path):
         self.library = ctypes.CDLL(path)
         text = [ctypes.c_char_p, ctypes.c_size_t]
-        written, noted = ctypes.POINTER(Written), ctypes.POINTER(ctypes.c_size_t)
-        self.library.fcanon_run.argtypes = [ctypes.POINTER(Request), *text, *text, written]
-        self.library.fcanon_import.argtypes = [ctypes.c_uint32, ctypes.c_uint32, *text, *text, *text, written, noted]
+        self.library.fcanon_run.argtypes = [ctypes.POINTER(Request), *text, *text, ctypes.POINTER(Written)]
+        self.library.fcanon_import.argtypes = [ctypes.POINTER(ImportRequest), *text, *text, *text, ctypes.POINTER(Imported)]
 
     def run(self, task, text, form="lines", game="freecell", any_size=False):
         """What `fcanon TASK` prints of these bytes; form is that of table and count."""
@@ -45,12 +52,12 @@ class Runs:
 
     def import_text(self, text, game="freecell", lines="unsaid"):
         """The collection that `fcanon import` makes of these bytes; lines that may be columns or rows are what is said."""
-        written, noted, answer = Written(2 * len(text) + 4096), ctypes.c_size_t(4096), NO_ROOM
+        request = ImportRequest(GAMES.index(game), LINES.index(lines))
+        made, answer = Imported(Written(2 * len(text) + 4096), 4096), NO_ROOM
         while answer == NO_ROOM:
-            output, notes = ctypes.create_string_buffer(written.length), ctypes.create_string_buffer(noted.value)
-            answer = self.library.fcanon_import(
-                GAMES.index(game), LINES.index(lines), text, len(text), output, len(output), notes, len(notes), written, noted)
-        return printed(answer, written, output, notes, noted.value)
+            output, notes = ctypes.create_string_buffer(made.written.length), ctypes.create_string_buffer(made.noted)
+            answer = self.library.fcanon_import(request, text, len(text), output, len(output), notes, len(notes), made)
+        return printed(answer, made.written, output, notes, made.noted)
 
 
 def printed(answer, written, output, notes=b"", noted=0):

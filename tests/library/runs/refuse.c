@@ -19,8 +19,7 @@ enum { INPUT = 1 << 16, OUTPUT = 1 << 18, NOTES = 1 << 16, UNTOUCHED = 'z' };
 /* What a call answers and what it leaves of what it may write. */
 struct outcome {
     uint32_t answer;
-    fcanon_written written;
-    size_t noted;
+    fcanon_imported imported;
     char output[OUTPUT], notes[NOTES];
 };
 
@@ -71,11 +70,12 @@ static void call(int task, struct room room, struct outcome *made) {
     memcpy(made, &untouched, sizeof untouched);
     requests.made = 0;
     if (task == IMPORT) {
-        made->answer = fcanon_import(0, 0, input, input_size, made->output, room.output, made->notes, room.notes,
-            &made->written, &made->noted);
+        fcanon_import_request request = {.game = FCANON_FREECELL, .lines = FCANON_LINES_UNSAID};
+        made->answer = fcanon_import(&request, input, input_size, made->output, room.output, made->notes, room.notes,
+            &made->imported);
     } else {
         fcanon_request request = {.task = (uint32_t)task, .format = FCANON_FORMAT_LINES, .seed = 7};
-        made->answer = fcanon_run(&request, input, input_size, made->output, room.output, &made->written);
+        made->answer = fcanon_run(&request, input, input_size, made->output, room.output, &made->imported.written);
     }
 }
 
@@ -84,11 +84,11 @@ static bool has_same_texts(const struct outcome *one, const struct outcome *othe
 }
 
 static bool has_same_counts(const struct outcome *one, const struct outcome *other) {
-    return !memcmp(&one->written, &other->written, sizeof one->written) && one->noted == other->noted;
+    return !memcmp(&one->imported, &other->imported, sizeof one->imported);
 }
 
 static bool ends_with_its_texts(const struct outcome *it) {
-    size_t length = it->written.length, noted = it->noted <= NOTES ? it->noted : 0;
+    size_t length = it->imported.written.length, noted = it->imported.noted <= NOTES ? it->imported.noted : 0;
     return !memcmp(it->output + length, untouched.output, OUTPUT - length)
         && !memcmp(it->notes + noted, untouched.notes, NOTES - noted);
 }
@@ -126,7 +126,7 @@ static void try_room(int task, struct room room, bool is_enough, const char *wha
 }
 
 static void try_rooms(int task) {
-    size_t length = whole.written.length, noted = task == IMPORT ? whole.noted : 0;
+    size_t length = whole.imported.written.length, noted = task == IMPORT ? whole.imported.noted : 0;
     try_room(task, (struct room){length, noted}, true, "just enough room");
     if (length) try_room(task, (struct room){length - 1, noted}, false, "too little room");
     if (noted) try_room(task, (struct room){length, noted - 1}, false, "too little room for notes");

@@ -276,6 +276,28 @@ pub struct fcanon_written {
     pub refused: usize,
 }
 
+/// What an import is to do.
+#[cfg(feature = "commands")]
+#[repr(C)]
+#[derive(Clone, Copy, PartialEq, Eq, Hash, Debug)]
+pub struct fcanon_import_request {
+    /// The game of the boards.
+    pub game: u32,
+    /// What lines are that may be columns or rows.
+    pub lines: u32,
+}
+
+/// How much an import wrote, and of how many boards.
+#[cfg(feature = "commands")]
+#[repr(C)]
+#[derive(Clone, Copy, PartialEq, Eq, Hash, Debug)]
+pub struct fcanon_imported {
+    /// The output.
+    pub written: fcanon_written,
+    /// The length of the notes, in bytes.
+    pub noted: usize,
+}
+
 #[cfg(feature = "commands")]
 extern "C" {
     pub fn fcanon_run(
@@ -287,15 +309,13 @@ extern "C" {
         written: *mut fcanon_written,
     ) -> u32;
     pub fn fcanon_import(
-        game: u32,
-        lines: u32,
+        request: *const fcanon_import_request,
         input: *const u8,
         input_size: usize,
         output: *mut u8,
         output_size: usize,
         notes: *mut u8,
         notes_size: usize,
-        written: *mut fcanon_written,
-        noted: *mut usize,
+        imported: *mut fcanon_imported,
     ) -> u32;
 }

@@ -1,6 +1,8 @@
 use crate::board::Game;
 use crate::error::{made, Error, Reason};
-use fcanon_sys::{fcanon_import, fcanon_request, fcanon_run, fcanon_written};
+use fcanon_sys::{
+    fcanon_import, fcanon_import_request, fcanon_imported, fcanon_request, fcanon_run, fcanon_written,
+};
 use std::collections::hash_map::RandomState;
 use std::hash::{BuildHasher, Hasher};
 
@@ -93,20 +95,21 @@ impl Printed {
 /// little.
 fn printed(
     size: usize,
-    mut noted: usize,
-    call: impl Fn(&mut Printed, &mut fcanon_written, &mut usize) -> u32,
+    noted: usize,
+    call: impl Fn(&mut Printed, &mut fcanon_imported) -> u32,
 ) -> Result<Printed, Error> {
-    let mut written = fcanon_written { length: 2 * size + 4096, records: 0, refused: 0 };
+    let written = fcanon_written { length: 2 * size + 4096, records: 0, refused: 0 };
+    let mut imported = fcanon_imported { written, noted };
     loop {
-        let room = (vec![0; written.length], vec![0; noted]);
+        let room = (vec![0; imported.written.length], vec![0; imported.noted]);
         let printed = Printed { text: room.0, said: room.1, records: 0, refused: 0 };
-        match made(printed, |it| call(it, &mut written, &mut noted)) {
+        match made(printed, |it| call(it, &mut imported)) {
             Err(Error { reason: Reason::NoRoom, .. }) => {}
             Err(error) => return Err(error),
             Ok(mut it) => {
-                it.text.truncate(written.length);
-                it.said.truncate(noted);
-                let fcanon_written { records, refused, .. } = written;
+                let fcanon_written { length, records, refused } = imported.written;
+                it.text.truncate(length);
+                it.said.truncate(imported.noted);
                 return Ok(Printed { records, refused, ..it });
             }
         }
@@ -134,10 +137,10 @@ pub fn run(command: Command, text: &[u8], options: Options) -> Result<Printed, E
         any_size: u32::from(options.any_size),
         seed: RandomState::new().build_hasher().finish(),
     };
-    printed(text.len(), 0, |it, written, _| {
+    printed(text.len(), 0, |it, imported| {
         let (output, room) = (it.text.as_mut_ptr(), it.text.len());
         // SAFETY: so many bytes are there, and all is apart.
-        unsafe { fcanon_run(&request, text.as_ptr(), text.len(), output, room, written) }
+        unsafe { fcanon_run(&request, text.as_ptr(), text.len(), output, room, &mut imported.written) }
     })
 }
 
@@ -148,14 +151,14 @@ pub fn run(command: Command, text: &[u8], options: Options) -> Result<Printed, E
 ///
 /// [`Reason::InputTooLarge`] or [`Reason::OutOfMemory`], where the program would give up.
 pub fn import_text(text: &[u8], game: Game, lines: Lines) -> Result<Printed, Error> {
-    let (game, lines) = (game as u32, lines as u32);
-    printed(text.len(), 4096, |it, written, noted| {
+    let request = fcanon_import_request { game: game as u32, lines: lines as u32 };
+    printed(text.len(), 4096, |it, imported| {
         let (input, size) = (text.as_ptr(), text.len());
         let (output, room) = (it.text.as_mut_ptr(), it.text.len());
         let (notes, notes_room) = (it.said.as_mut_ptr(), it.said.len());
         // SAFETY: so many bytes are there, and all is apart.
         unsafe {
-            fcanon_import(game, lines, input, size, output, room, notes, notes_room, written, noted)
+            fcanon_import(&request, input, size, output, room, notes, notes_room, imported)
         }
     })
 }
