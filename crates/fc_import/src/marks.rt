@@ -13,7 +13,8 @@ use memchr::memchr;
 #[derive(Clone, Copy, Debug)]
 pub(crate) struct Shape {
     pub(crate) label: LabelKind,
-    /// How many bytes of blanks and marks the line begins with after its label, and how many tabs.
+    /// How many bytes of blanks and marks the line has after its label before the first card or the
+    /// first mark for no card, and how many tabs.
     pub(crate) indent: usize,
     pub(crate) tabs: usize,
     /// Whether the line begins with a bar.
@@ -217,9 +218,17 @@ impl Front {
         let is_quote = !self.is_begun && (is_all(mark, b">") || mark == b"+".as_slice());
         if is_gap(mark) || is_opened && mark == b"]".as_slice() {
             self.see_run(run);
+            self.see_indent(start);
             self.see_mark();
         } else if is_opened || !(self.is_opened || is_all(mark, b"])}>") || is_quote) {
             self.shape.see_other(start);
+        }
+    }
+
+    // Sees where the first card or the first mark for no card begins.
+    fn see_indent(&mut self, start: usize) {
+        if self.shape.cards == 0 && self.shape.marks == 0 {
+            self.shape.indent = start.saturating_sub(self.label_end);
         }
     }
 
@@ -270,9 +279,9 @@ impl Front {
             self.shape.see_other(word.start);
             return;
         };
+        self.see_indent(word.start);
         if self.shape.cards == 0 {
             self.shape.lead = self.seen;
-            self.shape.indent = word.start.saturating_sub(self.label_end);
         }
         self.shape.gaps = self.seen;
         self.shape.see_card(word.text, *card);
