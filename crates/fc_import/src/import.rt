@@ -493,7 +493,7 @@ impl<R: Rule> Importer<R> {
     fn refuse_fault(&mut self, piece: &[u8], fault: BoardFault) -> Result<(), AllocError>
         ensures { OnOk result (Takes R.VARIANT R.game piece.now self.old.made self.new.made) }
     {
-        let words = board_reason(self.alloc, piece, fault)?;
+        let words = board_reason(self.alloc, piece, fault.place, fault.kind)?;
         self.title.clear();
         self.made.refuse_board(piece, fault.place, words.as_slice())
     }

@@ -3,24 +3,26 @@
 use crate::words::Words;
 use fc_board::PlayFault;
 use fc_record::push_number;
-use fc_text::{BoardFault, BoardFaultKind, Tokens};
+use fc_text::{BoardFaultKind, Tokens};
 use std::alloc::{AllocError, Global};
 
-/// Why a board of these lines is not imported. A word that is no card is named.
+/// Why a board of these lines is not imported, for its fault at this place. A word that is no card
+/// is named.
 pub(crate) fn board_reason(
     alloc: Global,
     lines: &[u8],
-    fault: BoardFault,
+    at: usize,
+    kind: BoardFaultKind,
 ) -> Result<Vec<u8>, AllocError> {
-    if let BoardFaultKind::BadCard = fault.kind {
-        return word_reason(alloc, lines, fault.place, fault_words(fault.kind));
+    if let BoardFaultKind::BadCard = kind {
+        return word_reason(alloc, lines, at, fault_words(kind));
     }
     let mut words = Vec::new(alloc);
     words.extend_from_slice(b"not imported: ")?;
-    if let BoardFaultKind::MissingCard(card) = fault.kind {
+    if let BoardFaultKind::MissingCard(card) = kind {
         words.extend_from_slice(&[card.rank().letter(), card.suit().letter()])?;
     }
-    words.extend_from_slice(fault_words(fault.kind))?;
+    words.extend_from_slice(fault_words(kind))?;
     Ok(words)
 }
 
