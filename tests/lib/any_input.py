@@ -108,11 +108,20 @@ def carried(board, renaming, columns, cells):
             *(" ".join([":", *renamed[int(column) - 1]]) for column in columns)]
 
 
+# The lines of what closed finds, with the members of its object but the first.
+FINDINGS = [r"closed (?P<records>\d+) records (?P<classes>\d+) classes", r"won (?P<name>\S+)",
+            r"open (?P<name>\S+) (?P<move>\S+)", r"refused (?P<records>\d+) records"]
+
+
 def object_of(line, header):
-    """The members of the object that JSON has in place of this line of a table or of figures."""
+    """The members of the object that JSON has in place of this line of a table, of figures or of what closed finds."""
     refused = re.fullmatch(r"# refused (\S+) at (\d+): (.*)", line)
     if refused:
         return [("refused", refused[1]), ("place", int(refused[2])), ("reason", refused[3])]
+    finding = next(filter(None, (re.fullmatch(form, line) for form in FINDINGS)), None)
+    if finding:
+        texts = {"finding": line.split(" ")[0], **finding.groupdict()}
+        return [(name, int(text) if name in ("records", "classes") else text) for name, text in texts.items()]
     if "\t" not in line:
         words = line.split(" ")
         return list(zip(words[::2], map(int, words[1::2])))
@@ -122,24 +131,24 @@ def object_of(line, header):
 
 def objects_in(text):
     """The members of the object in each line of a text, or the line where it has none."""
-    for line in text.decode("ascii").splitlines():
+    for line in text.splitlines():
         try:
             yield json.loads(line, object_pairs_hook=list)
         except ValueError:
             yield line
 
 
-def format_faults(printed, table, count):
-    """What is not as it must be of a table with a header, and of a table and figures in JSON, by those without.
+def format_faults(printed, table, count, closed):
+    """What is not as it must be of a table with a header, and of what these commands print in JSON, by what they print without.
 
     `printed` is what a command and its options print of the same input.
     """
     header, _, headed = printed("table", "--header").partition(b"\n")
     if headed != table:
         yield "table has other lines under a header"
-    for command, lines in [("table", table), ("count", count)]:
+    for command, lines in [("table", table), ("count", count), ("closed", closed)]:
         wanted = [object_of(line, header.decode("ascii")) for line in lines.decode("ascii").splitlines()]
-        if wanted != [*objects_in(printed(command, "--json"))]:
+        if repr(wanted) != repr([*objects_in(printed(command, "--json"))]):
             yield f"{command} has other members in JSON"
 
 
@@ -229,7 +238,7 @@ def faults(runs, text, pieces, words=()):
     - check says the same of what canon prints as of what canon was given, and of each list that expand prints;
     - group and share have the accepted records, each once, and every list that share prints wins;
     - unique prints records of show, one of each group; table says of each what canon, check and group say;
-    - each line that table and count print in JSON is an object with the members of the line without;
+    - each line that table, count and closed print in JSON is an object with the members of the line without;
     - each passage that same prints leads from the first board to the record's own; symmetries lead to the board itself;
     - count has the figures of check and table, and closed those of count, or it names a record;
     - import does alike on both, and show prints its output again.
@@ -260,7 +269,7 @@ def faults(runs, text, pieces, words=()):
         yield "group or share does not have the accepted records"
     yield from unique_faults(unique, shown, out["group"], runs.run_whole(["group", *words], unique)[1])
     yield from table_faults(without_refusals(out["table"]), out["check"], without_refusals(out["canon"]), len(members))
-    yield from format_faults(lambda *it: runs.run([*it, *words], pieces).printed, out["table"], out["count"])
+    yield from format_faults(lambda *it: runs.run([*it, *words], pieces).printed, out["table"], out["count"], out["closed"])
     yield from same_faults(without_refusals(out["same"]), shown, without_refusals(out["table"]))
     yield from symmetries_faults(without_refusals(out["symmetries"]), shown)
     yield from count_faults(without_refusals(out["count"]), out["check"], out["table"])

@@ -63,6 +63,13 @@ def list_line(chance, game, board):
     return sign + " " * chance.randrange(3) + " ".join(moves) + chance.choice(["\n", "\r\n", "  \n"])
 
 
+def name_by_chance(chance, number):
+    """What a header has after its game: nothing, a name that others have, or one of any signs, also one that is too long or
+    has a byte that is in no name."""
+    signs = "".join(chr(chance.randrange(33, 127)) for _ in range(chance.choice([1, 2, 8, 64, 65])))
+    return chance.choice(["", f" n{number}", " again", f" {signs}", f" {signs}", f" {signs[0]}{chr(chance.randrange(256))}{signs[1:]}"])
+
+
 def collection(chance):
     boards, texts = [], []
     for number in range(chance.randrange(1, 9)):
@@ -73,13 +80,12 @@ def collection(chance):
             game = chance.choice(GAMES)
             board = board_by_chance(chance, game)
         boards.append((game, board))
-        name = chance.choice(["", f" n{number}", " again"])
-        texts.append(f"@ {game.word}{name}\n" + spelled_board(chance, board))
+        texts.append(f"@ {game.word}{name_by_chance(chance, number)}\n" + spelled_board(chance, board))
         texts.extend(list_line(chance, game, board) for _ in range(chance.randrange(3)))
         texts.append(chance.choice(["", "", "# a comment\n", "\n"]))
     if chance.randrange(4) == 0:
         texts[0] = texts[0].split("\n", 1)[1]
-    return "".join(texts).encode()
+    return "".join(texts).encode("latin-1")
 
 
 def damaged(chance, text):

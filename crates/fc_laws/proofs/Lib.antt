@@ -9,11 +9,9 @@ pub mod ExpandLemmas
 pub mod FlawedLemmas
 pub mod HalfLemmas
 pub mod HeadlineLemmas
-pub mod JsonLemmas
 pub mod LeaderLemmas
 pub mod ListingLemmas
 pub mod NamedLineLemmas
-pub mod ObjectLemmas
 pub mod OverLemmas
 pub mod PieceLemmas
 pub mod SameLineLemmas

@@ -35,7 +35,7 @@ use Rattle.fc_laws.proofs.SolutionLemmas.{at-Contains, passes-Wins, Wins-passes}
 -- ---- members
 
 -- with these values
-abbrev pub object_of : List ℕ → List ℕ → List ℕ → List ℕ → List ℕ → List ℕ → List ℕ → List ℕ → List ℕ
+abbrev object_of : List ℕ → List ℕ → List ℕ → List ℕ → List ℕ → List ℕ → List ℕ → List ℕ → List ℕ
 object_of name variant board renaming columns cells lists win =
     json_object ((codes "name", json_string name) ∷ (codes "variant", json_string variant) ∷ (codes "board", json_string board) ∷
     (codes "renaming", json_string renaming)
@@ -49,7 +49,7 @@ module _ (number : ℕ) (heading : Heading) (contents : Contents) (name variant 
   abbrev object : List ℕ → List ℕ
   object win = object_of name variant board renaming columns cells lists win
 
-  pub object_of_fields : (win : List ℕ) → table_fields number heading contents ≡ with_win win
+  object_of_fields : (win : List ℕ) → table_fields number heading contents ≡ with_win win
       → table_object number heading contents ≡ object (number_or_null win)
   object_of_fields win are =
       let is_number : decimal (length contents.lists) ≡ lists = ap (λ fields. get_or fields 6 []) are in
@@ -115,7 +115,7 @@ strings_apart text other rest more e =
 -- ---- what the fields of a table's line say: which records belong together, and which list wins first
 
 -- the canonical text is that of a board
-pub canonical_is_text : (member : Member) → HasBoard member → IsBoardText (canonical_text member)
+canonical_is_text : (member : Member) → HasBoard member → IsBoardText (canonical_text member)
 canonical_is_text member well =
     let game = game_of member.heading.variant in
     let is = chosen member.heading.variant member.contents.board well in (
@@ -269,7 +269,7 @@ eight_columns variant collection member there =
 -- ---- the first list that wins
 
 -- a number is not written as the dash that stands for none
-pub no_dash : (number : ℕ) → decimal number ≡ codes "-" → ⊥
+no_dash : (number : ℕ) → decimal number ≡ codes "-" → ⊥
 no_dash number e = let high = All-head (λ byte. 48 ≤ byte) 45 [] (rw e at (decimal-high number)) in absurd (omega arith)
 
 module _ (game : Game) (board : Board) where

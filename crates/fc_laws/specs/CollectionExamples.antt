@@ -1,11 +1,12 @@
 -- Collections as keepers of FreeCell boards write them, and what is printed for them.
 use Rattle.std.specs.List.{flat_map, join_with_byte}
-use Rattle.std.specs.Prelude.{◌++◌, ◌∷◌, [], codes, List, replicate, ℕ}
+use Rattle.std.specs.Prelude.{◌++◌, ◌∷◌, [], codes, List, Option, replicate, ℕ}
 use Rattle.{fc_board.specs.declared.rule.Variant.TheVariants.{FreeCell}, fc_card.specs.Types.{Text}}
 use Rattle.fc_text.specs.Bytes.{carriage_return, line_feed, tab}
 use Rattle.fc_record.specs.Grammar.{Contents, Heading}
 use Rattle.fc_record.specs.Printing.{canon_lines, check_lines, expand_lines, printed, show_lines}
-use Rattle.fc_record.specs.Tables.{table_line, table_object}
+use Rattle.fc_record.specs.Tables.{refusal_object, table_line, table_object}
+use Rattle.fc_record.specs.declared.record.RecordFaultKind.TheVariants.{BadHeader}
 use Rattle.fc_collect.specs.Groups.{group_lines, grouped, Member, share_lines, unique_output}
 use Rattle.fc_collect.specs.{Limits.{largest}, Records.{records_from, records_of, whole_output}}
 use Rattle.fc_collect.specs.Runs.{ending_of_kind, output_of_kind}
@@ -276,6 +277,17 @@ mixed_counted = lines_text (
     codes "# refused bad at 249: missing card KS" ∷ codes "# refused worse at 305: bad token"
     ∷ codes "records 6 refused 2 groups 3 doubles 1 lists 6 wins 4 solved 3"
     ∷ [])
+
+-- what JSON has for a bad header at byte 111, in record 7, which begins at byte 100
+abbrev pub seventh_refused : Option Text → Text
+seventh_refused name =
+    refusal_object (record { number = 7; start = 100; bytes = [] }) name (record { place = 11; kind = BadHeader })
+
+-- the signs that names may have, with these for a quote and a backslash
+abbrev pub signs_with : Text → Text → Text
+signs_with quote backslash =
+    codes "!" ++ quote ++ codes "#$%&'()*+,-./0123456789:;<=>?@ABCDEFGHIJKLMNOPQRSTUVWXYZ["
+    ++ backslash ++ codes "]^_`abcdefghijklmnopqrstuvwxyz{|}~"
 
 abbrev pub refused_in_group_counted : Text
 refused_in_group_counted = lines_text (

@@ -1,15 +1,13 @@
 //! Laws of the figures that `count` prints.
-ghost use Rattle.json.specs.Json.{document, member as member_of, no_members, number, object};
-ghost use Rattle.std.specs.Fmt.{decimal};
-ghost use Rattle.std.specs.List.{All, Contains, count_by, filter, flat_map, list_any};
-ghost use Rattle.std.specs.Prelude.{◌++◌, ◌+◌, ◌<◌, ◌^◌, ◌↔◌, ◌∷◌, ◌≡◌, [], Bool, codes, false};
-ghost use Rattle.std.specs.Prelude.{length, List, map, slice_index_or, Some, true, ℕ};
+ghost use Rattle.std.specs.{Fmt.{decimal}, List.{Contains, count_by, filter, flat_map, list_any}};
+ghost use Rattle.std.specs.Prelude.{◌++◌, ◌+◌, ◌↔◌, ◌∷◌, ◌≡◌, [], Bool, codes, false, length, List};
+ghost use Rattle.std.specs.Prelude.{map, slice_index_or, true, ℕ};
 ghost use Rattle.{fc_board.specs.declared.rule.Variant.{Variant}, fc_card.specs.Types.{Text}};
 ghost use Rattle.fc_board.specs.{Games.{game_of}, Moves.{move_count, MoveList}, Play.{Wins}};
 ghost use Rattle.fc_text.specs.Bytes.{blank, line_feed};
 ghost use Rattle.fc_record.specs.{Printing.{verdict_line}, RecordTexts.{RecordText}};
-ghost use Rattle.fc_collect.specs.Groups.{belong_together, figures, figures_object, groups_of};
-ghost use Rattle.fc_collect.specs.Groups.{Member, members_among, name_of_member, summary_of};
+ghost use Rattle.fc_collect.specs.Groups.{belong_together, figures, groups_of, Member};
+ghost use Rattle.fc_collect.specs.Groups.{members_among, name_of_member, summary_of};
 ghost use Rattle.fc_collect.specs.Records.{records_of};
 ghost use Rattle.fc_collect.specs.declared.streams.faults.Summary.{Summary};
 
@@ -73,24 +71,6 @@ pub fn solved_groups_have_a_list_that_wins()
         → (test group ≡ true) ↔ ((member : Member) × (list : MoveList) × Contains group member
         × Contains member.contents.lists list
         × Wins (game_of member.heading.variant) member.contents.board list)) }
-{}
-
-/// The object of the figures is a JSON text, as the library `json` reads it: its members are the
-/// figures in their order, each a number.
-pub fn figures_are_json_texts()
-    ensures { (summary : Summary) (members : List Member)
-        (records refused groups doubles lists wins solved : ℕ)
-        → map (λ figure. figure.1) (figures summary members)
-        ≡ records ∷ refused ∷ groups ∷ doubles ∷ lists ∷ wins ∷ solved ∷ []
-        → All (λ figure. figure.1 < 2 ^ 64) (figures summary members)
-        → (line : Text) × (figures_object (figures summary members) ≡ line ++ line_feed ∷ [])
-        × (document line ≡ Some (object (member_of (codes "records") (number (decimal records))
-        (member_of (codes "refused") (number (decimal refused))
-        (member_of (codes "groups") (number (decimal groups))
-        (member_of (codes "doubles") (number (decimal doubles))
-        (member_of (codes "lists") (number (decimal lists))
-        (member_of (codes "wins") (number (decimal wins))
-        (member_of (codes "solved") (number (decimal solved)) no_members))))))))) }
 {}
 
 /// The wins are as many as the lists of accepted records of which `check` says that they win: those

@@ -1,22 +1,18 @@
 //! Laws of the lines of a table.
-ghost use Rattle.json.specs.Json.{document, member as member_of, no_members, null, number, object};
-ghost use Rattle.json.specs.Json.{string};
 ghost use Rattle.std.specs.{Fmt.{decimal}, List.{All, Contains, slice_split}, Prelude.{◌++◌, ◌+◌}};
-ghost use Rattle.std.specs.Prelude.{◌<◌, ◌==◌, ◌^◌, ◌↔◌, ◌∷◌, ◌≡◌, ◌≢◌, [], codes, drop};
-ghost use Rattle.std.specs.Prelude.{if◌then◌else◌, length, Option, slice_get, slice_index_or, Some};
-ghost use Rattle.std.specs.{Prelude.{take, true, ℕ}, Str.{bytes_eq}};
+ghost use Rattle.std.specs.Prelude.{◌<◌, ◌==◌, ◌↔◌, ◌∷◌, ◌≡◌, ◌≢◌, [], codes, drop, length, None};
+ghost use Rattle.std.specs.Prelude.{slice_get, slice_index_or, Some, take, true, ℕ};
 ghost use Rattle.{fc_board.specs.declared.rule.Variant.{Variant}, fc_card.specs.Types.{Text}};
 ghost use Rattle.fc_board.specs.{Boards.{IsWellFormed}, Games.{game_of, renamings_of}};
 ghost use Rattle.fc_board.specs.{Moves.{MoveList}, Play.{Wins}};
 ghost use Rattle.{fc_canon.specs.{chosen_passage}, fc_text.specs.Bytes.{IsLess, line_feed, tab}};
-ghost use Rattle.fc_record.specs.Grammar.{Contents, Heading, reading_of, Refused};
-ghost use Rattle.fc_record.specs.Printing.{header_text, name_of, passage_line, record_reason};
-ghost use Rattle.fc_record.specs.{RecordTexts.{RecordText}, Tables.{json_object, json_string}};
-ghost use Rattle.fc_record.specs.Tables.{refusal_object, table_fields, table_header, table_line};
-ghost use Rattle.fc_record.specs.Tables.{table_object};
-ghost use Rattle.fc_record.specs.declared.record.RecordFault.{RecordFault};
+ghost use Rattle.fc_record.specs.Grammar.{Contents, Heading};
+ghost use Rattle.fc_record.specs.Printing.{header_text, name_of, passage_line};
+ghost use Rattle.fc_record.specs.Tables.{json_object, json_string, table_fields, table_header};
+ghost use Rattle.fc_record.specs.Tables.{table_line, table_object};
 ghost use Rattle.fc_collect.specs.Groups.{belong_together, canonical_text, Member, members_among};
 ghost use Rattle.fc_collect.specs.Records.{records_of};
+ghost use Rattle.fc_laws.specs.CollectionExamples.{seventh_refused, signs_with};
 
 /// Two accepted records belong together exactly if the second and third columns of their lines, the
 /// game and the board, are equal; and boards are ordered there as their canonical texts are.
@@ -115,34 +111,13 @@ pub fn objects_hold_the_columns()
         → json_string text ++ rest ≡ json_string other ++ more → text ≡ other }
 {}
 
-/// The object of an accepted record is a JSON text, as the library `json` reads it: its members are
-/// the fields in their order, six strings, a number, and a number or null.
-pub fn objects_are_json_texts()
-    ensures { (variant : Variant) (collection : Text) (member : Member)
-        (name own board renaming columns cells lists win : Text)
-        → Contains (members_among variant (records_of collection)) member
-        → length member.contents.lists + 1 < 2 ^ 64
-        → table_fields member.number member.heading member.contents
-        ≡ name ∷ own ∷ board ∷ renaming ∷ columns ∷ cells ∷ lists ∷ win ∷ []
-        → (line : Text)
-        × (table_object member.number member.heading member.contents ≡ line ++ line_feed ∷ [])
-        × (document line ≡ Some (object (member_of (codes "name") (string name)
-        (member_of (codes "variant") (string own) (member_of (codes "board") (string board)
-        (member_of (codes "renaming") (string renaming) (member_of (codes "columns") (string columns)
-        (member_of (codes "cells") (string cells) (member_of (codes "lists") (number lists)
-        (member_of (codes "win") (if bytes_eq win (codes "-") then null else number win)
-        no_members)))))))))) }
-{}
-
-/// So is the object of a refused record, which is printed in place of its line: its members are the
-/// record's name, the place of its fault in the collection, and the reason.
-pub fn refusals_are_json_texts()
-    ensures { (variant : Variant) (text : RecordText) (name : Option Text)
-        (fault : RecordFault)
-        → reading_of variant text.bytes ≡ Refused name fault → text.start + fault.place < 2 ^ 64
-        → (line : Text) × (refusal_object text name fault ≡ line ++ line_feed ∷ [])
-        × (document line ≡ Some (object
-        (member_of (codes "refused") (string (name_of text.number name))
-        (member_of (codes "place") (number (decimal (text.start + fault.place)))
-        (member_of (codes "reason") (string (record_reason fault.kind)) no_members))))) }
+/// So has that of a refused record its name or its number as a string, the place of its fault in
+/// the collection, and the reason: here of names with all their signs, of which a quote and a
+/// backslash alone have a backslash before them.
+pub fn refusals_have_their_objects()
+    ensures named { seventh_refused (Some (signs_with (34 ∷ []) (92 ∷ [])))
+        ≡ codes "{\"refused\":\"" ++ signs_with (92 ∷ 34 ∷ []) (92 ∷ 92 ∷ [])
+        ++ codes "\",\"place\":111,\"reason\":\"bad header\"}\n" }
+    ensures unnamed { seventh_refused None
+        ≡ codes "{\"refused\":\"7\",\"place\":111,\"reason\":\"bad header\"}\n" }
 {}
