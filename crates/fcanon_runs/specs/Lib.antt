@@ -1,7 +1,8 @@
 -- The numbers by which C knows games, tasks and formats, and what a run over memory hands over.
 use Rattle.std.specs.Prelude.{◌++◌, ◌<◌, ◌==◌, ◌∷◌, ◌≡◌, ◌≤◌, ◌⊎◌, [], drop, if◌then◌else◌, length}
 use Rattle.std.specs.Prelude.{slice_index_or, ℕ}
-use Rattle.{fc_board.specs.declared.rule.Variant.{Variant}, fc_board.specs.Games.{variant_at}, fc_card.specs.Types.{Text}}
+use Rattle.{fc_board.specs.Games.{variant_at}, fc_card.specs.Types.{Text}}
+use Rattle.{fc_board.specs.declared.rule.Variant.{Variant}, fc_import.specs.Import.{Makes}}
 use Rattle.fc_collect.specs.Limits.{largest, most_bytes, standard}
 use Rattle.fc_collect.specs.{Promises.{Begins, IsWithinLimits}, Runs.{count_format}}
 use Rattle.fc_collect.specs.declared.{
@@ -11,10 +12,9 @@ use Rattle.fc_collect.specs.declared.{
   streams.faults.RunFault.{RunFault, TheVariants.{Memory, Read, ReaderNeverEnds, TooLarge, Write}},
   streams.{faults.Summary.{Summary}, limits.Limits.{Limits}},
 }
-use Rattle.fc_import.specs.Import.{Makes}
 use Rattle.fc_import.specs.declared.options.LinesAre.{LinesAre, TheVariants.{Columns, Rows, Unsaid}}
 use Rattle.fc_import.specs.declared.options.Noted.TheVariants.{Doubts}
-use Rattle.fcanon_runs.specs.declared.{import.{Imported.{Imported}, ImportRequest.{ImportRequest}}}
+use Rattle.fcanon_runs.specs.declared.import.{Imported.{Imported}, ImportRequest.{ImportRequest}}
 use Rattle.fcanon_runs.specs.declared.output.Written.{Written}
 
 -- ======== The numbers by which C knows games, tasks, formats and faults. From: this project's profile.
