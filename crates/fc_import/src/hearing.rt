@@ -9,6 +9,7 @@ ghost use Rattle.fc_import.specs.Seen.{IsHeard, IsSeen, piece_of, said_of};
 
 use crate::moves::{Heard, has_small_letters, is_sure};
 use crate::scan::{LineSeen, named_card};
+use crate::signs::byte_at;
 use crate::solver::{push_solver_move, word_at};
 use crate::words::{Word, Words, uncommented};
 use fc_board::Rule;
@@ -107,7 +108,7 @@ fn begins_single<R: Rule>(line: &[u8]) -> bool
     ensures { result ≡ begins_single R.game (words_of line.now) }
 {
     let text = uncommented(line);
-    let letters = [first_byte(word_at(text, 0)), first_byte(word_at(text, 1))];
+    let letters = [byte_at(word_at(text, 0), 0), byte_at(word_at(text, 1), 0)];
     is_sure(letters.as_slice()) && run_named::<R>(letters.as_slice()).is_some()
 }
 
@@ -179,15 +180,6 @@ fn is_single(word: &[u8]) -> bool
     ensures { result ≡ (length word.now == 1) }
 {
     word.len() == 1
-}
-
-fn first_byte(word: &[u8]) -> u8
-    ensures { result ≡ slice_index word.now 0 }
-{
-    match word.first() {
-        Some(byte) => *byte,
-        None => 0,
-    }
 }
 
 // What is heard before the first word: whether it is of a move that Freecell Solver says.

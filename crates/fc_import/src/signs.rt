@@ -166,13 +166,13 @@ fn push_letters(made: &mut Vec<u8>, number: u32) -> Result<bool, AllocError>
     ensures letters { OnOk result
         (made.new.items ≡ made.old.items ++ unwrap_or (stands_for number) []) }
 {
-    if is_suit_sign(number) {
+    if is_among(0x2660, 0x2667, number) {
         made.push(b"SHDC"[(number % 4) as usize])?;
     } else if is_card_sign(number) {
         made.push(b"?A23456789TJ?QK?"[(number % 16) as usize])?;
         made.push(b"SHDC"[(number / 16 - 0x1F0A) as usize])?;
         made.push(b' ')?;
-    } else if is_wide(number) {
+    } else if is_among(0xFF01, 0xFF5E, number) {
         made.push((number - 0xFEE0) as u8)?;
     } else if ends_line(number) {
         made.push(b'\n')?;
@@ -219,12 +219,6 @@ fn is_arrow(number: u32) -> bool
     is_among(0x2190, 0x21FF, number) || is_among(0x279C, 0x27BE, number)
 }
 
-fn is_suit_sign(number: u32) -> bool
-    ensures { result ≡ is_between 0x2660 0x2667 number }
-{
-    is_among(0x2660, 0x2667, number)
-}
-
 // Whether the sign is a playing card from U+1F0A1 on, and no knight and no joker.
 fn is_card_sign(number: u32) -> bool
     ensures { result ≡ (is_between 0x1F0A0 0x1F0DF number
@@ -232,13 +226,6 @@ fn is_card_sign(number: u32) -> bool
 {
     is_among(0x1F0A0, 0x1F0DF, number)
         && (is_among(1, 11, number % 16) || is_among(13, 14, number % 16))
-}
-
-// Whether the sign is one of ASCII as wide as a sign of Chinese.
-fn is_wide(number: u32) -> bool
-    ensures { result ≡ is_between 0xFF01 0xFF5E number }
-{
-    is_among(0xFF01, 0xFF5E, number)
 }
 
 fn ends_line(number: u32) -> bool
@@ -275,8 +262,8 @@ fn is_among(low: u32, high: u32, number: u32) -> bool
     low <= number && number <= high
 }
 
-// The byte at this place, or 0 past the end.
-fn byte_at(text: &[u8], at: usize) -> u8
+/// The byte at this place, or 0 past the end.
+pub(crate) fn byte_at(text: &[u8], at: usize) -> u8
     ensures { result ≡ slice_index text.now at }
 {
     match text.get(at) {
