@@ -17,11 +17,11 @@ use crate::lists::{ListRead, moves_on};
 use crate::made::{Form, Made};
 use crate::options::{ImportOptions, LinesAre};
 use crate::piece::{FIRST_RULE, Piece, PieceKind, SOLVED};
-use crate::reasons::{board_reason, move_reason, word_reason};
+use crate::reasons::{NO_CARD, board_reason, move_reason, word_reason};
 use crate::spelled::is_same;
 use crate::titles::{title_of, variant_titled};
 use fc_board::{Board, Rule};
-use fc_text::{BoardFault, BoardFaultKind, Lines, read_board};
+use fc_text::{BoardFault, Lines, read_board};
 use std::alloc::{AllocError, Global};
 
 const LEFT_OUT: &[u8] = b"this line is left out, though a word of it names a card";
@@ -363,13 +363,7 @@ impl<R: Rule> Importer<R> {
         match (first_misplaced(piece), read_board::<R>(lines)) {
             (Misplaced::Label(at), _) => self.refuse_word(lines, at, NO_LABEL),
             (Misplaced::Height(at), _) => self.refuse_word(lines, at, NO_HEIGHT),
-            (Misplaced::Word(place), _) => self.refuse_fault(
-                lines,
-                BoardFault {
-                    kind: BoardFaultKind::BadCard,
-                    place,
-                },
-            ),
+            (Misplaced::Word(at), _) => self.refuse_word(lines, at, NO_CARD),
             (Misplaced::Nothing, Ok(_)) => self.refuse(lines, NO_BOARD),
             (Misplaced::Nothing, Err(fault)) => self.refuse_fault(lines, fault),
         }

@@ -6,8 +6,11 @@ use fc_record::push_number;
 use fc_text::{BoardFaultKind, Tokens};
 use std::alloc::{AllocError, Global};
 
-/// Why a board of these lines is not imported, for its fault at this place. A word that is no card
-/// is named.
+/// What is said of a word that is no card.
+pub(crate) const NO_CARD: &[u8] =
+    b" is no card: write a rank A 2 .. 10 J Q K and a suit C D H S, as 10H or TH";
+
+/// Why a board of these lines is not imported; a word that is no card is named.
 pub(crate) fn board_reason(
     alloc: Global,
     lines: &[u8],
@@ -31,9 +34,7 @@ fn fault_words(kind: BoardFaultKind) -> &'static [u8] {
         BoardFaultKind::RepeatedLine => b"a second line of this name: leave one of them",
         BoardFaultKind::TooManyColumns => b"a ninth column: a board has eight",
         BoardFaultKind::TooManyCells => b"one cell too many: this game has fewer",
-        BoardFaultKind::BadCard => {
-            b" is no card: write a rank A 2 .. 10 J Q K and a suit C D H S, as 10H or TH"
-        }
+        BoardFaultKind::BadCard => NO_CARD,
         BoardFaultKind::BadFoundation => {
             b"no foundation: write a suit, - and 0 or the rank on top, as H-4"
         }
@@ -81,11 +82,9 @@ pub(crate) fn word_reason(
 
 // The word that the text begins with; of a text that begins with what parts words, all up to a blank.
 fn word_at(text: &[u8]) -> &[u8] {
-    match Words::new(text).next() {
-        Some(word) if text.starts_with(word.text) => word.text,
-        _ => match Tokens::new(text).next() {
-            Some(token) => token.text,
-            None => b"",
-        },
+    match (Words::new(text).next(), Tokens::new(text).next()) {
+        (Some(word), _) if text.starts_with(word.text) => word.text,
+        (_, Some(token)) => token.text,
+        _ => b"",
     }
 }
