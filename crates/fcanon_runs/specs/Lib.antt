@@ -71,13 +71,14 @@ FaultOf limits input answer = answer ≡ 13 → (front : Text) × Begins front i
 -- ======== What an import of memory hands over. From: this project's profile.
 
 -- this text is made of the input, whose lines of cards are said to be these, and this is said of it
-pub record ImportOf (variant : Variant) (lines_are : LinesAre) (input text said : Text) (summary : Summary) : Type 0 where
+pub record ImportOf (variant : Variant) (lines : LinesAre) (input text said : Text) (summary : Summary) : Type 0 where
   pub few : length input ≤ most_bytes
-  pub makes : Makes variant (record { lines_are = lines_are; noted = Doubts }) input text said summary
+  pub makes : Makes variant (record { lines_are = lines; noted = Doubts }) input text said summary
 
 -- what a request asks for is made of the input, and is as long as is written
 pub record IsImported (request : ImportRequest) (input text said : Text) (imported : Imported) : Type 0 where
-  pub is_import : ImportOf (variant_at request.game) (lines_at request.lines) input text said (counted imported.written)
+  pub is_import : ImportOf (variant_at request.game) (lines_at request.lines) input text said
+      (counted imported.written)
   pub long : length text ≡ imported.written.length
   pub said_long : length said ≡ imported.noted
 
