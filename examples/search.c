@@ -1,12 +1,13 @@
 /* search.c: looks for a solution of a board of any game, and knows a state again by the hash of its class. To be compared with that
  * it also knows states as solvers mostly do: by a hash that follows each move, in which the orders of columns and cells do not count,
- * and the names of suits do.
+ * and the names of suits do. The sums of each state are kept and moved along: to make them anew costs more than the hashes after all
+ * its moves.
  *
  *   cc -std=c99 -O2 search.c $(pkg-config --cflags --libs fcanon) -o search
  *   fcanon deal 617 | ./search 0 greedy 1000000 classes moves
  *
  * The words are the game's number; `breadth`, or `greedy`, which goes on from what looks best; how many states are kept at most, each
- * of some 120 bytes; and how they are known, for each of which there is one search. It ends at a won board, of which it prints the moves
+ * of some 120 bytes and of 128 for its sums, or 384 in other games than FreeCell; and how they are known, for each of which there is one search. It ends at a won board, of which it prints the moves
  * for the board that was given; where states are too many; or where all are known. Only 64 bits of a class hash are as good as
  * random: that two classes of a million have one is likely once in 37 million searches, and then a state is passed over.
  */
@@ -30,6 +31,8 @@ static const char PILES[] = "12345678abcdefgk"; /* columns, then cells */
 
 static uint32_t game;
 static state *states;
+static unsigned char *kept_sums; /* of each state, as many bytes as the game's sums have */
+static size_t sums_size;
 static uint32_t *table; /* of states by their hashes: one more than a place, or 0 */
 static size_t slots, most, count;
 static uint32_t heads[LOOKS]; /* with greedy, the last state of each look, one more than its place */
@@ -79,26 +82,51 @@ static void keep(uint32_t before, fcanon_move move, hash it) {
     if (is_greedy) put_by_look((uint32_t)count - 1);
 }
 
+/* The last card of each pile, or 0, and what it lies on, as in fcanon.h. */
+static void find_ends(const fcanon_board *board, uint8_t last[16], uint8_t under[16]) {
+    int pile, end = 0;
+    for (pile = 0; pile < 8; pile++) {
+        end += board->lengths[pile];
+        last[pile] = board->lengths[pile] ? board->cards[end - 1] : 0;
+        under[pile] = board->lengths[pile] > 1 ? board->cards[end - 2] : FCANON_ON_FOOT;
+    }
+    for (; pile < 16; pile++) last[pile] = board->cells[pile - 8], under[pile] = FCANON_ON_CELL;
+}
+
 /* ---- by the hash of the class */
 
 static hash first_class(const fcanon_board *board) {
     fcanon_class_sums sums;
     hash it;
     if (fcanon_sums(game, board, &sums) || fcanon_class_hash(game, &sums, (uint8_t *)&it)) exit(3);
+    memcpy(kept_sums, &sums, sums_size);
     return it;
+}
+
+/* Keeps the sums of the last state, which a move made of a board with these sums and ends of piles. */
+static void keep_sums(fcanon_move move, fcanon_class_sums sums, const uint8_t last[16], const uint8_t under[16]) {
+    const long from = strchr(PILES, move.from) - PILES, to = move.to == 'h' ? 16 : strchr(PILES, move.to) - PILES;
+    const uint8_t onto = to == 16 ? FCANON_ON_HOME : to >= 8 ? FCANON_ON_CELL : last[to] ? last[to] : FCANON_ON_FOOT;
+    if (fcanon_move_sums(game, last[from], under[from], onto, &sums)) exit(3);
+    memcpy(kept_sums + (count - 1) * sums_size, &sums, sums_size);
 }
 
 static void classes_after(uint32_t at) {
     static fcanon_child_hash children[ROOM];
-    fcanon_class_sums sums;
-    size_t i, many;
-    hash it;
-    if (fcanon_sums(game, &states[at].board, &sums)) exit(3);
+    static fcanon_class_sums sums; /* 0 after those of the game */
+    uint8_t last[16], under[16];
+    size_t i, many, before;
+    hash it = {0, 0};
+    memcpy(&sums, kept_sums + at * sums_size, sums_size);
     /* The board is known, since calls made it. */
     if (fcanon_known_child_hashes(game, &states[at].board, &sums, children, ROOM, &many)) exit(3);
+    find_ends(&states[at].board, last, under);
     for (i = 0; i < many; i++) {
+        if (i && !memcmp(&it, children[i].hash, sizeof it)) continue; /* to another empty cell or column */
         memcpy(&it, children[i].hash, sizeof it);
+        before = count;
         keep(at, children[i].move, it);
+        if (count > before) keep_sums(children[i].move, sums, last, under);
     }
 }
 
@@ -136,18 +164,13 @@ static void try_move(uint32_t at, char from, char to, uint8_t card, uint8_t off,
 static void moves_after(uint32_t at) {
     const fcanon_board board = states[at].board;
     const int piles = game == FCANON_EIGHT_OFF ? 16 : 12;
-    uint8_t last[16], under[16], end = 0;
+    uint8_t last[16], under[16];
     int from, to, column = -1, cell = -1;
-    for (from = piles - 1; from >= 8; from--) {
-        last[from] = board.cells[from - 8], under[from] = FCANON_ON_CELL;
+    find_ends(&board, last, under);
+    for (from = piles - 1; from >= 8; from--)
         if (!last[from]) cell = from;
-    }
-    for (from = 0; from < 8; from++) {
-        end = (uint8_t)(end + board.lengths[from]);
-        last[from] = board.lengths[from] ? board.cards[end - 1] : 0;
-        under[from] = board.lengths[from] > 1 ? board.cards[end - 2] : FCANON_ON_FOOT;
-        if (!last[from] && column < 0) column = from;
-    }
+    for (from = 7; from >= 0; from--)
+        if (!last[from]) column = from;
     for (from = 0; from < piles; from++) {
         const uint8_t card = last[from];
         if (!card) continue;
@@ -206,8 +229,9 @@ int main(int argc, char **argv) {
     game = (uint32_t)atoi(argv[1]), is_greedy = !strcmp(argv[2], "greedy"), most = (size_t)strtoul(argv[3], NULL, 10);
     if (fcanon_read(game, text, fread(text, 1, sizeof text, stdin), &board, &place)) return fputs("this is no board\n", stderr), 2;
     for (slots = 1024; slots < 2 * most; slots *= 2) continue;
-    states = malloc((most + 1) * sizeof *states), table = malloc(slots * sizeof *table);
-    if (!states || !table) return fputs("there is no memory for so many states\n", stderr), 3;
+    sums_size = (game == FCANON_FREECELL ? 8 : 24) * sizeof(uint64_t[2]);
+    states = malloc((most + 1) * sizeof *states), table = malloc(slots * sizeof *table), kept_sums = malloc((most + 1) * sums_size);
+    if (!states || !table || !kept_sums) return fputs("there is no memory for so many states\n", stderr), 3;
     for (i = 4; i < argc; i++) search(argv[i], &board);
     return fflush(stdout) ? 3 : 0;
 }
