@@ -137,8 +137,8 @@ pub fn some_commands_take_no_piece()
         → ¬ Reads (called ∷ codes "closed" ∷ codes "--from-record=3" ∷ []) (Ok answer) }
 {}
 
-/// `--json` asks `count`, `closed` and `table` for JSON, also where `--header` is there, which alone asks
-/// `table` for a header. No other command takes them.
+/// `--json` asks `count`, `closed` and `table` for JSON, also where `--header` is there, which
+/// alone asks `table` for a header. No other command takes them.
 pub fn formats_are_asked_for()
     ensures count { (called : Text) (answer : Option Request)
         → Reads (called ∷ codes "count" ∷ codes "--json" ∷ []) (Ok answer)

@@ -1,4 +1,4 @@
-//! The moves of one card that a board allows, and the hashes of the classes of the boards after them.
+//! The moves of one card that a board allows, and the class hashes of the boards after them.
 ghost use Rattle.std.specs.Prelude.{◌++◌, ◌-◌, ◌<◌, ◌≡◌, ◌≤◌, ◌⊎◌, drop, length, map};
 ghost use Rattle.std.specs.Prelude.{slice_index_or};
 ghost use Rattle.fc_board.specs.{Boards.{Board as Layout}, declared.moves.Move.{Move as OneCard}};

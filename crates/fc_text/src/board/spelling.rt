@@ -81,8 +81,8 @@ fn suit_code(letter: u8) -> u8
     SUITS[usize::from(letter)]
 }
 
-/// The card that a word spells: a rank `A` `2` .. `10` `J` `Q` `K`, where `T` is the ten too and `1`
-/// the ace, and then a suit `C` `D` `H` `S`, in either case.
+/// The card that a word spells: a rank `A` `2` .. `10` `J` `Q` `K`, where `T` is the ten too and
+/// `1` the ace, and then a suit `C` `D` `H` `S`, in either case.
 pub fn card_spelled(word: &[u8]) -> Option<Card>
     ensures { result ≡ card_spelled word.now }
 {
