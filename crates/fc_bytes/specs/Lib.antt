@@ -261,6 +261,7 @@ abbrev pub legal_moves_from : Game → Board → ℕ → List Move
 legal_moves_from game board from = legal_moves_to game board from (9 + game.cells)
 
 -- all moves of one card that the game allows, in the order of their sources
+-- said again: each_legal_move_is_listed_once.one_card, each_legal_move_is_listed_once.in_order
 abbrev pub legal_moves : Game → Board → List Move
 legal_moves game board = flat_map (legal_moves_from game board) (places (8 + game.cells))
 
@@ -300,6 +301,7 @@ abbrev pub legal_runs_from : Game → Board → ℕ → List RunMove
 legal_runs_from game board from = flat_map (legal_runs_between game board from) (places 8)
 
 -- all moves of two and more cards from column to column that the game allows, in the order of their columns
+-- said again: each_legal_move_is_listed_once.runs, each_legal_move_is_listed_once.runs_in_order
 abbrev pub legal_runs : Game → Board → List RunMove
 legal_runs game board = flat_map (legal_runs_from game board) (places 8)
 
