@@ -2,73 +2,53 @@
 use arrayvec::ArrayVec;
 use fc_board::{
     BakersGame, Board, DeckFault, EightOff, FreeCell, Height, Move, Place, PlayFault, Rule, Source,
-    StepFault,
+    StepFault, no_cards,
 };
 use fc_card::{Card, Rank, Suit};
-use std::process::Abort;
-use std::test::Fail;
 
-fn column(cards: &[Card]) -> ArrayVec<Card, 52> {
-    ArrayVec::try_from(cards).unwrap_or(ArrayVec::new())
+// The board with so many cards of C and D and all of H and S home, empty cells and these columns.
+fn board<R: Rule>(
+    clubs: u8,
+    diamonds: u8,
+    columns: [&[Card]; 8],
+) -> Option<Result<Board<R>, DeckFault>> {
+    let whole = Height::new(13)?;
+    let mut piles = no_cards();
+    for place in 0..8 {
+        piles[place] = ArrayVec::try_from(columns[place]).ok()?;
+    }
+    let heights = [Height::new(clubs)?, Height::new(diamonds)?, whole, whole];
+    Some(Board::from_parts(heights, [None; 8], piles))
 }
 
-fn heights([clubs, diamonds, hearts, spades]: [u8; 4]) -> Option<[Height; 4]> {
-    Some([
-        Height::new(clubs)?,
-        Height::new(diamonds)?,
-        Height::new(hearts)?,
-        Height::new(spades)?,
-    ])
-}
-
-// The board with so many cards of C D H S home, empty cells and these columns.
-fn board<R: Rule>(home: [u8; 4], columns: [&[Card]; 8]) -> Option<Result<Board<R>, DeckFault>> {
-    let heights = heights(home)?;
-    Some(Board::from_parts(heights, [None; 8], columns.map(column)))
-}
-
-// Whether there is no such board, for this fault.
-fn has_fault(home: [u8; 4], columns: [&[Card]; 8], fault: DeckFault) -> bool {
-    matches!(board::<FreeCell>(home, columns), Some(Err(found)) if found == fault)
+// Why there is no such board where 12 cards of C and D each are home.
+fn fault_of(columns: [&[Card]; 8]) -> Option<DeckFault> {
+    board::<FreeCell>(12, 12, columns)?.err()
 }
 
 #[test]
 fn faults_of_decks(rt: HostRuntime) {
     let king = Card::new(Rank::King, Suit::C);
-    let kings = [king];
-    let [k, n]: [&[Card]; 2] = [&kings, &[]];
-    let home = [12, 12, 13, 13];
-    let repeated = DeckFault::RepeatedCard(king);
-    assert!(rt; has_fault(home, [n, k, n, n, n, n, k, n], repeated));
-    let missing = DeckFault::MissingCard(king);
-    assert!(rt; has_fault(home, [n, n, n, n, n, n, n, n], missing));
-}
-
-// The board on which QC lies on KC in column 1 and all else is home.
-fn two_clubs_left<R: Rule>() -> Result<Board<R>, Fail> {
-    let clubs = [
-        Card::new(Rank::King, Suit::C),
-        Card::new(Rank::Queen, Suit::C),
-    ];
-    let [c, n]: [&[Card]; 2] = [&clubs, &[]];
-    Ok(board::<R>([11, 13, 13, 13], [c, n, n, n, n, n, n, n]).ok_or("heights")??)
+    let [k, n]: [&[Card]; 2] = [&[king], &[]];
+    assert!(rt; fault_of([n, k, n, n, n, n, k, n]) == Some(DeckFault::RepeatedCard(king)));
+    assert!(rt; fault_of([n; 8]) == Some(DeckFault::MissingCard(king)));
 }
 
 // Whether the board has these parts, and no card in a cell.
-fn has_two_clubs<R: Rule>(board: &Board<R>) -> bool {
-    let clubs = [
-        Card::new(Rank::King, Suit::C),
-        Card::new(Rank::Queen, Suit::C),
-    ];
-    board.column(0) == clubs.as_slice()
+fn has_parts<R: Rule>(board: &Board<R>, clubs: &[Card]) -> bool {
+    for cell in 0..R::CELLS {
+        if board.cell(cell).is_some() {
+            return false;
+        }
+    }
+    board.column(0) == clubs
         && board.foundation(Suit::C).get() == 11
         && board.empty_cells() == R::CELLS
         && board.empty_columns() == 7
-        && (0..R::CELLS).all(|cell| board.cell(cell).is_none())
 }
 
 // Whether one club goes home, and then the other, and then no more.
-fn two_clubs_go<R: Rule>(board: &mut Board<R>) -> bool {
+fn two_clubs_go<R: Rule>(mut board: Board<R>) -> bool {
     let home = Move {
         from: Source::Column(0),
         to: Place::Home,
@@ -81,16 +61,22 @@ fn two_clubs_go<R: Rule>(board: &mut Board<R>) -> bool {
         && board.is_won()
 }
 
-fn assert_played<R: Rule>(rt: &impl Abort) -> Result<(), Fail> {
-    let mut board = two_clubs_left::<R>()?.copy();
-    assert!(rt; has_two_clubs(&board));
-    assert!(rt; two_clubs_go(&mut board));
-    Ok(())
+// Whether the board on which QC lies on KC in column 1, and all else is home, is made and won.
+fn is_played<R: Rule>() -> bool {
+    let clubs = [
+        Card::new(Rank::King, Suit::C),
+        Card::new(Rank::Queen, Suit::C),
+    ];
+    let [c, n]: [&[Card]; 2] = [&clubs, &[]];
+    match board::<R>(11, 13, [c, n, n, n, n, n, n, n]) {
+        Some(Ok(board)) => has_parts(&board, c) && two_clubs_go(board.copy()),
+        _ => false,
+    }
 }
 
 #[test]
-fn two_clubs_go_home(rt: HostRuntime) -> Result<(), Fail> {
-    assert_played::<FreeCell>(&rt)?;
-    assert_played::<BakersGame>(&rt)?;
-    assert_played::<EightOff>(&rt)
+fn two_clubs_go_home(rt: HostRuntime) {
+    assert!(rt; is_played::<FreeCell>());
+    assert!(rt; is_played::<BakersGame>());
+    assert!(rt; is_played::<EightOff>());
 }

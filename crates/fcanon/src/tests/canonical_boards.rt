@@ -1,10 +1,9 @@
 //! Canonical boards of published rows, their passages and symmetries.
 use fc_board::{BakersGame, EightOff, FreeCell, Rule};
-use fc_canon::{Passage, canon, same, symmetries};
+use fc_canon::{Canon, Passage, canon, same, symmetries};
 use fc_card::Suit::{self, C, D, H, S};
 use fc_card::{Order, Renaming};
 use fc_text::{read_board, write_board};
-use std::process::Abort;
 
 const ALL_HOME: &[u8] =
     b"Foundations: H-K C-K D-K S-K\nFreecells: - - - -\n:\n:\n:\n:\n:\n:\n:\n:\n";
@@ -18,50 +17,66 @@ const TWO_COLOURS: &[u8] =
 
 const EIGHT_OFF_SEVEN: &[u8] = b"Foundations: H-K C-K D-K S-J\nFreecells: QS - - - - - - KS\n";
 
-// Texts of FreeCell boards, with the canonical text of each and the passage to it: the images of C
+// Texts of boards of a game, with the canonical text of each and the passage to it: the images of C
 // D H S, the columns by their numbers from 1 on and the cells by their letters.
-static FREECELL: [(&[u8], &[u8], &[u8]); 9] = [
+static FREECELL: [(&[u8], &[u8], [&[u8]; 3]); 9] = [
     (
         b": JD KD 2S 4C 3S 6D 6S\n: 2D KC KS 5C TD 8S 9C\n: 9H 9S 9D TS 4S 8D 2H\n: JC 5S QD QH TH QS 6H\n: 5D AD JS 4H 8H 6C\n: 7H QC AS AC 2C 3D\n: 7C KH AH 4D JH 8C\n: 5H 3H 3C 7S 7D TC\n",
         b"Foundations: H-0 C-0 D-0 S-0\nFreecells: - - - -\n: 2C KD KH 5D TC 8H 9D\n: 5C AC JH 4S 8S 6D\n: 5S 3S 3D 7H 7C TD\n: 7D KS AS 4C JS 8D\n: 7S QD AH AD 2D 3C\n: 9S 9H 9C TH 4H 8C 2S\n: JC KC 2H 4D 3H 6C 6H\n: JD 5H QC QS TS QH 6S\n",
-        b"DCSH 25876314 abcd",
+        [b"DCSH", b"25876314", b"abcd"],
     ),
     (
         b"Foundations: H-K C-Q D-K S-K\nFreecells: - - - -\n:\n:\n: KC\n",
         b"Foundations: H-K C-K D-K S-Q\nFreecells: - - - -\n:\n:\n:\n:\n:\n:\n:\n: KS\n",
-        b"SDHC 12456783 abcd",
+        [b"SDHC", b"12456783", b"abcd"],
     ),
-    (ALL_HOME, ALL_HOME, b"CDHS 12345678 abcd"),
-    (CLUBS_AND_DIAMONDS, TWO_COLOURS, b"DSCH 34567812 abcd"),
+    (ALL_HOME, ALL_HOME, [b"CDHS", b"12345678", b"abcd"]),
+    (
+        CLUBS_AND_DIAMONDS,
+        TWO_COLOURS,
+        [b"DSCH", b"34567812", b"abcd"],
+    ),
     (
         CLUBS_AND_SPADES,
         b"Foundations: H-K C-Q D-K S-Q\nFreecells: - - - -\n:\n:\n:\n:\n:\n:\n: KC\n: KS\n",
-        b"CDHS 34567812 abcd",
+        [b"CDHS", b"34567812", b"abcd"],
     ),
     (
         b": 7D TD TH KD 4C 4S JD\n: AD 7S QC 5H QS TS KS\n: 5C QD 3H 9S 9C 2H KC\n: 3S AC 9D 3C 9H 5D 4H\n: 5S 6D 6S 8S 7C JC\n: 8C 8H 8D 7H 6H 6C\n: 2D AS 3D 4D 2C JH\n: AH KH TC JS 2S QH\n",
         b"Foundations: H-0 C-0 D-0 S-0\nFreecells: - - - -\n: 2C AD 3C 4C 2H JS\n: 3D AH 9C 3H 9S 5C 4S\n: 5D 6C 6D 8D 7H JH\n: 5H QC 3S 9D 9H 2S KH\n: 7C TC TS KC 4H 4D JC\n: 8H 8S 8C 7S 6S 6H\n: AC 7D QH 5S QD TD KD\n: AS KS TH JD 2D QS\n",
-        b"HCSD 74531628 abcd",
+        [b"HCSD", b"74531628", b"abcd"],
     ),
     (
         b"KC\nQC\n\nJC\nFound: H-K C-T D-K S-K\n",
         b"Foundations: H-K C-K D-K S-T\nFreecells: - - - -\n:\n:\n:\n:\n:\n: JS\n: KS\n: QS\n",
-        b"SDHC 35678412 abcd",
+        [b"SDHC", b"35678412", b"abcd"],
     ),
     (
         b": AC AD AH AS 2C 2D 2H 2S 3C 3D 3H 3S 4C 4D 4H 4S 5C 5D 5H 5S 6C 6D 6H 6S 7C 7D 7H 7S 8C 8D 8H 8S 9C 9D 9H 9S TC TD TH TS JC JD JH JS QC QD QH QS KC KD KH KS\n",
         b"Foundations: H-0 C-0 D-0 S-0\nFreecells: - - - -\n:\n:\n:\n:\n:\n:\n:\n: AC AD AH AS 2C 2D 2H 2S 3C 3D 3H 3S 4C 4D 4H 4S 5C 5D 5H 5S 6C 6D 6H 6S 7C 7D 7H 7S 8C 8D 8H 8S 9C 9D 9H 9S TC TD TH TS JC JD JH JS QC QD QH QS KC KD KH KS\n",
-        b"CDHS 23456781 abcd",
+        [b"CDHS", b"23456781", b"abcd"],
     ),
-    (TWO_COLOURS, TWO_COLOURS, b"CDHS 12345678 abcd"),
+    (TWO_COLOURS, TWO_COLOURS, [b"CDHS", b"12345678", b"abcd"]),
 ];
 
-// Texts of boards of Baker's Game whose canonical text is that of two colours, with the passages to
-// it.
-static BAKERS_GAME: [(&[u8], &[u8]); 2] = [
-    (CLUBS_AND_DIAMONDS, b"DSCH 34567812 abcd"),
-    (CLUBS_AND_SPADES, b"DCHS 34567812 abcd"),
+static BAKERS_GAME: [(&[u8], &[u8], [&[u8]; 3]); 2] = [
+    (
+        CLUBS_AND_DIAMONDS,
+        TWO_COLOURS,
+        [b"DSCH", b"34567812", b"abcd"],
+    ),
+    (
+        CLUBS_AND_SPADES,
+        TWO_COLOURS,
+        [b"DCHS", b"34567812", b"abcd"],
+    ),
 ];
+
+static EIGHT_OFF: [(&[u8], &[u8], [&[u8]; 3]); 1] = [(
+    EIGHT_OFF_SEVEN,
+    b"Foundations: H-J C-K D-K S-K\nFreecells: - - - - - - KH QH\n:\n:\n:\n:\n:\n:\n:\n:\n",
+    [b"CDSH", b"12345678", b"bcdefgka"],
+)];
 
 // The images of C D H S by their letters.
 fn letters(renaming: Renaming) -> [u8; 4] {
@@ -83,48 +98,35 @@ fn are_places(order: &Order, places: &[u8], letters: &[u8]) -> bool {
     places.len() == order.len()
 }
 
-// Whether the passage is written so, as `DCSH 25876314 abcd`.
-fn is_written<R: Rule>(passage: &Passage<R>, written: &[u8]) -> bool {
-    let (Some(renaming), Some(columns), Some(cells)) = (
-        written.get(..4),
-        written.get(5..13),
-        written.get(14..),
-    ) else {
-        return false;
-    };
-    renaming == letters(passage.renaming()).as_slice()
-        && are_places(passage.columns(), columns, b"12345678")
-        && are_places(passage.cells(), cells, b"abcdefgk")
+// Whether the canonical board and the passage to it are written so.
+fn is_written<R: Rule>(
+    found: &Canon<R>,
+    text: &[u8],
+    [images, columns, cells]: [&[u8]; 3],
+) -> bool {
+    found.text.as_slice() == text
+        && write_board(&found.board).as_slice() == text
+        && letters(found.passage.renaming()).as_slice() == images
+        && are_places(found.passage.columns(), columns, b"12345678")
+        && are_places(found.passage.cells(), cells, b"abcdefgk")
 }
 
-// Whether the board of the text has this canonical text, by this passage.
-fn is_canonical<R: Rule>(text: &[u8], canonical: &[u8], passage: &[u8]) -> bool {
-    match read_board::<R>(text) {
-        Ok(board) => {
-            let found = canon(&board);
-            found.text.as_slice() == canonical
-                && write_board(&found.board).as_slice() == canonical
-                && is_written(&found.passage, passage)
+// Whether the board of each text has its canonical text, by its passage.
+fn are_canonical<R: Rule>(rows: &[(&[u8], &[u8], [&[u8]; 3])]) -> bool {
+    for &(text, canonical, passage) in rows {
+        match read_board::<R>(text) {
+            Ok(board) if is_written(&canon(&board), canonical, passage) => (),
+            _ => return false,
         }
-        Err(_) => false,
     }
+    true
 }
 
 #[test]
 fn canonical_boards(rt: HostRuntime) {
-    for &(text, canonical, passage) in &FREECELL {
-        assert!(rt; is_canonical::<FreeCell>(text, canonical, passage));
-    }
-    for &(text, passage) in &BAKERS_GAME {
-        assert!(rt; is_canonical::<BakersGame>(text, TWO_COLOURS, passage));
-    }
-    assert!(rt;
-        is_canonical::<EightOff>(
-            EIGHT_OFF_SEVEN,
-            b"Foundations: H-J C-K D-K S-K\nFreecells: - - - - - - KH QH\n:\n:\n:\n:\n:\n:\n:\n:\n",
-            b"CDSH 12345678 bcdefgka",
-        )
-    );
+    assert!(rt; are_canonical::<FreeCell>(&FREECELL));
+    assert!(rt; are_canonical::<BakersGame>(&BAKERS_GAME));
+    assert!(rt; are_canonical::<EightOff>(&EIGHT_OFF));
 }
 
 // Whether the board of the text has these symmetries, by their words.
@@ -158,13 +160,16 @@ fn symmetries_of_two_kings(rt: HostRuntime) {
     );
 }
 
-// Whether the boards of the two texts are equivalent, by a passage that carries the one onto the
-// other.
+// Whether the passage between the equivalent boards of the two texts carries the one onto the other;
+// `None` where they are not equivalent.
 fn are_same<R: Rule>(text: &[u8], other: &[u8]) -> Option<bool> {
-    let board = read_board::<R>(text).ok()?;
-    let other = read_board::<R>(other).ok()?;
-    let passage = same(&board, &other)?;
-    Some(write_board(&passage.carry(&board)) == write_board(&other))
+    match (read_board::<R>(text), read_board::<R>(other)) {
+        (Ok(board), Ok(other)) => {
+            let image = same(&board, &other)?.carry(&board);
+            Some(write_board(&image) == write_board(&other))
+        }
+        _ => Some(false),
+    }
 }
 
 #[test]
@@ -173,6 +178,10 @@ fn two_kings_in_two_games(rt: HostRuntime) {
     assert!(rt; are_same::<BakersGame>(CLUBS_AND_DIAMONDS, CLUBS_AND_SPADES) == Some(true));
     assert!(rt; are_same::<FreeCell>(CLUBS_AND_DIAMONDS, TWO_COLOURS) == Some(true));
 }
+
+static EIGHT: [u8; 8] = [7, 6, 5, 4, 3, 2, 1, 0];
+
+static FOUR: [u8; 4] = [1, 0, 3, 2];
 
 fn is_passage<R: Rule>(images: [Suit; 4], columns: &[u8], cells: &[u8]) -> bool {
     match (
@@ -189,11 +198,10 @@ fn is_passage<R: Rule>(images: [Suit; 4], columns: &[u8], cells: &[u8]) -> bool 
 
 #[test]
 fn parts_of_passages(rt: HostRuntime) {
-    let eight = [7, 6, 5, 4, 3, 2, 1, 0];
-    assert!(rt; is_passage::<FreeCell>([D, C, S, H], &eight, &[1, 0, 3, 2]));
-    assert!(rt; !is_passage::<FreeCell>([C, D, S, H], &eight, &[1, 0, 3, 2]));
-    assert!(rt; is_passage::<BakersGame>([C, D, S, H], &eight, &[1, 0, 3, 2]));
-    assert!(rt; !is_passage::<FreeCell>([D, C, S, H], &eight[4..], &[1, 0, 3, 2]));
-    assert!(rt; !is_passage::<FreeCell>([D, C, S, H], &eight, &eight));
-    assert!(rt; is_passage::<EightOff>([D, C, S, H], &eight, &eight));
+    assert!(rt; is_passage::<FreeCell>([D, C, S, H], &EIGHT, &FOUR));
+    assert!(rt; !is_passage::<FreeCell>([C, D, S, H], &EIGHT, &FOUR));
+    assert!(rt; is_passage::<BakersGame>([C, D, S, H], &EIGHT, &FOUR));
+    assert!(rt; !is_passage::<FreeCell>([D, C, S, H], &EIGHT[4..], &FOUR));
+    assert!(rt; !is_passage::<FreeCell>([D, C, S, H], &EIGHT, &EIGHT));
+    assert!(rt; is_passage::<EightOff>([D, C, S, H], &EIGHT, &EIGHT));
 }

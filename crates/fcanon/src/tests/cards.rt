@@ -1,23 +1,21 @@
 //! Cards, renamings and orders.
-ghost use Rattle.std.specs.Prelude.{◌≤◌};
+ghost use Rattle.std.specs.Prelude.{◌<◌, ◌≤◌, length};
 
 use arrayvec::ArrayVec;
-use fc_card::{Acts, Card, Group, Order, Rank, Renaming, Suit, rename_lanes};
+use fc_card::Suit::{self, C, D, H, S};
+use fc_card::{Acts, Card, Group, Order, Rank, Renaming, rename_lanes};
 use std::alloc::{AllocError, Global};
-use std::test::Fail;
+
+// Whether the card has this number, and these letters, the colour aside.
+fn is_card(card: Card, number: u8, rank: u8, suit: u8) -> bool {
+    card.number() == number && card.rank().letter() == rank && card.suit().letter() == suit
+}
 
 #[test]
 fn cards(rt: HostRuntime) {
-    let king = Card::new(Rank::King, Suit::D);
+    let king = Card::new(Rank::King, D);
     assert!(rt; Card::from_number(49) == Some(king));
-    assert!(rt; king.number() == 49);
-    assert!(rt; king.rank().letter() == b'K');
-    assert!(rt; king.suit().letter() == b'D');
-    assert!(rt; king.is_red());
-}
-
-fn renaming(images: [Suit; 4]) -> Result<Renaming, Fail> {
-    Ok(Renaming::new(images).ok_or("these are not four suits")?)
+    assert!(rt; is_card(king, 49, b'K', b'D') && king.is_red());
 }
 
 // A group through its bound.
@@ -34,18 +32,23 @@ fn image<T: Drop, A: Acts<T>>(member: &A, item: &T) -> T
 
 // The print of the first renaming and then the second, and of KD by the inverse of the second.
 fn print_of(alloc: Global, first: &Renaming, second: &Renaming) -> Result<String, AllocError> {
-    let king = second.inverse().act(&Card::new(Rank::King, Suit::D));
+    let king = second.inverse().act(&Card::new(Rank::King, D));
     format!(in alloc; "{} {king}", first.then(second))
 }
 
+// Whether the first renaming is its own inverse, the second makes C of D, and both are printed so.
+fn are_renamings(alloc: Global, first: [Suit; 4], second: [Suit; 4], print: &str) -> bool {
+    let (Some(first), Some(second)) = (Renaming::new(first), Renaming::new(second)) else {
+        return false;
+    };
+    first.then(&first) == identity(&second)
+        && image(&second, &D) == C
+        && matches!(print_of(alloc, &first, &second), Ok(text) if text.as_str() == print)
+}
+
 #[test]
-fn renamings(rt: HostRuntime) -> Result<(), Fail> {
-    let dcsh = renaming([Suit::D, Suit::C, Suit::S, Suit::H])?;
-    let hcsd = renaming([Suit::H, Suit::C, Suit::S, Suit::D])?;
-    assert!(rt; dcsh.then(&dcsh) == identity(&hcsd));
-    assert!(rt; image(&hcsd, &Suit::D) == Suit::C);
-    assert!(rt; print_of(rt.alloc(), &dcsh, &hcsd)?.as_str() == "CHDS KS");
-    Ok(())
+fn renamings(rt: HostRuntime) {
+    assert!(rt; are_renamings(rt.alloc(), [D, C, S, H], [H, C, S, D], "CHDS KS"));
 }
 
 // Whether the order makes `yzx` of the line.
@@ -53,14 +56,19 @@ fn is_turned(line: &ArrayVec<u8, 8>, turned: &Order) -> bool {
     (line.len(), turned.len()) == (3, 3) && image(turned, line).as_slice() == b"yzx".as_slice()
 }
 
+// Whether the order takes `xyz` to `yzx`, and back when it is taken twice more.
+fn is_turn(turned: &Order) -> bool
+    requires { 1 < length turned.now }
+{
+    turned.at(1) == 2
+        && turned.then(turned) == turned.inverse()
+        && identity(turned).len() == 3
+        && matches!(ArrayVec::try_from(b"xyz".as_slice()), Ok(line) if is_turned(&line, turned))
+}
+
 #[test]
-fn orders(rt: HostRuntime) -> Result<(), Fail> {
-    let turned = Order::new(&[1, 2, 0]).ok_or("three places")?;
-    assert!(rt; turned.at(1) == 2);
-    assert!(rt; turned.then(&turned) == turned.inverse());
-    assert!(rt; identity(&turned).len() == 3);
-    assert!(rt; is_turned(&ArrayVec::try_from(b"xyz".as_slice())?, &turned));
-    Ok(())
+fn orders(rt: HostRuntime) {
+    assert!(rt; matches!(Order::new(&[1, 2, 0]), Some(turned) if is_turn(&turned)));
 }
 
 /// So many of one code, renamed at once, and then the same code as it was, 80 in all.
@@ -82,14 +90,20 @@ fn is_renamed(renaming: &Renaming, card: Card, length: usize) -> bool
     lanes(renaming, card.code(), length) == expected
 }
 
-#[test]
-fn codes_are_renamed_at_every_length(rt: HostRuntime) -> Result<(), Fail> {
-    let dcsh = renaming([Suit::D, Suit::C, Suit::S, Suit::H])?;
+// Whether codes of each card are renamed at every length.
+fn are_renamed(renaming: &Renaming) -> bool {
     for number in 0..52 {
-        let card = Card::from_number(number).ok_or("this is no card")?;
         for length in 0..81 {
-            assert!(rt; is_renamed(&dcsh, card, length));
+            match Card::from_number(number) {
+                Some(card) if is_renamed(renaming, card, length) => (),
+                _ => return false,
+            }
         }
     }
-    Ok(())
+    true
+}
+
+#[test]
+fn codes_are_renamed_at_every_length(rt: HostRuntime) {
+    assert!(rt; matches!(Renaming::new([D, C, S, H]), Some(dcsh) if are_renamed(&dcsh)));
 }

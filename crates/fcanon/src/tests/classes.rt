@@ -1,7 +1,9 @@
 //! Classes of boards by a second opinion: boards that were drawn and played are carried by drawn
 //! passages, and must be found to be one.
 use arrayvec::ArrayVec;
-use fc_board::{BakersGame, Board, EightOff, FreeCell, Height, Move, Place, Rule, Source};
+use fc_board::{
+    BakersGame, Board, EightOff, FreeCell, Height, Move, Place, Rule, Source, no_cards,
+};
 use fc_canon::{Passage, canon, same};
 use fc_card::{Card, Group, Order};
 use fc_text::write_board;
@@ -55,7 +57,7 @@ fn deck(draws: &mut Draws) -> ArrayVec<Card, 52> {
 
 // A whole deck dealt on eight columns, card by card.
 fn dealt<R: Rule>(draws: &mut Draws) -> Option<Board<R>> {
-    let mut columns = [""; 8].map(|_| ArrayVec::new());
+    let mut columns = no_cards();
     for (place, card) in deck(draws).as_slice().iter().enumerate() {
         columns[place % 8].try_push(*card).ok()?;
     }
@@ -124,6 +126,11 @@ fn is_one_with_all<R: Rule>(board: &Board<R>, draws: &mut Draws) -> Option<bool>
     Some(true)
 }
 
+// Whether the board is one with all boards of its class, and with none of another deal.
+fn is_kept_apart<R: Rule>(board: &Board<R>, draws: &mut Draws) -> Option<bool> {
+    Some(is_one_with_all(board, draws)? && same(board, &dealt(draws)?).is_none())
+}
+
 // Whether seven deals, each also after 20 and after 60 moves, are one with all boards of their
 // classes and with none of another deal.
 fn are_kept_apart<R: Rule>(draws: &mut Draws) -> Option<bool> {
@@ -131,7 +138,7 @@ fn are_kept_apart<R: Rule>(draws: &mut Draws) -> Option<bool> {
         let mut board = dealt::<R>(draws)?;
         for moves in [0, 20, 40] {
             play_some(&mut board, draws, moves);
-            if !is_one_with_all(&board, draws)? || same(&board, &dealt(draws)?).is_some() {
+            if !is_kept_apart(&board, draws)? {
                 return Some(false);
             }
         }

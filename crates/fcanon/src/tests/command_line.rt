@@ -33,8 +33,20 @@ fn read_line(alloc: Global, line: &str) -> Result<Option<Request>, WordsFault> {
     read_words(alloc, words.as_slice())
 }
 
-fn is_read_as(alloc: Global, line: &str, request: &Request) -> bool {
-    matches!(read_line(alloc, line), Ok(Some(answer)) if answer == *request)
+fn is_read_as(
+    alloc: Global,
+    line: &str,
+    task: Task,
+    variant: Variant,
+    number: Option<u32>,
+) -> bool {
+    let request = Request {
+        task,
+        variant,
+        number,
+        options: PLAIN,
+    };
+    matches!(read_line(alloc, line), Ok(Some(answer)) if answer == request)
 }
 
 static REQUESTS: [(&str, Task, Variant); 12] = [
@@ -56,13 +68,10 @@ static REQUESTS: [(&str, Task, Variant); 12] = [
 #[test]
 fn requests(rt: HostRuntime) {
     for &(line, task, variant) in &REQUESTS {
-        let request = Request {
-            task,
-            variant,
-            number: None,
-            options: PLAIN,
-        };
-        assert!(rt; is_read_as(rt.alloc(), line, &request), "of {line}");
+        assert!(rt;
+            is_read_as(rt.alloc(), line, task, variant, None),
+            "of {line}"
+        );
     }
 }
 
@@ -80,13 +89,10 @@ static DEALS: [(&str, Variant, u32); 8] = [
 #[test]
 fn deals(rt: HostRuntime) {
     for &(line, variant, number) in &DEALS {
-        let request = Request {
-            task: Task::Deal,
-            variant,
-            number: Some(number),
-            options: PLAIN,
-        };
-        assert!(rt; is_read_as(rt.alloc(), line, &request), "of {line}");
+        assert!(rt;
+            is_read_as(rt.alloc(), line, Task::Deal, variant, Some(number)),
+            "of {line}"
+        );
     }
 }
 

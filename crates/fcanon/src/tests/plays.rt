@@ -5,9 +5,8 @@ ghost use Rattle.{fc_board.specs.Moves.{Fits}, std.specs.Prelude.{All, IsTrue}};
 
 use fc_board::{BakersGame, Board, EightOff, FreeCell, Move, PlayFault, Rule, StepFault};
 use fc_deal::{Numbered, deal_board};
-use fc_text::{MovesFault, read_board, read_moves};
+use fc_text::{read_board, read_moves};
 use std::alloc::Global;
-use std::process::Abort;
 use std::test::Fail;
 
 mod carried;
@@ -99,7 +98,8 @@ fn all_fit<R: Rule>(moves: &[Move]) -> bool
     moves.iter().all(|mv| mv.fits::<R>())
 }
 
-// The list played on the board: whether the board is won then, or which move is refused.
+// The list played on the board: whether the board is won then, or which move is refused. `None` where
+// a move does not fit the game.
 fn play_list<R: Rule>(mut board: Board<R>, moves: &[Move]) -> Option<Result<bool, PlayFault>> {
     if !all_fit::<R>(moves) {
         return None;
@@ -111,16 +111,12 @@ fn play_list<R: Rule>(mut board: Board<R>, moves: &[Move]) -> Option<Result<bool
 }
 
 // The moves of a list, of which the one at this index and the next one change places.
-fn with_exchange<R: Rule>(
-    alloc: Global,
-    list: &[u8],
-    index: usize,
-) -> Result<Vec<Move>, MovesFault> {
-    let mut moves = read_moves::<R>(alloc, list)?;
+fn with_exchange<R: Rule>(alloc: Global, list: &[u8], index: usize) -> Option<Vec<Move>> {
+    let mut moves = read_moves::<R>(alloc, list).ok()?;
     if index < moves.len() && index + 1 < moves.len() {
         moves.swap(index, index + 1);
     }
-    Ok(moves)
+    Some(moves)
 }
 
 // What comes of such a list on the board.
@@ -129,51 +125,48 @@ fn outcome_of<R: Rule>(
     board: &Board<R>,
     list: &[u8],
     index: usize,
-) -> Result<Option<Result<bool, PlayFault>>, MovesFault> {
+) -> Option<Result<bool, PlayFault>> {
     let moves = with_exchange::<R>(alloc, list, index)?;
-    Ok(play_list(board.copy(), moves.as_slice()))
+    play_list(board.copy(), moves.as_slice())
 }
 
-// The list wins the board, and is refused so where two of its moves change places: the one that is
-// refused and the next one.
-fn assert_solution<R: Rule>(
-    rt: &impl Abort,
+// Whether the list wins the board, and is refused so where two of its moves change places: the one
+// that is refused and the next one.
+fn is_solved<R: Rule>(
     alloc: Global,
     board: &Board<R>,
     list: &[u8],
-    fault: PlayFault,
-) -> Result<(), Fail> {
-    assert!(rt; outcome_of(alloc, board, list, list.len())? == Some(Ok(true)));
-    assert!(rt; outcome_of(alloc, board, list, fault.index)? == Some(Err(fault)));
-    Ok(())
+    index: usize,
+    fault: StepFault,
+) -> bool {
+    outcome_of(alloc, board, list, list.len()) == Some(Ok(true))
+        && outcome_of(alloc, board, list, index) == Some(Err(PlayFault { index, fault }))
+}
+
+// The same of each deal and its list.
+fn are_solved<R: Numbered>(alloc: Global, deals: &[(u32, &[u8], usize, StepFault)]) -> bool {
+    for &(number, list, index, fault) in deals {
+        match deal_board::<R>(number) {
+            Ok(board) if is_solved(alloc, &board, list, index, fault) => (),
+            _ => return false,
+        }
+    }
+    true
 }
 
 #[test]
-fn solutions_of_freecell(rt: HostRuntime) -> Result<(), Fail> {
-    for &(number, list, index, fault) in &FREECELL {
-        let board = deal_board::<FreeCell>(number)?;
-        let refused = PlayFault { index, fault };
-        assert_solution(&rt, rt.alloc(), &board, list, refused)?;
-    }
-    Ok(())
+fn solutions_of_freecell(rt: HostRuntime) {
+    assert!(rt; are_solved::<FreeCell>(rt.alloc(), &FREECELL));
 }
 
 #[test]
-fn solutions_of_bakers_game(rt: HostRuntime) -> Result<(), Fail> {
-    for &(number, list, index, fault) in &BAKERS_GAME {
-        let board = deal_board::<BakersGame>(number)?;
-        let refused = PlayFault { index, fault };
-        assert_solution(&rt, rt.alloc(), &board, list, refused)?;
-    }
-    Ok(())
+fn solutions_of_bakers_game(rt: HostRuntime) {
+    assert!(rt; are_solved::<BakersGame>(rt.alloc(), &BAKERS_GAME));
 }
 
 #[test]
 fn solution_of_eight_off(rt: HostRuntime) -> Result<(), Fail> {
     let board = read_board::<EightOff>(EIGHT_OFF_BOARD)?;
-    let refused = PlayFault {
-        index: 1,
-        fault: StepFault::NotBuilding,
-    };
-    assert_solution(&rt, rt.alloc(), &board, EIGHT_OFF, refused)
+    assert!(rt; is_solved(rt.alloc(), &board, EIGHT_OFF, 1, StepFault::NotBuilding));
+    Ok(())
 }

@@ -1,31 +1,24 @@
+//! What each game's rule says, and relabelled decks.
 ghost use Rattle.std.specs.Prelude.{◌<◌};
 
 use fc_board::{BakersGame, EightOff, FreeCell, Rule, relabelling};
-use fc_card::Suit::{C, D, H, S};
+use fc_card::Suit::{self, C, D, H, S};
 use fc_card::{Acts, Card, Rank, Renaming};
-use std::test::Fail;
 
-// Each call through its bound.
-fn goes<R: Rule>(upper: Card, lower: Card) -> (bool, bool) {
-    (R::builds(upper, lower), R::fills_empty(upper))
-}
-
-fn second_renaming<R: Rule>() -> Renaming
+// Whether QH takes KS, and fills an empty column, and the second renaming has this image of the
+// suit. Each call goes through its bound.
+fn is_rule<R: Rule>(goes: (bool, bool), suit: Suit, image: Suit) -> bool
     requires { 1 < R.RENAMINGS }
 {
-    R::renaming(1)
+    let (queen, king) = (Card::new(Rank::Queen, H), Card::new(Rank::King, S));
+    (R::builds(queen, king), R::fills_empty(queen)) == goes && R::renaming(1).apply(suit) == image
 }
 
 #[test]
 fn rules(rt: HostRuntime) {
-    let queen = Card::new(Rank::Queen, H);
-    let king = Card::new(Rank::King, S);
-    assert!(rt; goes::<FreeCell>(queen, king) == (true, true));
-    assert!(rt; goes::<BakersGame>(queen, king) == (false, true));
-    assert!(rt; goes::<EightOff>(queen, king) == (false, false));
-    assert!(rt; second_renaming::<FreeCell>().apply(D) == H);
-    assert!(rt; second_renaming::<BakersGame>().apply(H) == S);
-    assert!(rt; second_renaming::<EightOff>().apply(H) == S);
+    assert!(rt; is_rule::<FreeCell>((true, true), D, H));
+    assert!(rt; is_rule::<BakersGame>((false, true), H, S));
+    assert!(rt; is_rule::<EightOff>((false, false), H, S));
 }
 
 // The table of the deck under the renaming.
@@ -39,16 +32,21 @@ fn table(renaming: Renaming) -> [Card; 52] {
     table
 }
 
+// Whether the table under the renaming with these images is found to be that, or none of the game.
+fn is_found<R: Rule>(images: [Suit; 4], is_kept: bool) -> bool {
+    match Renaming::new(images) {
+        Some(own) => relabelling::<R>(&table(own)) == if is_kept { Some(own) } else { None },
+        None => false,
+    }
+}
+
 #[test]
-fn relabellings(rt: HostRuntime) -> Result<(), Fail> {
-    let dcsh = Renaming::new([D, C, S, H]).ok_or("four suits")?;
-    let cdsh = Renaming::new([C, D, S, H]).ok_or("four suits")?;
+fn relabellings(rt: HostRuntime) {
+    assert!(rt; is_found::<FreeCell>([D, C, S, H], true));
+    assert!(rt; is_found::<FreeCell>([C, D, S, H], false));
+    assert!(rt; is_found::<BakersGame>([C, D, S, H], true));
     let mut queens = table(Renaming::default());
     (queens[44], queens[47]) = (Card::new(Rank::Queen, S), Card::new(Rank::Queen, C));
-    assert!(rt; relabelling::<FreeCell>(&table(dcsh)) == Some(dcsh));
-    assert!(rt; relabelling::<FreeCell>(&table(cdsh)).is_none());
-    assert!(rt; relabelling::<BakersGame>(&table(cdsh)) == Some(cdsh));
     assert!(rt; relabelling::<FreeCell>(&queens).is_none());
     assert!(rt; relabelling::<EightOff>(&[Card::default(); 52]).is_none());
-    Ok(())
 }

@@ -1,7 +1,10 @@
 //! Runs over streams that hand over some bytes a call, or fail at a call.
+ghost use Rattle.fc_collect.specs.Streams.{HasRoom};
+
 use fc_collect::{
-    CountFormat, Counted, Limits, RunConfig, RunFault, RunKind, Seed, Summary, Variant, run_canon,
-    run_check, run_expand, run_group, run_share, run_show, run_table, run_unique, run_within,
+    CountFormat, Counted, Format, Limits, RunConfig, RunFault, RunKind, Seed, Summary, Variant,
+    run_canon, run_check, run_expand, run_group, run_share, run_show, run_table, run_unique,
+    run_within,
 };
 use std::alloc::{AllocError, Global};
 use std::io::{self, ErrorKind, Read, Write};
@@ -32,8 +35,8 @@ impl Read for Pieces<'_> {
 /// after so many writes. It counts flushes, and knows how many bytes the last one that succeeded
 /// sent on.
 #[derive(Drop)]
-struct Taking {
-    taken: Vec<u8>,
+pub(crate) struct Taking {
+    pub(crate) taken: Vec<u8>,
     flushes: usize,
     sent_on: usize,
     most: usize,
@@ -66,9 +69,9 @@ impl Write for Taking {
     }
 }
 
-const NEVER: usize = usize::MAX;
+pub(crate) const NEVER: usize = usize::MAX;
 
-fn pieces_of(bytes: &[u8], most: usize, fails_at: usize) -> Pieces<'_> {
+pub(crate) fn pieces_of(bytes: &[u8], most: usize, fails_at: usize) -> Pieces<'_> {
     Pieces {
         bytes,
         most,
@@ -77,7 +80,12 @@ fn pieces_of(bytes: &[u8], most: usize, fails_at: usize) -> Pieces<'_> {
     }
 }
 
-fn writer_taking(alloc: Global, most: usize, fails_at: usize, takes_nothing: bool) -> Taking {
+pub(crate) fn writer_taking(
+    alloc: Global,
+    most: usize,
+    fails_at: usize,
+    takes_nothing: bool,
+) -> Taking {
     Taking {
         taken: Vec::new(alloc),
         flushes: 0,
@@ -89,19 +97,6 @@ fn writer_taking(alloc: Global, most: usize, fails_at: usize, takes_nothing: boo
     }
 }
 
-#[derive(Clone, Copy)]
-enum Command {
-    Show,
-    Canon,
-    Check,
-    Expand,
-    Group,
-    Share,
-    Unique,
-    Table,
-    Other(RunKind),
-}
-
 /// What came of a run: its result, the reader's counts, the writer's, and the writer itself.
 #[derive(Drop)]
 struct Ran {
@@ -111,29 +106,57 @@ struct Ran {
     writer: Taking,
 }
 
-fn run(alloc: Global, command: Command, reader: Pieces<'_>, writer: Taking) -> Ran {
-    let mut input = Counted::new(reader);
-    let mut output = Counted::new(writer);
+// What comes of a run by the call of its own command, or by that of all.
+fn result_of(
+    alloc: Global,
+    kind: RunKind,
+    input: &mut Counted<Pieces<'_>>,
+    output: &mut Counted<Taking>,
+) -> Result<Summary, RunFault>
+    requires input_low { HasRoom input.old }
+    requires output_low { HasRoom output.old }
+{
     let variant = Variant::FreeCell;
-    let result = match command {
-        Command::Show => run_show(alloc, variant, &mut input, &mut output),
-        Command::Canon => run_canon(alloc, variant, &mut input, &mut output),
-        Command::Check => run_check(alloc, variant, &mut input, &mut output),
-        Command::Expand => run_expand(alloc, variant, &mut input, &mut output),
-        Command::Group => run_group(alloc, variant, &mut input, &mut output),
-        Command::Share => run_share(alloc, variant, &mut input, &mut output),
-        Command::Unique => run_unique(alloc, variant, &mut input, &mut output),
-        Command::Table => run_table(alloc, variant, &mut input, &mut output),
-        Command::Other(kind) => {
+    match kind {
+        RunKind::Show => run_show(alloc, variant, input, output),
+        RunKind::Canon => run_canon(alloc, variant, input, output),
+        RunKind::Check => run_check(alloc, variant, input, output),
+        RunKind::Expand => run_expand(alloc, variant, input, output),
+        _ => other_of(alloc, kind, input, output),
+    }
+}
+
+fn other_of(
+    alloc: Global,
+    kind: RunKind,
+    input: &mut Counted<Pieces<'_>>,
+    output: &mut Counted<Taking>,
+) -> Result<Summary, RunFault>
+    requires input_low { HasRoom input.old }
+    requires output_low { HasRoom output.old }
+{
+    let variant = Variant::FreeCell;
+    match kind {
+        RunKind::Group => run_group(alloc, variant, input, output),
+        RunKind::Share => run_share(alloc, variant, input, output),
+        RunKind::Unique => run_unique(alloc, variant, input, output),
+        RunKind::Table(Format::Lines) => run_table(alloc, variant, input, output),
+        _ => {
             let config = RunConfig {
                 alloc,
                 variant,
                 limits: Limits::STANDARD,
                 seed: Seed::KNOWN,
             };
-            run_within(config, kind, &mut input, &mut output)
+            run_within(config, kind, input, output)
         }
-    };
+    }
+}
+
+fn run(alloc: Global, kind: RunKind, reader: Pieces<'_>, writer: Taking) -> Ran {
+    let mut input = Counted::new(reader);
+    let mut output = Counted::new(writer);
+    let result = result_of(alloc, kind, &mut input, &mut output);
     Ran {
         result,
         reads: (input.failures(), input.fills(), input.ends()),
@@ -142,13 +165,18 @@ fn run(alloc: Global, command: Command, reader: Pieces<'_>, writer: Taking) -> R
     }
 }
 
+// A run that is given and takes at most so many bytes a call, and whose read with this number fails.
+fn run_reading(alloc: Global, kind: RunKind, text: &[u8], most: usize, fails_at: usize) -> Ran {
+    let writer = writer_taking(alloc, most, NEVER, false);
+    run(alloc, kind, pieces_of(text, most, fails_at), writer)
+}
+
 const GROUP_OF_TWO: &[u8] = b"@ freecell one
 Foundations: H-K C-K D-Q S-K
 : KD
 @ freecell two
 Foundations: H-K C-Q D-K S-K
-:
-:
+:\n:
 : KC
 > 3h
 ";
@@ -174,62 +202,41 @@ Foundations: H-K C-K D-K S-K
 >>
 ";
 
-// What is printed for one of them by a command, and how many records are refused.
-static RUNS: [(Command, &[u8], &[u8], usize); 18] = [
+// A command, a collection, what is printed for it, and how many records are refused.
+type Row<'a> = (RunKind, &'a [u8], &'a [u8], usize);
+
+static RUNS: [Row<'_>; 18] = [
     (
-        Command::Show,
+        RunKind::Show,
         GROUP_OF_TWO,
         b"@ freecell one
 Foundations: H-K C-K D-Q S-K
 Freecells: - - - -
 : KD
-:
-:
-:
-:
-:
-:
-:
+:\n:\n:\n:\n:\n:\n:
 @ freecell two
 Foundations: H-K C-Q D-K S-K
 Freecells: - - - -
-:
-:
+:\n:
 : KC
-:
-:
-:
-:
-:
+:\n:\n:\n:\n:
 > 3h
 ",
         0,
     ),
     (
-        Command::Canon,
+        RunKind::Canon,
         GROUP_OF_TWO,
         b"@ freecell one
 Foundations: H-K C-K D-K S-Q
 Freecells: - - - -
-:
-:
-:
-:
-:
-:
-:
+:\n:\n:\n:\n:\n:\n:
 : KS
 # renaming DSCH columns 23456781 cells abcd
 @ freecell two
 Foundations: H-K C-K D-K S-Q
 Freecells: - - - -
-:
-:
-:
-:
-:
-:
-:
+:\n:\n:\n:\n:\n:\n:
 : KS
 # renaming SDHC columns 12456783 cells abcd
 > 8h
@@ -237,7 +244,7 @@ Freecells: - - - -
         0,
     ),
     (
-        Command::Check,
+        RunKind::Check,
         GROUP_OF_TWO,
         b"one no list
 two 1 wins 1
@@ -245,48 +252,34 @@ two 1 wins 1
         0,
     ),
     (
-        Command::Show,
+        RunKind::Show,
         HEADERS_AND_STRAYS,
         b"# refused 1 at 31: stray line
 # refused 2 at 38: bad header
 @ freecell nnnnnnnnnnnnnnnnnnnnnnnnnnnnnnnnnnnnnnnnnnnnnnnnnnnnnnnnnnnnnnnn
 Foundations: H-K C-K D-K S-K
 Freecells: - - - -
-:
-:
-:
-:
-:
-:
-:
-:
+:\n:\n:\n:\n:\n:\n:\n:
 # refused 4 at 168: bad header
 ",
         3,
     ),
     (
-        Command::Canon,
+        RunKind::Canon,
         HEADERS_AND_STRAYS,
         b"# refused 1 at 31: stray line
 # refused 2 at 38: bad header
 @ freecell nnnnnnnnnnnnnnnnnnnnnnnnnnnnnnnnnnnnnnnnnnnnnnnnnnnnnnnnnnnnnnnn
 Foundations: H-K C-K D-K S-K
 Freecells: - - - -
-:
-:
-:
-:
-:
-:
-:
-:
+:\n:\n:\n:\n:\n:\n:\n:
 # renaming CDHS columns 12345678 cells abcd
 # refused 4 at 168: bad header
 ",
         3,
     ),
     (
-        Command::Check,
+        RunKind::Check,
         HEADERS_AND_STRAYS,
         b"# refused 1 at 31: stray line
 # refused 2 at 38: bad header
@@ -296,25 +289,19 @@ nnnnnnnnnnnnnnnnnnnnnnnnnnnnnnnnnnnnnnnnnnnnnnnnnnnnnnnnnnnnnnnn no list
         3,
     ),
     (
-        Command::Group,
+        RunKind::Group,
         GROUP_OF_TWO,
         b"@ freecell one
 # members 2: one two
 Foundations: H-K C-K D-K S-Q
 Freecells: - - - -
-:
-:
-:
-:
-:
-:
-:
+:\n:\n:\n:\n:\n:\n:
 : KS
 ",
         0,
     ),
     (
-        Command::Group,
+        RunKind::Group,
         HEADERS_AND_STRAYS,
         b"# refused 1 at 31: stray line
 # refused 2 at 38: bad header
@@ -323,49 +310,31 @@ Freecells: - - - -
 # members 1: nnnnnnnnnnnnnnnnnnnnnnnnnnnnnnnnnnnnnnnnnnnnnnnnnnnnnnnnnnnnnnnn
 Foundations: H-K C-K D-K S-K
 Freecells: - - - -
-:
-:
-:
-:
-:
-:
-:
-:
+:\n:\n:\n:\n:\n:\n:\n:
 ",
         3,
     ),
     (
-        Command::Share,
+        RunKind::Share,
         GROUP_OF_TWO,
         b"@ freecell one
 Foundations: H-K C-K D-Q S-K
 Freecells: - - - -
 : KD
-:
-:
-:
-:
-:
-:
-:
+:\n:\n:\n:\n:\n:\n:
 > 1h
 @ freecell two
 Foundations: H-K C-Q D-K S-K
 Freecells: - - - -
-:
-:
+:\n:
 : KC
-:
-:
-:
-:
-:
+:\n:\n:\n:\n:
 > 3h
 ",
         0,
     ),
     (
-        Command::Share,
+        RunKind::Share,
         HEADERS_AND_STRAYS,
         b"# refused 1 at 31: stray line
 # refused 2 at 38: bad header
@@ -373,85 +342,53 @@ Freecells: - - - -
 @ freecell nnnnnnnnnnnnnnnnnnnnnnnnnnnnnnnnnnnnnnnnnnnnnnnnnnnnnnnnnnnnnnnn
 Foundations: H-K C-K D-K S-K
 Freecells: - - - -
-:
-:
-:
-:
-:
-:
-:
-:
+:\n:\n:\n:\n:\n:\n:\n:
 ",
         3,
     ),
     (
-        Command::Expand,
+        RunKind::Expand,
         LISTS_OF_RUNS,
         b"Foundations: H-K C-T D-T S-K
 Freecells: - - - -
 : KC QD JC
 : KD QC JD
-:
-:
-:
-:
-:
-:
+:\n:\n:\n:\n:\n:
 > 2a 2b 23 b3 a3 1h 3h 3h 1h 1h 3h
 @ freecell won
 Foundations: H-K C-K D-K S-K
 Freecells: - - - -
-:
-:
-:
-:
-:
-:
-:
-:
+:\n:\n:\n:\n:\n:\n:\n:
 >
 ",
         0,
     ),
     (
-        Command::Expand,
+        RunKind::Expand,
         HEADERS_AND_STRAYS,
         b"# refused 1 at 31: stray line
 # refused 2 at 38: bad header
 @ freecell nnnnnnnnnnnnnnnnnnnnnnnnnnnnnnnnnnnnnnnnnnnnnnnnnnnnnnnnnnnnnnnn
 Foundations: H-K C-K D-K S-K
 Freecells: - - - -
-:
-:
-:
-:
-:
-:
-:
-:
+:\n:\n:\n:\n:\n:\n:\n:
 # refused 4 at 168: bad header
 ",
         3,
     ),
     (
-        Command::Unique,
+        RunKind::Unique,
         GROUP_OF_TWO,
         b"@ freecell one
 Foundations: H-K C-K D-Q S-K
 Freecells: - - - -
 : KD
-:
-:
-:
-:
-:
-:
-:
+:\n:\n:\n:\n:\n:\n:
 ",
         0,
     ),
     (
-        Command::Table,
+        RunKind::Table(Format::Lines),
         GROUP_OF_TWO,
         b"one\tfreecell\tFoundations: H-K C-K D-K S-Q  Freecells: - - - -  :  :  :  :  :  :  :  : KS\tDSCH\t23456781\tabcd\t0\t-
 two\tfreecell\tFoundations: H-K C-K D-K S-Q  Freecells: - - - -  :  :  :  :  :  :  :  : KS\tSDHC\t12456783\tabcd\t1\t1
@@ -459,7 +396,7 @@ two\tfreecell\tFoundations: H-K C-K D-K S-Q  Freecells: - - - -  :  :  :  :  :  
         0,
     ),
     (
-        Command::Table,
+        RunKind::Table(Format::Lines),
         HEADERS_AND_STRAYS,
         b"# refused 1 at 31: stray line
 # refused 2 at 38: bad header
@@ -469,13 +406,13 @@ nnnnnnnnnnnnnnnnnnnnnnnnnnnnnnnnnnnnnnnnnnnnnnnnnnnnnnnnnnnnnnnn\tfreecell\tFoun
         3,
     ),
     (
-        Command::Other(RunKind::Same),
+        RunKind::Same,
         GROUP_OF_TWO,
         b"two renaming DCSH columns 23145678 cells abcd\n",
         0,
     ),
     (
-        Command::Other(RunKind::Symmetries),
+        RunKind::Symmetries,
         GROUP_OF_TWO,
         b"one renaming CDHS
 one renaming SDHC
@@ -485,7 +422,7 @@ two renaming CHDS
         0,
     ),
     (
-        Command::Other(RunKind::Count(CountFormat::Words)),
+        RunKind::Count(CountFormat::Words),
         HEADERS_AND_STRAYS,
         b"# refused 1 at 31: stray line
 # refused 2 at 38: bad header
@@ -496,14 +433,23 @@ records 4 refused 3 groups 1 doubles 0 lists 0 wins 0 solved 0
     ),
 ];
 
-// Whether the run came to the end of its reader with this summary, and sent on what is due.
-fn is_whole(ran: &Ran, summary: Summary, fills: u64, due: &[u8]) -> bool {
-    let writer = &ran.writer;
-    ran.result == Ok(summary)
-        && ran.reads == (0, fills, 1)
+// Whether the run came to the end of its reader, and sent on what is due.
+fn is_whole(alloc: Global, &(kind, text, due, refused): &Row<'_>, most: usize) -> bool {
+    let ran = run_reading(alloc, kind, text, most, NEVER);
+    let records = if refused == 0 { 2 } else { 4 };
+    let fills = if most == 1 { text.len() } else { 1 };
+    ran.result == Ok(Summary { records, refused })
+        && ran.reads == (0, fills as u64, 1)
         && ran.writes == (0, 1, true)
-        && (writer.flushes, writer.sent_on) == (1, due.len())
-        && writer.taken.as_slice() == due
+        && (ran.writer.flushes, ran.writer.sent_on) == (1, due.len())
+        && ran.writer.taken.as_slice() == due
+}
+
+#[test]
+fn collections_are_read_to_their_end(rt: HostRuntime) {
+    for row in &RUNS {
+        assert!(rt; is_whole(rt.alloc(), row, 1) && is_whole(rt.alloc(), row, NEVER));
+    }
 }
 
 // Whether the run ended by this fault, and what went out is a beginning of what is due.
@@ -512,115 +458,102 @@ fn is_stopped(ran: &Ran, fault: RunFault, due: &[u8]) -> bool {
     ran.result == Err(fault) && due.get(..taken.len()) == Some(taken)
 }
 
-#[test]
-fn collections_are_read_to_their_end(rt: HostRuntime) {
-    for &(command, text, due, refused) in &RUNS {
-        let records = if refused == 0 { 2 } else { 4 };
-        for most in [1, NEVER] {
-            let fills = if most == 1 { text.len() } else { 1 };
-            let writer = writer_taking(rt.alloc(), most, NEVER, false);
-            let ran = run(rt.alloc(), command, pieces_of(text, most, NEVER), writer);
-            assert!(rt; is_whole(&ran, Summary { records, refused }, fills as u64, due));
+// Whether each read, of 4 bytes, stops the run.
+fn stops_at_reads(alloc: Global, &(kind, text, due, _): &Row<'_>) -> bool {
+    for fails_at in 0..=text.len().saturating_add(3) / 4 {
+        let ran = run_reading(alloc, kind, text, 4, fails_at);
+        if !is_stopped(&ran, RunFault::Read, due) || ran.reads != (1, fails_at as u64, 0) {
+            return false;
         }
     }
-}
-
-// Whether the read with this number, of 4 bytes, stops the run.
-fn stops_at_read(
-    alloc: Global,
-    command: Command,
-    text: &[u8],
-    due: &[u8],
-    fails_at: usize,
-) -> bool {
-    let writer = writer_taking(alloc, NEVER, NEVER, false);
-    let ran = run(alloc, command, pieces_of(text, 4, fails_at), writer);
-    is_stopped(&ran, RunFault::Read, due) && ran.reads == (1, fails_at as u64, 0)
+    true
 }
 
 #[test]
 fn each_read_may_fail(rt: HostRuntime) {
-    for &(command, text, due, _) in &RUNS {
-        for fails_at in 0..=text.len().saturating_add(3) / 4 {
-            assert!(rt;
-                stops_at_read(rt.alloc(), command, text, due, fails_at),
-                "at {fails_at}"
-            );
-        }
+    for row in &RUNS {
+        assert!(rt; stops_at_reads(rt.alloc(), row));
     }
 }
 
 #[test]
 fn a_record_goes_out_before_the_next_ends(rt: HostRuntime) {
-    let (command, text, due, _) = RUNS[0];
-    let writer = writer_taking(rt.alloc(), NEVER, NEVER, false);
-    let ran = run(rt.alloc(), command, pieces_of(text, 1, text.len()), writer);
-    let taken = ran.writer.taken.as_slice();
-    assert!(rt; ran.result == Err(RunFault::Read) && due.get(..82) == Some(taken));
+    let ran = run_reading(
+        rt.alloc(),
+        RunKind::Show,
+        GROUP_OF_TWO,
+        1,
+        GROUP_OF_TWO.len(),
+    );
+    assert!(rt; is_stopped(&ran, RunFault::Read, RUNS[0].2) && ran.writer.taken.len() == 82);
 }
 
 // A run whose writer takes 8 bytes a call, and fails the write with this number.
 fn run_writing(
     alloc: Global,
-    command: Command,
+    kind: RunKind,
     text: &[u8],
     fails_at: usize,
     takes_nothing: bool,
 ) -> Ran {
     let writer = writer_taking(alloc, 8, fails_at, takes_nothing);
-    run(alloc, command, pieces_of(text, NEVER, NEVER), writer)
+    run(alloc, kind, pieces_of(text, NEVER, NEVER), writer)
 }
 
-// Whether the run ended by its writer's fault, after so many flushes.
-fn is_stopped_at_write(ran: &Ran, due: &[u8], flushes: usize) -> bool {
-    is_stopped(ran, RunFault::Write, due)
-        && (ran.reads.0, ran.writes) == (0, (1, 0, false))
-        && ran.writer.flushes == flushes
+// Whether each of so many writes, of 8 bytes, stops the run, and the flush after the last one.
+fn stops_at_writes(
+    alloc: Global,
+    &(kind, text, due, _): &Row<'_>,
+    writes: usize,
+    takes_nothing: bool,
+) -> bool {
+    for fails_at in 0..=writes {
+        let ran = run_writing(alloc, kind, text, fails_at, takes_nothing);
+        if !is_stopped(&ran, RunFault::Write, due)
+            || (ran.reads.0, ran.writes) != (0, (1, 0, false))
+            || ran.writer.flushes != usize::from(fails_at == writes)
+        {
+            return false;
+        }
+    }
+    true
 }
 
 #[test]
 fn each_write_may_fail(rt: HostRuntime) {
-    for &(command, text, due, _) in &RUNS {
-        let whole = run_writing(rt.alloc(), command, text, NEVER, false);
-        let writes = whole.writer.calls;
-        assert!(rt; writes >= due.len() / 8);
-        for takes_nothing in [false, true] {
-            // After the last write comes the flush.
-            for fails_at in 0..=writes {
-                let ran = run_writing(rt.alloc(), command, text, fails_at, takes_nothing);
-                let flushes = usize::from(fails_at == writes);
-                assert!(rt; is_stopped_at_write(&ran, due, flushes), "at {fails_at}");
-            }
-        }
+    for row in &RUNS {
+        let writes = run_writing(rt.alloc(), row.0, row.1, NEVER, false)
+            .writer
+            .calls;
+        assert!(rt; writes >= row.2.len() / 8);
+        assert!(rt; stops_at_writes(rt.alloc(), row, writes, false));
+        assert!(rt; stops_at_writes(rt.alloc(), row, writes, true));
     }
 }
 
-// So many headers, each of which names no game.
-fn marks(alloc: Global, count: usize) -> Result<Vec<u8>, AllocError> {
+// The bytes, so many times.
+fn repeated(alloc: Global, bytes: &[u8], count: usize) -> Result<Vec<u8>, AllocError> {
     let mut text = Vec::new(alloc);
     for _ in 0..count {
-        text.extend_from_slice(b"@\n")?;
+        text.extend_from_slice(bytes)?;
     }
     Ok(text)
 }
 
-// 131,072 bytes are read, and some two million printed.
+// Of 65,536 headers, each of which names no game, 131,072 bytes are read, and some two million
+// printed.
 #[test]
 fn reads_and_writes_are_large(rt: HostRuntime) -> Result<(), Fail> {
-    let text = marks(rt.alloc(), 65_536)?;
-    let reader = pieces_of(text.as_slice(), NEVER, NEVER);
-    let writer = writer_taking(rt.alloc(), NEVER, NEVER, false);
-    let ran = run(rt.alloc(), Command::Show, reader, writer);
-    assert!(rt; ran.reads.1 <= 3, "{} reads gave bytes", ran.reads.1);
-    let writes = ran.writer.calls;
-    assert!(rt; writes >= 16 && writes <= 64, "{writes} writes");
+    let text = repeated(rt.alloc(), b"@\n", 65_536)?;
+    let ran = run_reading(rt.alloc(), RunKind::Show, text.as_slice(), NEVER, NEVER);
+    assert!(rt; ran.reads.1 <= 3);
+    assert!(rt; ran.writer.calls >= 16 && ran.writer.calls <= 64);
     Ok(())
 }
 
 // Whether so many records are shown, or the text is too large and its end is not reached.
 fn is_counted(alloc: Global, text: &[u8], records: Result<usize, RunFault>) -> bool {
-    let writer = writer_taking(alloc, NEVER, NEVER, false);
-    let ran = run(alloc, Command::Show, pieces_of(text, NEVER, NEVER), writer);
+    let ran = run_reading(alloc, RunKind::Show, text, NEVER, NEVER);
     let counted = match ran.result {
         Ok(summary) => Ok(summary.records),
         Err(fault) => Err(fault),
@@ -628,33 +561,21 @@ fn is_counted(alloc: Global, text: &[u8], records: Result<usize, RunFault>) -> b
     (ran.reads.2 == 0) == records.is_err() && counted == records
 }
 
-// The same of so many headers.
-fn are_marks_counted(
-    alloc: Global,
-    count: usize,
-    records: Result<usize, RunFault>,
-) -> Result<bool, Fail> {
-    let text = marks(alloc, count)?;
-    Ok(is_counted(alloc, text.as_slice(), records))
-}
-
-// The same of so many blanks.
-fn are_blanks_counted(
-    alloc: Global,
-    count: usize,
-    records: Result<usize, RunFault>,
-) -> Result<bool, Fail> {
-    let text = vec![in alloc; b' '; count]?;
-    Ok(is_counted(alloc, text.as_slice(), records))
-}
+// Texts of so many headers, each of which names no game, or of so many blanks, and how many records
+// are counted.
+static SIZES: [(&[u8], usize, Result<usize, RunFault>); 5] = [
+    (b"", 0, Ok(0)),
+    (b"@\n", 65_536, Ok(65_536)),
+    (b"@\n", 65_537, Err(RunFault::TooLarge)),
+    (b" ", 65_536, Ok(0)),
+    (b" ", 65_537, Err(RunFault::TooLarge)),
+];
 
 #[test]
 fn records_and_bytes_are_counted(rt: HostRuntime) -> Result<(), Fail> {
-    let too_large = Err(RunFault::TooLarge);
-    assert!(rt; is_counted(rt.alloc(), b"", Ok(0)));
-    assert!(rt; are_marks_counted(rt.alloc(), 65_536, Ok(65_536))?);
-    assert!(rt; are_marks_counted(rt.alloc(), 65_537, too_large)?);
-    assert!(rt; are_blanks_counted(rt.alloc(), 65_536, Ok(0))?);
-    assert!(rt; are_blanks_counted(rt.alloc(), 65_537, too_large)?);
+    for &(bytes, count, records) in &SIZES {
+        let text = repeated(rt.alloc(), bytes, count)?;
+        assert!(rt; is_counted(rt.alloc(), text.as_slice(), records));
+    }
     Ok(())
 }

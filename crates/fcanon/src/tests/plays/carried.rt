@@ -4,38 +4,23 @@ use fc_canon::{Passage, canon};
 use fc_card::{Group, Order, Renaming};
 use fc_text::write_moves;
 
-// Carries the moves, and prints them. It fails where one does not fit the game, or Eight Off, whose
-// letters print all moves.
-fn print_of_image<R: Rule>(
+// The print of the image of the list, of which the moves at this index and the next one change
+// places. `None` where a move does not fit the game, or its image Eight Off, whose letters print all.
+fn image_of<R: Rule>(
     alloc: Global,
     passage: &Passage<R>,
-    moves: &mut [Move],
-) -> Result<Vec<u8>, Fail> {
-    if !all_fit::<R>(moves) {
-        return Err(Fail::new("a move does not fit the game"));
-    }
-    passage.carry_moves(moves);
-    if !all_fit::<EightOff>(moves) {
-        return Err(Fail::new("the image of a move does not fit Eight Off"));
-    }
-    Ok(write_moves(alloc, moves)?)
-}
-
-// The print of the image of the list, by the passage to the canonical board of the text.
-fn image<R: Rule>(alloc: Global, text: &[u8], list: &[u8]) -> Result<Vec<u8>, Fail> {
-    let passage = canon(&read_board::<R>(text)?).passage;
-    let mut moves = read_moves::<R>(alloc, list)?;
-    print_of_image(alloc, &passage, moves.as_mut_slice())
-}
-
-// What comes of a list on the canonical board of the text.
-fn played_there<R: Rule>(
-    alloc: Global,
-    text: &[u8],
     list: &[u8],
-) -> Result<Option<Result<bool, PlayFault>>, Fail> {
-    let canonical = canon(&read_board::<R>(text)?).board;
-    Ok(outcome_of(alloc, &canonical, list, list.len())?)
+    index: usize,
+) -> Option<Vec<u8>> {
+    let mut moves = with_exchange::<R>(alloc, list, index)?;
+    if !all_fit::<R>(moves.as_slice()) {
+        return None;
+    }
+    passage.carry_moves(moves.as_mut_slice());
+    if !all_fit::<EightOff>(moves.as_slice()) {
+        return None;
+    }
+    write_moves(alloc, moves.as_slice()).ok()
 }
 
 static DEAL_1: &[u8] = b": JD KD 2S 4C 3S 6D 6S
@@ -59,32 +44,32 @@ static SEVEN: &[u8] = b"Foundations: H-K C-K D-K S-J
 Freecells: QS - - - - - - KS
 ";
 
-// Whether the image of the list is printed so, and comes to this when it is played.
+// Whether the image of the list, by the passage to the canonical board of the text, is printed so,
+// and comes to this when it is played there.
 fn has_image<R: Rule>(
     alloc: Global,
     text: &[u8],
     list: &[u8],
     printed: &[u8],
     outcome: Result<bool, PlayFault>,
-) -> Result<bool, Fail> {
-    let image = image::<R>(alloc, text, list)?;
-    Ok(
+) -> Option<bool> {
+    let found = canon(&read_board::<R>(text).ok()?);
+    let image = image_of(alloc, &found.passage, list, list.len())?;
+    Some(
         image.as_slice() == printed
-            && played_there::<R>(alloc, text, image.as_slice())? == Some(outcome),
+            && outcome_of(alloc, &found.board, printed, printed.len())? == outcome,
     )
 }
 
 #[test]
-fn images_of_lists(rt: HostRuntime) -> Result<(), Fail> {
-    let not_next = PlayFault {
-        index: 0,
-        fault: StepFault::NotNext,
-    };
-    assert!(rt; has_image::<FreeCell>(rt.alloc(), DEAL_1, b"3a", b"6a", Ok(false))?);
-    assert!(rt; has_image::<FreeCell>(rt.alloc(), KING_LEFT, b"3h", b"8h", Ok(true))?);
-    assert!(rt; has_image::<EightOff>(rt.alloc(), SEVEN, b"ah kh", b"kh gh", Ok(true))?);
-    assert!(rt; has_image::<EightOff>(rt.alloc(), SEVEN, b"kh ah", b"gh kh", Err(not_next))?);
-    Ok(())
+fn images_of_lists(rt: HostRuntime) {
+    let alloc = rt.alloc();
+    let fault = StepFault::NotNext;
+    let not_next = Err(PlayFault { index: 0, fault });
+    assert!(rt; has_image::<FreeCell>(alloc, DEAL_1, b"3a", b"6a", Ok(false)) == Some(true));
+    assert!(rt; has_image::<FreeCell>(alloc, KING_LEFT, b"3h", b"8h", Ok(true)) == Some(true));
+    assert!(rt; has_image::<EightOff>(alloc, SEVEN, b"ah kh", b"kh gh", Ok(true)) == Some(true));
+    assert!(rt; has_image::<EightOff>(alloc, SEVEN, b"kh ah", b"gh kh", not_next) == Some(true));
 }
 
 // Whether the list, of which the moves at this index and the next one change places, plays alike
@@ -95,12 +80,10 @@ fn is_alike<R: Rule>(
     passage: &Passage<R>,
     list: &[u8],
     index: usize,
-) -> Result<bool, Fail> {
-    let mut moves = with_exchange::<R>(alloc, list, index)?;
-    let outcome = play_list(board.copy(), moves.as_slice());
-    let print = print_of_image(alloc, passage, moves.as_mut_slice())?;
-    let again = read_moves::<R>(alloc, print.as_slice())?;
-    Ok(play_list(passage.carry(board), again.as_slice()) == outcome)
+) -> Option<bool> {
+    let image = image_of(alloc, passage, list, index)?;
+    let there = outcome_of(alloc, &passage.carry(board), image.as_slice(), image.len())?;
+    Some(there == outcome_of(alloc, board, list, index)?)
 }
 
 // The passage by this renaming that takes the cells the other way than this one, or `None` for a
@@ -119,8 +102,8 @@ fn are_alike<R: Rule>(
     exchanged: &Passage<R>,
     list: &[u8],
     index: usize,
-) -> Result<bool, Fail> {
-    Ok(
+) -> Option<bool> {
+    Some(
         is_alike(alloc, board, whole, list, list.len())?
             && is_alike(alloc, board, exchanged, list, index)?,
     )
@@ -133,39 +116,37 @@ fn is_alike_everywhere<R: Rule>(
     board: &Board<R>,
     list: &[u8],
     index: usize,
-) -> Result<bool, Fail> {
+) -> Option<bool> {
     let own = canon(board).passage;
     for place in 0..R::RENAMINGS {
-        let passage = renamed(&own, R::renaming(place)).ok_or("no passage")?;
-        let onward = passage.then(&own);
-        if !are_alike(alloc, board, &passage, &onward, list, index)? {
-            return Ok(false);
+        let passage = renamed(&own, R::renaming(place))?;
+        if !are_alike(alloc, board, &passage, &passage.then(&own), list, index)? {
+            return Some(false);
         }
     }
     are_alike(alloc, board, &own, &own, list, index)
 }
 
-// Whether the list plays alike everywhere from the board of the deal.
-fn deal_is_alike<R: Numbered>(
+// Whether each list plays alike everywhere from the board of its deal.
+fn deals_are_alike<R: Numbered>(
     alloc: Global,
-    number: u32,
-    list: &[u8],
-    index: usize,
-) -> Result<bool, Fail> {
-    let board = deal_board::<R>(number)?;
-    is_alike_everywhere(alloc, &board, list, index)
+    deals: &[(u32, &[u8], usize, StepFault)],
+) -> Option<bool> {
+    for &(number, list, index, _) in deals {
+        let board = deal_board::<R>(number).ok()?;
+        if !is_alike_everywhere(alloc, &board, list, index)? {
+            return Some(false);
+        }
+    }
+    Some(true)
 }
 
 #[test]
 fn solutions_play_elsewhere(rt: HostRuntime) -> Result<(), Fail> {
-    for &(number, list, index, _) in &FREECELL {
-        assert!(rt; deal_is_alike::<FreeCell>(rt.alloc(), number, list, index)?);
-    }
-    for &(number, list, index, _) in &BAKERS_GAME {
-        assert!(rt; deal_is_alike::<BakersGame>(rt.alloc(), number, list, index)?);
-    }
+    assert!(rt; deals_are_alike::<FreeCell>(rt.alloc(), &FREECELL) == Some(true));
+    assert!(rt; deals_are_alike::<BakersGame>(rt.alloc(), &BAKERS_GAME) == Some(true));
     let board = read_board::<EightOff>(EIGHT_OFF_BOARD)?;
-    assert!(rt; is_alike_everywhere(rt.alloc(), &board, EIGHT_OFF, 1)?);
+    assert!(rt; is_alike_everywhere(rt.alloc(), &board, EIGHT_OFF, 1) == Some(true));
     Ok(())
 }
 

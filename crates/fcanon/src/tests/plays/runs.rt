@@ -21,38 +21,32 @@ fn all_runs_fit<R: Rule>(runs: &[RunMove]) -> bool
     runs.iter().all(|run| run.fits::<R>())
 }
 
-// The list played on the board: whether the board is won then, or which move is refused.
-fn played_runs<R: Rule>(mut board: Board<R>, runs: &[RunMove]) -> Option<Result<bool, PlayFault>> {
-    if !all_runs_fit::<R>(runs) {
+// The list played on the board: whether the board is won then, or which move is refused. `None` where
+// a move does not fit the game.
+fn outcome_of_runs<R: Rule>(
+    alloc: Global,
+    mut board: Board<R>,
+    list: &[u8],
+) -> Option<Result<bool, PlayFault>> {
+    let runs = read_runs::<R>(alloc, list).ok()?;
+    if !all_runs_fit::<R>(runs.as_slice()) {
         return None;
     }
-    Some(match board.play_runs(runs) {
+    Some(match board.play_runs(runs.as_slice()) {
         Ok(()) => Ok(board.is_won()),
         Err(fault) => Err(fault),
     })
 }
 
-// Whether the move is short for these moves of one card on the board.
-fn expands_to<R: Rule>(board: &Board<R>, run: RunMove, moves: &[Move]) -> bool {
-    if !run.fits::<R>() {
-        return false;
-    }
-    match board.expand(run) {
-        Ok(expansion) => expansion.as_slice() == moves,
-        Err(_) => false,
-    }
-}
-
 // Whether the first of the moves is short for the moves of this list on the board.
-fn first_expands_to<R: Rule>(
-    alloc: Global,
-    board: &Board<R>,
-    runs: &[RunMove],
-    list: &[u8],
-) -> Result<bool, Fail> {
-    let first = *runs.first().ok_or("no move")?;
-    let moves = read_moves::<R>(alloc, list)?;
-    Ok(expands_to(board, first, moves.as_slice()))
+fn first_expands_to<R: Rule>(board: &Board<R>, runs: &[RunMove], list: &[Move]) -> bool {
+    match runs {
+        [run, ..] if run.fits::<R>() => match board.expand(*run) {
+            Ok(expansion) => expansion.as_slice() == list,
+            Err(_) => false,
+        },
+        _ => false,
+    }
 }
 
 #[test]
@@ -60,37 +54,36 @@ fn run_of_three(rt: HostRuntime) -> Result<(), Fail> {
     let board = read_board::<FreeCell>(RUNS_OF_THREE)?;
     assert!(rt; board.capacity(2) == 160);
     let runs = read_runs::<FreeCell>(rt.alloc(), HOMEWARD)?;
-    assert!(rt; first_expands_to(rt.alloc(), &board, runs.as_slice(), b"2a 2b 23 b3 a3")?);
-    assert!(rt; played_runs(board, runs.as_slice()) == Some(Ok(true)));
+    let moves = read_moves::<FreeCell>(rt.alloc(), b"2a 2b 23 b3 a3")?;
+    assert!(rt; first_expands_to(&board, runs.as_slice(), moves.as_slice()));
+    assert!(rt; outcome_of_runs(rt.alloc(), board, HOMEWARD) == Some(Ok(true)));
     Ok(())
 }
 
-// The image of the list by the passage. It fails where a move does not fit the game.
-fn image<R: Rule>(alloc: Global, passage: &Passage<R>, list: &[u8]) -> Result<Vec<RunMove>, Fail> {
-    let mut runs = read_runs::<R>(alloc, list)?;
+// The print of the image of the list. `None` where a move does not fit the game, or its image Eight
+// Off, whose letters print all.
+fn image_of_runs<R: Rule>(alloc: Global, passage: &Passage<R>, list: &[u8]) -> Option<Vec<u8>> {
+    let mut runs = read_runs::<R>(alloc, list).ok()?;
     if !all_runs_fit::<R>(runs.as_slice()) {
-        return Err(Fail::new("a move does not fit the game"));
+        return None;
     }
     passage.carry_runs(runs.as_mut_slice());
-    Ok(runs)
+    if !all_runs_fit::<EightOff>(runs.as_slice()) {
+        return None;
+    }
+    write_runs(alloc, runs.as_slice()).ok()
 }
 
-// The print of the moves, or nothing of it where one does not fit Eight Off, whose letters print
-// all.
-fn print(alloc: Global, runs: &[RunMove]) -> Result<Vec<u8>, Fail> {
-    if !all_runs_fit::<EightOff>(runs) {
-        return Ok(Vec::new(alloc));
-    }
-    Ok(write_runs(alloc, runs)?)
+// Whether the image of the list, by the passage to the canonical board, is printed so and wins.
+fn has_winning_image<R: Rule>(alloc: Global, board: &Board<R>, list: &[u8], print: &[u8]) -> bool {
+    let passage = canon(board).passage;
+    matches!(image_of_runs(alloc, &passage, list), Some(image) if image.as_slice() == print)
+        && outcome_of_runs(alloc, passage.carry(board), print) == Some(Ok(true))
 }
 
 #[test]
 fn image_of_a_list_of_runs(rt: HostRuntime) -> Result<(), Fail> {
     let board = read_board::<FreeCell>(RUNS_OF_THREE)?;
-    let passage = canon(&board).passage;
-    let runs = image(rt.alloc(), &passage, HOMEWARD)?;
-    let printed = print(rt.alloc(), runs.as_slice())?;
-    assert!(rt; printed.as_slice() == b"81 7h 1h 1h 7h 7h 1h".as_slice());
-    assert!(rt; played_runs(passage.carry(&board), runs.as_slice()) == Some(Ok(true)));
+    assert!(rt; has_winning_image(rt.alloc(), &board, HOMEWARD, b"81 7h 1h 1h 7h 7h 1h"));
     Ok(())
 }
