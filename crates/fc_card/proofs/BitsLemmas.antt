@@ -14,13 +14,6 @@ use Rattle.fc_card.specs.{AreBitsOf, AreCountsOf, count_of, IsCard}
 use Rattle.fc_card.specs.inside.{count_at, counts_of}
 
 -- ---- one card after another
-pub AreBitsOf-nil : AreBitsOf [] 0
-AreBitsOf-nil = record {
-  are_set = λ card in_deck. bit_at-zero card;
-  below = omega arith;
-  in_deck = All-nil IsCard;
-}
-
 count_of-one : (card other : ℕ) → count_of other (card ∷ []) ≡ cond {A = ℕ} (card == other) 1 0
 count_of-one card other = omega arith
 

@@ -1,5 +1,5 @@
 -- Lemmas on counts of cards that two numbers hold by their bits.
-use Rattle.std.proofs.Common.{◌%◌, ◌*◌, ◌++◌, ◌+◌, ◌/◌, ◌<◌, ◌==◌, ◌^◌, ◌↔◌, ◌∙◌, ◌∷◌, ◌≡◌}
+use Rattle.std.proofs.Common.{◌%◌, ◌*◌, ◌++◌, ◌+◌, ◌<◌, ◌==◌, ◌^◌, ◌↔◌, ◌∙◌, ◌∷◌, ◌≡◌}
 use Rattle.std.proofs.Common.{◌≢◌, ◌≤◌, [], All, ap, arith, Bool, cond, false, get_or, inl, inr}
 use Rattle.std.proofs.Common.{length, List, MatchOption, min, None, Option, refl, slice_index, Some}
 use Rattle.std.proofs.Common.{SomeIff, subst, sym, take, true, ℕ}
@@ -123,15 +123,6 @@ suit_test suit height card = bit_at (suit_bits suit height) card == cond (is_up_
 
 all_suits : agree_below (λ suit. agree_below (λ height. agree_below (suit_test suit height) (λ _. true) 52) (λ _. true) 14) (λ _. true) 4 ≡ true
 all_suits = refl
-
-all_below : agree_below (λ suit. agree_below (λ height. suit_bits suit height / 4503599627370496 == 0) (λ _. true) 14) (λ _. true) 4 ≡ true
-all_below = refl
-
-pub suit_bits-below : (suit height : ℕ) → suit < 4 → height ≤ 13 → suit_bits suit height < 4503599627370496
-suit_bits-below suit height below high =
-    let of_suit = agree_below_at (λ suit. agree_below (λ height. suit_bits suit height / 4503599627370496 == 0) (λ _. true) 14) (λ _. true) 4 suit all_below below in
-    let test = agree_below_at (λ height. suit_bits suit height / 4503599627370496 == 0) (λ _. true) 14 height of_suit (omega (arith, high)) in
-    omega (arith, eqb-true _ _ test)
 
 pub suit_bits-is_up_to : (suit height card : ℕ) → suit < 4 → height ≤ 13 → IsCard card → bit_at (suit_bits suit height) card ≡ cond (is_up_to suit height card) 1 0
 suit_bits-is_up_to suit height card below high in_deck =
