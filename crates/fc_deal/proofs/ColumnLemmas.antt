@@ -1,19 +1,12 @@
 -- The columns while the cards are dealt one after another.
-use Rattle.arrayvec.specs.ArrayVec.{ArrayVec}
-use Rattle.std.proofs.Common.{◌%◌, ◌++◌, ◌+◌, ◌<◌, ◌==◌, ◌∙◌, ◌∷◌, ◌≡◌, ◌≢◌, [], ap, arith, Bool}
-use Rattle.std.proofs.Common.{cond, false, get_or, inl, inr, length, length-set, List, refl, set}
-use Rattle.std.proofs.Common.{sym, true, ℕ}
-use Rattle.std.proofs.lemmas.Bool.{cases_eq, eq-eqb, ne_eqb}
-use Rattle.std.proofs.lemmas.List.{append-nil, ext_get_or, get_or-map, get_or-set_other}
-use Rattle.std.proofs.lemmas.List.{get_or-set_same, get_or_default, length-map, map-append, map-set}
-use Rattle.std.proofs.lemmas.List.Elements.{filter-append}
-use Rattle.std.proofs.lemmas.List.FromFn.{get_or-map-range_with_len, length-map-range_with_len}
-use Rattle.std.proofs.lemmas.List.FromFn.{length-range_with_len}
-use Rattle.std.proofs.lemmas.List.Sums.{count_by-le-length, length-filter}
-use Rattle.std.specs.List.{filter}
+use Rattle.{arrayvec.specs.ArrayVec.{ArrayVec}, fc_card.{proofs.OrderLemmas.{places-more}, specs.{places}}}
+use Rattle.std.proofs.Common.{◌%◌, ◌++◌, ◌+◌, ◌<◌, ◌==◌, ◌∙◌, ◌∷◌, ◌≡◌, ◌≢◌, [], ap, arith, Bool, cond, false, get_or}
+use Rattle.std.proofs.Common.{inl, inr, length, length-set, List, refl, set, sym, true, ℕ}
+use Rattle.std.proofs.lemmas.{Bool.{cases_eq, eq-eqb, ne_eqb}, List.{append-nil, Elements.{filter-append}, ext_get_or}}
+use Rattle.std.proofs.lemmas.List.FromFn.{get_or-map-range_with_len, length-map-range_with_len, length-range_with_len}
+use Rattle.std.proofs.lemmas.List.{get_or-map, get_or-set_other, get_or-set_same, get_or_default, length-map}
+use Rattle.std.{proofs.lemmas.List.{map-append, map-set, Sums.{count_by-le-length, length-filter}}, specs.List.{filter}}
 use Rattle.std.specs.Prelude.{map, slice_index}
-use Rattle.fc_card.proofs.OrderLemmas.{places-more}
-use Rattle.fc_card.specs.{places}
 use Rattle.fc_deal.specs.{dealt_column, places_dealt_to}
 
 -- the cards of the column once so many are dealt

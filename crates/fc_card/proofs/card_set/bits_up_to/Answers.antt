@@ -1,8 +1,6 @@
 use Rattle.std.proofs.Common.{◌<◌, arith}
-use Rattle.fc_card.proofs.CardSetLemmas.{suit_bits-is_up_to}
-use Rattle.fc_card.specs.{suit_number}
-use Rattle.fc_card.specs.declared.suit.Suit.{Suit}
-use Rattle.fc_card.specs.declared.suit.Suit.TheVariants.{C, D, H, S}
+use Rattle.fc_card.{proofs.CardSetLemmas.{suit_bits-is_up_to}, specs.{suit_number}}
+use Rattle.fc_card.specs.declared.suit.Suit.{Suit, TheVariants.{C, D, H, S}}
 use Rattle.fc_card.proofs.card_set.bits_up_to.Goals as goal
 
 few : (suit : Suit) → suit_number suit < 4

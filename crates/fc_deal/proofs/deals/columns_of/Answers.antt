@@ -1,5 +1,4 @@
-use Rattle.arrayvec.specs.ArrayVec.{ArrayVec}
-use Rattle.std.proofs.Common.{ap, arith, map, ℕ}
+use Rattle.{arrayvec.specs.ArrayVec.{ArrayVec}, std.proofs.Common.{ap, arith, map, ℕ}}
 use Rattle.fc_deal.proofs.ColumnLemmas.{all-dealt, AreDealt-none, AreDealt-push, column-has_room}
 use Rattle.fc_deal.proofs.deals.columns_of.Goals as goal
 

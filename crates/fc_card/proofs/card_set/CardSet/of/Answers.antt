@@ -1,6 +1,4 @@
-use Rattle.std.proofs.Common.{subst}
-use Rattle.fc_card.proofs.BitsLemmas.{AreBitsOf-more}
-use Rattle.fc_card.specs.{IsCard}
+use Rattle.{fc_card.{proofs.BitsLemmas.{AreBitsOf-more}, specs.{IsCard}}, std.proofs.Common.{subst}}
 use Rattle.fc_card.proofs.card_set.CardSet.of.Goals as goal
 
 pub loop-card-preserved : goal.loop-card-preserved
