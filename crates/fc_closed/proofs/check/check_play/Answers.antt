@@ -1,6 +1,6 @@
 use Rattle.std.proofs.{Common.{◌≡◌, ◌≤◌, arith, length, refl, subst}, lemmas.List.{get_or_default}}
-use Rattle.fc_closed.proofs.KeysLemmas.{ascend_at, closed_keys, holds_at, in_play, not_closed}
-use Rattle.fc_closed.{proofs.KeysLemmas.{shut_more}, specs.{AreShutTo, IsShut}}
+use Rattle.fc_closed.proofs.KeysLemmas.{ascend_at, closed_keys, holds_at, in_play, not_closed, shut_more}
+use Rattle.fc_closed.specs.{AreShutTo, IsShut}
 use Rattle.fc_closed.proofs.check.check_play.Goals as goal
 
 pub flaw_in_play-requires-clause-board : goal.flaw_in_play-requires-clause-board
