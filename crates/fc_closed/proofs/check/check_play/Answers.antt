@@ -10,10 +10,6 @@ flaw_in_play-requires-clause-board g c =
 pub flaw_in_play-requires-clause-above : goal.flaw_in_play-requires-clause-above
 flaw_in_play-requires-clause-above g c = ascend_at g.R.Rule.game g.R.Rule.renamings c.args.keys.now c.requires
 
-pub returns-in-Some-clause-flaw : goal.returns-in-Some-clause-flaw
-returns-in-Some-clause-flaw g c =
-    in_play g.R.Rule.game g.R.Rule.renamings c.args.keys.now c.loop-place.place _ c.requires c.loop-place.invariant c.loop-place-test.true c.in-Some.flaw (c.in-Some.ensures.flaw)
-
 pub loop-place-preserved : goal.loop-place-preserved
 loop-place-preserved g c =
     shut_more g.R.Rule.game g.R.Rule.renamings c.args.keys.now c.loop-place.place c.loop-place.invariant (λ default.
