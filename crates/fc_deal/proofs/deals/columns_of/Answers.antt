@@ -1,5 +1,4 @@
-use Rattle.{std.proofs.Common.{arith}}
-use Rattle.fc_deal.proofs.ColumnLemmas.{AreDealt-push, column-has_room}
+use Rattle.{fc_deal.proofs.ColumnLemmas.{AreDealt-push, column-has_room}, std.proofs.Common.{arith}}
 use Rattle.fc_deal.proofs.deals.columns_of.Goals as goal
 
 pub push-requires : goal.push-requires
