@@ -1,18 +1,13 @@
 -- Boards that a passage leads to play alike.
 use Rattle.std.proofs.Common.{◌||◌, ◌↔◌, ◌≡◌, Bool, List, not, ℕ}
-use Rattle.fc_board.proofs.CarriedRunLemmas.{run_refusal-carried}
-use Rattle.fc_board.proofs.DeckLemmas.{stays_well_formed}
+use Rattle.fc_board.proofs.{CarriedRunLemmas.{run_refusal-carried}, DeckLemmas.{stays_well_formed}}
 use Rattle.fc_board.proofs.ImageLemmas.{image-Fits, run_image-Fits}
-use Rattle.fc_board.proofs.ListCarried.{CarriedLaws, legal-exactly, plays-exactly, refused-exactly}
-use Rattle.fc_board.proofs.ListCarried.{wins-exactly}
-use Rattle.fc_board.proofs.RefusalCarried.{FillsByRank, refusal-carried}
-use Rattle.fc_board.proofs.RenamingLemmas.{fills-renamed_card}
+use Rattle.fc_board.proofs.ListCarried.{CarriedLaws, legal-exactly, plays-exactly, refused-exactly, wins-exactly}
+use Rattle.fc_board.proofs.{RefusalCarried.{FillsByRank, refusal-carried}, RenamingLemmas.{fills-renamed_card}}
 use Rattle.fc_board.proofs.RunLemmas.{BuildsByRank}
-use Rattle.fc_board.proofs.RunPlayLemmas.{run_step-carried, run_step-there, token-RunFits}
-use Rattle.fc_board.proofs.RunPlayLemmas.{token_keeps}
-use Rattle.fc_board.proofs.StepCarried.{move-Fits, step-back, step-carried}
-use Rattle.fc_board.specs.{Boards.{Board, IsWellFormed}, Games.{Game, is_king, RuleLaws}}
-use Rattle.fc_board.specs.Moves.{Fits, list_image, MoveList, OneCard, RunFits, Runs}
+use Rattle.fc_board.proofs.RunPlayLemmas.{run_step-carried, run_step-there, token-RunFits, token_keeps}
+use Rattle.fc_board.{proofs.StepCarried.{move-Fits, step-back, step-carried}, specs.Boards.{Board, IsWellFormed}}
+use Rattle.fc_board.specs.{Games.{Game, is_king, RuleLaws}, Moves.{Fits, list_image, MoveList, OneCard, RunFits, Runs}}
 use Rattle.fc_board.specs.Passages.{carried, carried_move, carried_run, Carries, IsPassage, Passage}
 use Rattle.fc_board.specs.Play.{Legal, Plays, PlaysAlike, RefusedAt, Wins}
 use Rattle.fc_board.specs.Steps.{refusal, run_refusal, RunStep, Step}

@@ -1,8 +1,6 @@
 -- How far up the first cards of helper columns can come. A base is a card that is first in a helper column, known by its rank. From: this project; the rule for moving several cards at once in solitaire.
 use Rattle.std.proofs.Common.{ap, arith, cond, get_or, inl, inr, map, None, Option, refl, set, Some}
-use Rattle.std.proofs.lemmas.List.Sums.{sum_by-cons}
-use Rattle.std.specs.List.{count_by}
-use Rattle.std.specs.Option.{is_none, option_to_list}
+use Rattle.std.{proofs.lemmas.List.Sums.{sum_by-cons}, specs.{List.{count_by}, Option.{is_none, option_to_list}}}
 use Rattle.std.specs.Prelude.{◌++◌, ◌+◌, ◌<◌, ◌∷◌, ◌≡◌, ◌≤◌, ◌⊎◌, [], length, List, suc, zero, ℕ}
 use Rattle.fc_board.specs.Steps.{Among}
 

@@ -1,11 +1,8 @@
 -- Bases stay low: what is above a boundary was put up over what is below it, and what is below it cannot go while it stays.
-use Rattle.std.proofs.Common.{◌*◌, ◌++◌, ◌+◌, ◌<◌, ◌^◌, ◌∙◌, ◌∷◌, ◌≡◌, ◌≤◌, ◌⊎◌, [], ap, arith}
-use Rattle.std.proofs.Common.{cond, inl, inr, leb, length, List, refl, subst, suc, sym, zero, ℕ}
-use Rattle.std.proofs.Math.Nat.{mul_assoc, pow-suc}
-use Rattle.std.proofs.lemmas.Bool.{cases_lt}
-use Rattle.std.proofs.lemmas.Bool.Decides.{nat_tests}
-use Rattle.fc_board.proofs.AmongLemmas.{Changes, Clears, highest, IsInReach}
-use Rattle.fc_board.proofs.AmongLemmas.Clears.{changed, cleared}
+use Rattle.std.proofs.Common.{◌*◌, ◌++◌, ◌+◌, ◌<◌, ◌^◌, ◌∙◌, ◌∷◌, ◌≡◌, ◌≤◌, ◌⊎◌, [], ap, arith, cond, inl, inr, leb}
+use Rattle.std.proofs.{Common.{length, List, refl, subst, suc, sym, zero, ℕ}, lemmas.Bool.{cases_lt}}
+use Rattle.std.proofs.{lemmas.Bool.Decides.{nat_tests}, Math.Nat.{mul_assoc, pow-suc}}
+use Rattle.fc_board.proofs.AmongLemmas.{Changes, Clears, Clears.{changed, cleared}, highest, IsInReach}
 use Rattle.fc_board.specs.Steps.{Among}
 
 -- ---- the bases up to a boundary, and those above it

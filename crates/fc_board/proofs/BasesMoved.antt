@@ -1,17 +1,12 @@
 -- How bases come and go, one at a time.
-use Rattle.std.proofs.Common.{◌++◌, ◌<◌, ◌∙◌, ◌∷◌, ◌≡◌, ◌≢◌, ◌≤◌, ap, arith, get_or, inl, inr}
-use Rattle.std.proofs.Common.{length, List, map, None, Option, refl, set, Some, subst, sym, ℕ}
-use Rattle.std.proofs.lemmas.List.{length-append, length-map, map-append, set-get_or}
-use Rattle.std.specs.List.{count_by}
+use Rattle.std.proofs.Common.{◌++◌, ◌<◌, ◌∙◌, ◌∷◌, ◌≡◌, ◌≢◌, ◌≤◌, ap, arith, get_or, inl, inr, length, List, map, None}
+use Rattle.std.proofs.Common.{Option, refl, set, Some, subst, sym, ℕ}
+use Rattle.std.{proofs.lemmas.List.{length-append, length-map, map-append, set-get_or}, specs.List.{count_by}}
 use Rattle.std.specs.Option.{is_none}
 use Rattle.fc_card.specs.{rank_of}
-use Rattle.fc_board.proofs.AmongLemmas.{among_either, among_left, among_right, Between, Changes}
-use Rattle.fc_board.proofs.AmongLemmas.{Clears, IsInReach, newly, newly_beside, newly_between}
-use Rattle.fc_board.proofs.AmongLemmas.{newly_few}
-use Rattle.fc_board.proofs.AmongLemmas.Clears.{changed}
-use Rattle.fc_board.proofs.BaseLemmas.{at_most}
-use Rattle.fc_board.proofs.StandLemmas.{bases}
-use Rattle.fc_board.specs.Steps.{Among}
+use Rattle.fc_board.proofs.AmongLemmas.{among_either, among_left, among_right, Between, Changes, Clears}
+use Rattle.fc_board.proofs.AmongLemmas.{Clears.{changed}, IsInReach, newly, newly_beside, newly_between, newly_few}
+use Rattle.fc_board.{proofs.{BaseLemmas.{at_most}, StandLemmas.{bases}}, specs.Steps.{Among}}
 
 module _ (before now : List (Option ℕ)) (k card : ℕ) where
   -- what is there is taken

@@ -1,25 +1,16 @@
 -- Lemmas on boards: their parts, and how many cards are in play.
 pub use Rattle.fc_card.proofs.CardSetLemmas.{count_of-append}
-use Rattle.std.proofs.Common.{◌++◌, ◌+◌, ◌<◌, ◌||◌, ◌∙◌, ◌∷◌, ◌≡◌, ◌≤◌, [], All, arith, Bool, cond}
-use Rattle.std.proofs.Common.{eqb, false, get_or, length, length-append, length-take-le, List, None}
-use Rattle.std.proofs.Common.{Option, refl, set, Some, suc, sym, take, true, zero, ℕ}
-use Rattle.std.proofs.lemmas.Bool.Decides.{nat_tests}
-use Rattle.std.proofs.lemmas.List.{drop_at, take_at, take_more}
-use Rattle.std.proofs.lemmas.List.Elements.{All-cons, All-drop, All-head, All-nil, All-tail}
-use Rattle.std.proofs.lemmas.List.Elements.{All-take}
-use Rattle.std.proofs.lemmas.List.Sums.{sum_by-cons}
-use Rattle.std.proofs.lemmas.Map.Keys.{IsDistinct-cons}
+use Rattle.std.proofs.Common.{◌++◌, ◌+◌, ◌<◌, ◌||◌, ◌∙◌, ◌∷◌, ◌≡◌, ◌≤◌, [], All, arith, Bool, cond, eqb, false, get_or}
+use Rattle.std.proofs.Common.{length, length-append, length-take-le, List, None, Option, refl, set, Some, suc, sym}
+use Rattle.std.proofs.{Common.{take, true, zero, ℕ}, lemmas.{Bool.Decides.{nat_tests}, List.{drop_at}}}
+use Rattle.std.proofs.lemmas.List.Elements.{All-cons, All-drop, All-head, All-nil, All-tail, All-take}
+use Rattle.std.proofs.lemmas.{List.{Sums.{sum_by-cons}, take_at, take_more}, Map.Keys.{IsDistinct-cons}}
 use Rattle.std.proofs.lemmas.Map.Steps.{length-le_from_distinct_below}
-use Rattle.std.specs.List.{AllByRecursion, flat_map, IsDistinct, list_any}
-use Rattle.std.specs.Option.{option_to_list}
-use Rattle.fc_card.specs.{IsCard}
-use Rattle.fc_card.specs.{count_of}
-use Rattle.fc_board.specs.{Boards.{Board, cards_in_play, IsWellFormed}, Games.{Game}}
-use Rattle.fc_board.specs.Steps.{card_at, column_at, last_card}
-use Rattle.fc_board.specs.inside.{HasCard, size_of}
-use Rattle.fc_board.specs.laws.ListWords.{IsCell}
-use Rattle.fc_board.specs.declared.moves.Source.{Source}
-use Rattle.fc_board.specs.declared.moves.Source.TheVariants.{Cell as FromCell, Column as FromColumn}
+use Rattle.std.specs.{List.{AllByRecursion, flat_map, IsDistinct, list_any}, Option.{option_to_list}}
+use Rattle.fc_card.specs.{count_of, IsCard}
+use Rattle.fc_board.specs.{Boards.{Board, cards_in_play, IsWellFormed}, Games.{Game}, inside.{HasCard, size_of}}
+use Rattle.fc_board.specs.{laws.ListWords.{IsCell}, Steps.{card_at, column_at, last_card}}
+use Rattle.fc_board.specs.declared.moves.Source.{Source, TheVariants.{Cell as FromCell, Column as FromColumn}}
 
 -- ---- lists that are gone through
 -- the elements up to a place and the one that is there

@@ -1,31 +1,18 @@
 -- What the capacity counts, and that the first card of a longer run stays.
-use Rattle.std.proofs.Common.{◌&&◌, ◌*◌, ◌++◌, ◌+◌, ◌-◌, ◌<◌, ◌^◌, ◌||◌, ◌∙◌, ◌∷◌, ◌≡◌, ◌≤◌, [], ap}
-use Rattle.std.proofs.Common.{arith, Bool, cond, eqb, false, get_or, length, List, map, None, not}
-use Rattle.std.proofs.Common.{Option, refl, Some, sym, true, ℕ}
-use Rattle.std.proofs.lemmas.Bool.{eqb-true}
-use Rattle.std.proofs.lemmas.Bool.Decides.{nat_tests}
-use Rattle.std.proofs.lemmas.List.{append_assoc}
-use Rattle.std.proofs.lemmas.List.Elements.{filter_agree}
-use Rattle.std.proofs.lemmas.List.FromFn.{fill_by_all}
-use Rattle.std.proofs.lemmas.List.Sums.{length-filter, sum_by-cons}
-use Rattle.std.specs.List.{count_by, filter}
-use Rattle.std.specs.Option.{is_none}
+use Rattle.std.proofs.Common.{◌&&◌, ◌*◌, ◌++◌, ◌+◌, ◌-◌, ◌<◌, ◌^◌, ◌||◌, ◌∙◌, ◌∷◌, ◌≡◌, ◌≤◌, [], ap, arith, Bool, cond}
+use Rattle.std.proofs.Common.{eqb, false, get_or, length, List, map, None, not, Option, refl, Some, sym, true, ℕ}
+use Rattle.std.proofs.lemmas.{Bool.{Decides.{nat_tests}, eqb-true}, List.{append_assoc, Elements.{filter_agree}}}
+use Rattle.std.proofs.lemmas.List.{FromFn.{fill_by_all}, Sums.{length-filter, sum_by-cons}}
+use Rattle.std.specs.{List.{count_by, filter}, Option.{is_none}}
 use Rattle.fc_card.specs.{IsCard, places, rank_of}
-use Rattle.fc_board.proofs.AmongLemmas.{highest, newly}
-use Rattle.fc_board.proofs.AmongLemmas.Clears.{cleared}
-use Rattle.fc_board.proofs.BaseLemmas.{highest-pow}
-use Rattle.fc_board.proofs.BoardLemmas.{in_cells, in_columns}
-use Rattle.fc_board.proofs.ConfinedLemmas.{stays_through}
-use Rattle.fc_board.proofs.DeckLemmas.{found_is_card}
-use Rattle.fc_board.proofs.RunLemmas.{BuildsByRank, lower_in_run}
-use Rattle.fc_board.proofs.StandLemmas.{heads, Holds, Setting}
-use Rattle.fc_board.proofs.StandLemmas.Stands.{on_it}
+use Rattle.fc_board.proofs.{AmongLemmas.{Clears.{cleared}, highest, newly}, BaseLemmas.{highest-pow}}
+use Rattle.fc_board.proofs.{BoardLemmas.{in_cells, in_columns}, ConfinedLemmas.{stays_through}}
+use Rattle.fc_board.proofs.{DeckLemmas.{found_is_card}, RunLemmas.{BuildsByRank, lower_in_run}}
+use Rattle.fc_board.proofs.StandLemmas.{heads, Holds, Setting, Stands.{on_it}}
 use Rattle.fc_board.specs.Boards.{Board, empty_cells_of, empty_columns_of, IsWellFormed}
-use Rattle.fc_board.specs.{Games.{Builds, Fills, Game, is_king}, Steps.{capacity, column_at}}
-use Rattle.fc_board.specs.Steps.{Confined, free_cells, is_helper, last_card, spare_columns}
-use Rattle.fc_board.specs.laws.ListWords.{IsRun, MovesPlay}
-use Rattle.fc_board.specs.declared.moves.Move.{Move}
-use Rattle.fc_board.specs.declared.moves.Source.TheVariants.{Column as FromColumn}
+use Rattle.fc_board.specs.{Games.{Builds, Fills, Game, is_king}, laws.ListWords.{IsRun, MovesPlay}}
+use Rattle.fc_board.specs.Steps.{capacity, column_at, Confined, free_cells, is_helper, last_card, spare_columns}
+use Rattle.fc_board.specs.declared.moves.{Move.{Move}, Source.TheVariants.{Column as FromColumn}}
 
 pub count_map : {X Y : Type 0} (p : Y → Bool) (f : X → Y) (xs : List X) → count_by p (map f xs) ≡ count_by (λ x. p (f x)) xs
 count_map p f [] = refl

@@ -1,42 +1,28 @@
 -- A passage carries moves of several cards as it carries boards.
-use Rattle.std.proofs.Common.{◌&&◌, ◌++◌, ◌+◌, ◌-◌, ◌<◌, ◌∙◌, ◌∷◌, ◌≡◌, ◌≤◌, [], All, ap, arith}
-use Rattle.std.proofs.Common.{Bool, cond, drop, eqb, false, inl, inr, leb, length, List, ltb, map}
-use Rattle.std.proofs.Common.{min, None, not, Option, refl, set, Some, suc, sym, take, true, zero}
-use Rattle.std.proofs.Common.{ℕ}
-use Rattle.std.proofs.lemmas.Bool.{leb-true}
-use Rattle.std.proofs.lemmas.Bool.Decides.{nat_tests}
-use Rattle.std.proofs.lemmas.List.{drop-map, get_or-map, length-map, length-set, map-append}
-use Rattle.std.proofs.lemmas.List.{take-map}
-use Rattle.std.proofs.lemmas.List.Elements.{All-get_or, All-head, All-tail}
-use Rattle.std.proofs.lemmas.List.Sorted.{sum_by-IsPermutation}
-use Rattle.std.proofs.lemmas.List.Sums.{length-filter, sum_by-cons}
-use Rattle.std.specs.List.{count_by}
+use Rattle.std.proofs.Common.{◌&&◌, ◌++◌, ◌+◌, ◌-◌, ◌<◌, ◌∙◌, ◌∷◌, ◌≡◌, ◌≤◌, [], All, ap, arith, Bool, cond, drop, eqb}
+use Rattle.std.proofs.Common.{false, inl, inr, leb, length, List, ltb, map, min, None, not, Option, refl, set, Some}
+use Rattle.std.proofs.{Common.{suc, sym, take, true, zero, ℕ}, lemmas.Bool.{Decides.{nat_tests}, leb-true}}
+use Rattle.std.proofs.lemmas.List.{drop-map, Elements.{All-get_or, All-head, All-tail}}
+use Rattle.std.proofs.lemmas.List.{get_or-map, length-map, length-set, map-append, Sorted.{sum_by-IsPermutation}}
+use Rattle.std.{proofs.lemmas.List.{Sums.{length-filter, sum_by-cons}, take-map}, specs.List.{count_by}}
 use Rattle.std.specs.Option.{is_none}
-use Rattle.fc_card.proofs.PermutationLemmas.{IsPermutation-pick, same_place}
-use Rattle.fc_card.specs.{IsCard, pick, place_of, places, rank_of, renamed_card}
-use Rattle.fc_card.specs.laws.OrderLaws.{place_of-IsOrder}
-use Rattle.fc_card.specs.laws.RenamingLaws.{rank_of-renamed_card}
-use Rattle.fc_board.proofs.BoardLemmas.{in_cells, in_columns, parts_same}
-use Rattle.fc_board.proofs.CapacityLemmas.{cells_counted, count_map, counted}
-use Rattle.fc_board.proofs.CarriedLemmas.{carried-IsWellFormed}
-use Rattle.fc_board.proofs.DeckLemmas.{found_is_card}
-use Rattle.fc_board.proofs.ExactLemmas.{range_apart}
-use Rattle.fc_board.proofs.ExpansionLemmas.{AreApart}
-use Rattle.fc_board.proofs.PlacesLemmas.{in_range}
-use Rattle.fc_board.proofs.RefusalCarried.{column-carried, FillsByRank, last-renamed, free-renamed}
-use Rattle.fc_board.proofs.RefusalCarried.{refusal-carried, set-carried}
-use Rattle.fc_board.proofs.RunStepLemmas.{longest_few, longest_some, more_test, some_capacity}
-use Rattle.fc_board.specs.Boards.{Board, empty_cells_of, empty_columns_of, IsWellFormed}
-use Rattle.fc_board.specs.{Games.{Game}, Moves.{IsCount, RunFits}, Passages.{carried, IsPassage}}
-use Rattle.fc_board.specs.Passages.{Passage, renamed_cell, renamed_column, run_image}
-use Rattle.fc_board.specs.Steps.{Among, capacity, column_at, fault_or, first_of_last, free_cells}
-use Rattle.fc_board.specs.Steps.{is_helper, is_run, last_card, longest_run, matches_stated, onto}
-use Rattle.fc_board.specs.Steps.{onto_card, onto_nothing, run_moved, run_refusal, spare_columns}
-use Rattle.fc_board.specs.declared.fault.StepFault.{StepFault}
-use Rattle.fc_board.specs.declared.fault.StepFault.TheVariants.{KingsOnly, NoRun, NotBuilding}
+use Rattle.fc_card.{proofs.PermutationLemmas.{IsPermutation-pick, same_place}, specs.{IsCard}}
+use Rattle.fc_card.specs.laws.{OrderLaws.{place_of-IsOrder}, RenamingLaws.{rank_of-renamed_card}}
+use Rattle.fc_card.specs.{pick, place_of, places, rank_of, renamed_card}
+use Rattle.fc_board.{
+  proofs.{BoardLemmas.{in_cells, in_columns, parts_same}, CapacityLemmas.{cells_counted, count_map, counted}},
+  proofs.{CarriedLemmas.{carried-IsWellFormed}, DeckLemmas.{found_is_card}, ExactLemmas.{range_apart}},
+  proofs.{ExpansionLemmas.{AreApart}, PlacesLemmas.{in_range}},
+  proofs.RefusalCarried.{column-carried, FillsByRank, free-renamed, last-renamed, refusal-carried, set-carried},
+  proofs.RunStepLemmas.{longest_few, longest_some, more_test, some_capacity},
+  specs.{Boards.{Board, empty_cells_of, empty_columns_of, IsWellFormed}, Games.{Game}, Moves.{IsCount, RunFits}},
+  specs.{Passages.{carried, IsPassage, Passage, renamed_cell, renamed_column, run_image}, Steps.{Among, capacity}},
+  specs.Steps.{column_at, fault_or, first_of_last, free_cells, is_helper, is_run, last_card, longest_run},
+  specs.Steps.{matches_stated, onto, onto_card, onto_nothing, run_moved, run_refusal, spare_columns},
+}
+use Rattle.fc_board.specs.declared.fault.StepFault.{StepFault, TheVariants.{KingsOnly, NoRun, NotBuilding}}
 use Rattle.fc_board.specs.declared.fault.StepFault.TheVariants.{OverCapacity, SamePile, WrongCount}
-use Rattle.fc_board.specs.declared.moves.Source.TheVariants.{Column as FromColumn}
-use Rattle.fc_board.specs.declared.run_move.RunMove.{RunMove}
+use Rattle.fc_board.specs.declared.{moves.Source.TheVariants.{Column as FromColumn}, run_move.RunMove.{RunMove}}
 use Rattle.fc_board.specs.declared.run_move.RunMove.TheVariants.{One, Run}
 
 -- ---- counts

@@ -1,16 +1,11 @@
 -- What becomes of a column at a step: it loses its last card, or gets one, or stays.
-use Rattle.std.proofs.Common.{◌++◌, ◌∙◌, ◌∷◌, ◌≡◌, ◌≢◌, ◌⊎◌, [], ap, inl, inr, List, sym, ℕ}
-use Rattle.std.proofs.lemmas.Bool.{cases_eq}
+use Rattle.std.proofs.{Common.{◌++◌, ◌∙◌, ◌∷◌, ◌≡◌, ◌≢◌, ◌⊎◌, [], ap, inl, inr, List, sym, ℕ}, lemmas.Bool.{cases_eq}}
 use Rattle.std.proofs.lemmas.List.{append-nil, append_assoc}
 use Rattle.fc_board.proofs.AmongLemmas.{AllAmong, among_either, among_left, last_split}
 use Rattle.fc_board.proofs.MovedCard.{left_in_column, lies_in_column, other_columns}
-use Rattle.fc_board.specs.{Boards.{Board, IsWellFormed}, Games.{Game}}
-use Rattle.fc_board.specs.Steps.{Among, column_at, Step}
-use Rattle.fc_board.specs.declared.moves.Move.{Move}
-use Rattle.fc_board.specs.declared.moves.Place.{Place}
-use Rattle.fc_board.specs.declared.moves.Place.TheVariants.{Cell as ToCell, Column as ToColumn}
-use Rattle.fc_board.specs.declared.moves.Place.TheVariants.{Home}
-use Rattle.fc_board.specs.declared.moves.Source.{Source}
+use Rattle.fc_board.specs.{Boards.{Board, IsWellFormed}, Games.{Game}, Steps.{Among, column_at, Step}}
+use Rattle.fc_board.specs.declared.moves.{Move.{Move}, Place.{Place}}
+use Rattle.fc_board.specs.declared.moves.{Place.TheVariants.{Cell as ToCell, Column as ToColumn, Home}, Source.{Source}}
 use Rattle.fc_board.specs.declared.moves.Source.TheVariants.{Cell as FromCell, Column as FromColumn}
 
 pub from_it : (source : Source) (column : ℕ) → (source ≡ FromColumn column) ⊎ (source ≢ FromColumn column)

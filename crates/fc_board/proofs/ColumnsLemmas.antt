@@ -1,20 +1,14 @@
 -- Columns end to end in one list: each by its place, and cards less or more.
-use Rattle.std.proofs.Common.{◌++◌, ◌+◌, ◌-◌, ◌<◌, ◌∙◌, ◌∷◌, ◌≡◌, ◌≤◌, ◌⊎◌, [], ap, append-nil}
-use Rattle.std.proofs.Common.{arith, cond, drop, get_or, inl, inr, length, List, map, refl, set}
-use Rattle.std.proofs.Common.{slice_range, subst, suc, sym, take, take-append-drop, zero, ℕ}
-use Rattle.std.proofs.Math.Seq.{drop-append_seam}
-use Rattle.std.proofs.lemmas.Bool.Decides.{nat_tests}
-use Rattle.std.proofs.lemmas.List.{drop-append-le, drop-drop, drop_all, ext_get_or}
-use Rattle.std.proofs.lemmas.List.{get_or-append_right, get_or-drop, get_or-take}
-use Rattle.std.proofs.lemmas.List.{get_or_append_left, length-append, length-drop, length-set}
-use Rattle.std.proofs.lemmas.List.{length-take-le, map-append, take-append-le, take-take, take_all}
-use Rattle.std.proofs.lemmas.List.{take_more_set}
-use Rattle.std.proofs.lemmas.List.Concat.{flat_map-append}
-use Rattle.std.specs.List.{flat_map}
+use Rattle.std.proofs.Common.{◌++◌, ◌+◌, ◌-◌, ◌<◌, ◌∙◌, ◌∷◌, ◌≡◌, ◌≤◌, ◌⊎◌, [], ap, append-nil, arith, cond, drop}
+use Rattle.std.proofs.Common.{get_or, inl, inr, length, List, map, refl, set, slice_range, subst, suc, sym, take}
+use Rattle.std.proofs.{Common.{take-append-drop, zero, ℕ}, lemmas.Bool.Decides.{nat_tests}}
+use Rattle.std.proofs.lemmas.List.{Concat.{flat_map-append}, drop-append-le, drop-drop, drop_all, ext_get_or}
+use Rattle.std.proofs.lemmas.List.{get_or-append_right, get_or-drop, get_or-take, get_or_append_left, length-append}
+use Rattle.std.proofs.lemmas.List.{length-drop, length-set, length-take-le, map-append, take-append-le, take-take}
+use Rattle.std.{proofs.{lemmas.List.{take_all, take_more_set}, Math.Seq.{drop-append_seam}}, specs.List.{flat_map}}
 use Rattle.std.specs.Prelude.{nat_le}
-use Rattle.fc_board.proofs.BoardLemmas.{up_to}
-use Rattle.fc_board.specs.inside.{AreBounds, AreIn, AreOut, AscendTo, columns_between, columns_from}
-use Rattle.fc_board.specs.inside.{lowered, raised, size_of}
+use Rattle.fc_board.{proofs.BoardLemmas.{up_to}, specs.inside.{AreBounds, AreIn, AreOut, AscendTo, columns_between}}
+use Rattle.fc_board.specs.inside.{columns_from, lowered, raised, size_of}
 
 pub length-columns_from : (start : ℕ) (cards ends : List ℕ) → length (columns_from start cards ends) ≡ length ends
 length-columns_from start cards [] = refl
@@ -158,31 +152,6 @@ pub record IsRising (old new : List ℕ) (at last count : ℕ) : Type 0 where
   pub moved : (k : ℕ) → at ≤ k → k < last → get_or new (k + count) 0 ≡ get_or old k 0
   pub before : (k : ℕ) → k < at + count → get_or new k 0 ≡ get_or old k 0
   pub on : at ≤ last
-
--- one piece more
-pub IsRising-on : (old mid new : List ℕ) (next at last count : ℕ) → IsRising old mid at last count → next ≤ at → length new ≡ length old →
-    ((k : ℕ) → next ≤ k → k < at → get_or new (k + count) 0 ≡ get_or mid k 0) → ((k : ℕ) → k < next + count → get_or new k 0 ≡ get_or mid k 0) →
-    ((k : ℕ) → at + count ≤ k → get_or new k 0 ≡ get_or mid k 0) → IsRising old new next last count
-IsRising-on old mid new next at last count first down size moved before after = record {
-  size = size;
-  moved = λ k later small. one k later small (before_or_after k at);
-  before = λ k small. before k small ∙ first.before k (omega arith);
-  on = let on = first.on in omega arith;
-}
-  where
-    one : (k : ℕ) → next ≤ k → k < last → (k < at) ⊎ (at ≤ k) → get_or new (k + count) 0 ≡ get_or old k 0
-    one k later small (inl early) = moved k later early ∙ first.before k (omega arith)
-    one k later small (inr late) = after (k + count) (omega arith) ∙ first.moved k late small
-
--- and then the cards are put at the place
-pub IsRising-put : (old mid new cards : List ℕ) (place last : ℕ) → IsRising old mid place last (length cards) → AreIn mid new place place cards →
-    ((k : ℕ) → place + length cards ≤ k → get_or new k 0 ≡ get_or mid k 0) → AreIn old new place last cards
-IsRising-put old mid new cards place last rising put rest = record {
-  size = put.size ∙ rising.size;
-  before = λ k small. put.before k small ∙ rising.before k (omega arith);
-  there = put.there;
-  after = λ k after small. rest (k + length cards) (omega arith) ∙ rising.moved k after small;
-}
 
 more_before : (old new : List ℕ) (place last : ℕ) (cards : List ℕ) (from to : ℕ) → AreIn old new place last cards → from ≤ to → to ≤ place →
     place ≤ length old → slice_range new from to ≡ slice_range old from to

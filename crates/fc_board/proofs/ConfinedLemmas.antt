@@ -1,32 +1,24 @@
 -- While the first card of a run stays, each confined step leaves every other card of it in a cell, first in a column that was empty, or right after the card that it goes on.
-use Rattle.std.proofs.Common.{◌++◌, ◌+◌, ◌-◌, ◌<◌, ◌∙◌, ◌∷◌, ◌≡◌, ◌≢◌, [], ap, arith, eqb, get_or}
-use Rattle.std.proofs.Common.{inl, inr, length, List, map, None, Option, refl, set, Some, subst}
-use Rattle.std.proofs.Common.{sym, ℕ}
+use Rattle.std.proofs.Common.{◌++◌, ◌+◌, ◌-◌, ◌<◌, ◌∙◌, ◌∷◌, ◌≡◌, ◌≢◌, [], ap, arith, eqb, get_or, inl, inr, length}
+use Rattle.std.proofs.Common.{List, map, None, Option, refl, set, Some, subst, sym, ℕ}
 use Rattle.std.proofs.lemmas.Bool.{both_ways, cases_eq, eq-eqb}
 use Rattle.std.proofs.lemmas.List.{append_assoc, get_or-set_other, length-map, map-set, set-get_or}
 use Rattle.std.proofs.lemmas.Option.{same_Some, slice_get-get_or}
 use Rattle.fc_card.specs.{rank_of}
-use Rattle.fc_board.proofs.AmongLemmas.{AllAmong, among_right, Clears, highest, IsInReach}
-use Rattle.fc_board.proofs.AmongLemmas.{last_split, newly, newly_few, only_one, tail_empty}
-use Rattle.fc_board.proofs.BaseLemmas.{holds_all, stays_low}
+use Rattle.fc_board.proofs.AmongLemmas.{AllAmong, among_right, Clears, highest, IsInReach, last_split, newly, newly_few}
+use Rattle.fc_board.proofs.{AmongLemmas.{only_one, tail_empty}, BaseLemmas.{holds_all, stays_low}}
 use Rattle.fc_board.proofs.BasesMoved.{first_put, first_taken, Taken}
 use Rattle.fc_board.proofs.ColumnFates.{from_it, grows_or_shrinks, stays_there, to_it}
 use Rattle.fc_board.proofs.DeckLemmas.{inside_columns, sizes_taken, split_last, stays_well_formed}
 use Rattle.fc_board.proofs.MovedCard.{lies_in_cell, lies_in_column, other_cells, other_columns}
-use Rattle.fc_board.proofs.RunLemmas.{lower_in_run, neighbours, same_by_rank}
-use Rattle.fc_board.proofs.StandLemmas.{bases, first_card, head_at, heads, heads_empty, Holds}
-use Rattle.fc_board.proofs.StandLemmas.{reach_of, same_columns, Setting, Stands, Support, support}
-use Rattle.fc_board.proofs.StandLemmas.Stands.{first_there, in_cell, on_it}
-use Rattle.fc_board.specs.{Boards.{Board}, Games.{Builds, Fills, Game}}
-use Rattle.fc_board.specs.Steps.{after_move, after_taking, Among, card_at, cell_at, column_at}
-use Rattle.fc_board.specs.Steps.{Confined, is_same_pile, IsOpenPlace, IsOpenSource, last_card}
-use Rattle.fc_board.specs.Steps.{MayFollow, put_on, Step, taken_from, without_last}
-use Rattle.fc_board.specs.laws.ListWords.{IsRun, MovesPlay}
-use Rattle.fc_board.specs.declared.moves.Move.{Move}
-use Rattle.fc_board.specs.declared.moves.Place.{Place}
-use Rattle.fc_board.specs.declared.moves.Place.TheVariants.{Cell as ToCell, Column as ToColumn}
-use Rattle.fc_board.specs.declared.moves.Place.TheVariants.{Home}
-use Rattle.fc_board.specs.declared.moves.Source.{Source}
+use Rattle.fc_board.proofs.{RunLemmas.{lower_in_run, neighbours, same_by_rank}, StandLemmas.{bases, first_card}}
+use Rattle.fc_board.proofs.StandLemmas.{head_at, heads, heads_empty, Holds, reach_of, same_columns, Setting, Stands}
+use Rattle.fc_board.{proofs.StandLemmas.{Stands.{first_there, in_cell, on_it}, Support, support}, specs.Boards.{Board}}
+use Rattle.fc_board.specs.{Games.{Builds, Fills, Game}, laws.ListWords.{IsRun, MovesPlay}, Steps.{after_move}}
+use Rattle.fc_board.specs.Steps.{after_taking, Among, card_at, cell_at, column_at, Confined, is_same_pile, IsOpenPlace}
+use Rattle.fc_board.specs.Steps.{IsOpenSource, last_card, MayFollow, put_on, Step, taken_from, without_last}
+use Rattle.fc_board.specs.declared.moves.{Move.{Move}, Place.{Place}}
+use Rattle.fc_board.specs.declared.moves.{Place.TheVariants.{Cell as ToCell, Column as ToColumn, Home}, Source.{Source}}
 use Rattle.fc_board.specs.declared.moves.Source.TheVariants.{Cell as FromCell, Column as FromColumn}
 
 among_split : (x : ℕ) (xs : List ℕ) → Among x xs → (before follows : List ℕ) × (xs ≡ before ++ x ∷ follows)

@@ -1,28 +1,18 @@
 -- Lemmas on what is wrong with a deck, by how often each card was counted.
 use Rattle.arrayvec.specs.ArrayVec.{ArrayVec}
-use Rattle.std.proofs.Common.{◌&&◌, ◌++◌, ◌+◌, ◌<◌, ◌==◌, ◌∙◌, ◌∷◌, ◌≡◌, ◌≤◌, ◌⊎◌, [], All, ap}
-use Rattle.std.proofs.Common.{append-nil, arith, cond, drop, get_or, inl, inr, length, List, map}
-use Rattle.std.proofs.Common.{MatchOption, min, None, Option, refl, slice_index, Some, suc}
-use Rattle.std.proofs.Common.{sym, take, take-append-drop, zero, ℕ}
-use Rattle.std.proofs.lemmas.Bool.{cases_eq, cases_lt}
-use Rattle.std.proofs.lemmas.List.{length-map}
-use Rattle.std.proofs.lemmas.List.Concat.{flat_map-append}
-use Rattle.std.proofs.lemmas.List.Elements.{All-append, All-head, All-tail}
-use Rattle.std.proofs.lemmas.List.Folds.{flat_map-map}
-use Rattle.std.specs.List.{flat_map}
-use Rattle.std.specs.Option.{IsNone, option_to_list}
-use Rattle.std.specs.Prelude.{nat_le}
-use Rattle.fc_card.proofs.CardSetLemmas.{AreCounted, AreCounted-append, AreCountsOf-append}
-use Rattle.fc_card.proofs.CardSetLemmas.{count_of-append}
-use Rattle.fc_card.specs.{AreCountsOf, Counts, CountsEachOnce, CountsUpTo, is_up_to, IsCard, NoCard}
-use Rattle.fc_card.specs.{rank_of, suit_of}
-use Rattle.fc_board.proofs.BoardLemmas.{columns_together, up_to}
-use Rattle.fc_card.specs.{IsLowest}
-use Rattle.fc_board.specs.Boards.{board_of_parts, cards_in_play, is_home, IsDeckFault, IsFaultOf}
-use Rattle.fc_board.specs.{Boards.{IsHeight, IsWellFormed}, Games.{Game}}
+use Rattle.std.proofs.Common.{◌&&◌, ◌++◌, ◌+◌, ◌<◌, ◌==◌, ◌∙◌, ◌∷◌, ◌≡◌, ◌≤◌, ◌⊎◌, [], All, ap, append-nil, arith, cond}
+use Rattle.std.proofs.Common.{drop, get_or, inl, inr, length, List, map, MatchOption, min, None, Option, refl}
+use Rattle.std.proofs.Common.{slice_index, Some, suc, sym, take, take-append-drop, zero, ℕ}
+use Rattle.std.proofs.lemmas.{Bool.{cases_eq, cases_lt}, List.Concat.{flat_map-append}}
+use Rattle.std.proofs.lemmas.List.{Elements.{All-append, All-head, All-tail}, Folds.{flat_map-map}, length-map}
+use Rattle.std.specs.{List.{flat_map}, Option.{IsNone, option_to_list}, Prelude.{nat_le}}
+use Rattle.fc_card.proofs.CardSetLemmas.{AreCounted, AreCounted-append, AreCountsOf-append, count_of-append}
+use Rattle.fc_card.specs.{AreCountsOf, Counts, CountsEachOnce, CountsUpTo, is_up_to, IsCard, IsLowest, NoCard, rank_of}
+use Rattle.fc_card.specs.{suit_of}
+use Rattle.fc_board.{proofs.BoardLemmas.{columns_together, up_to}, specs.Boards.{board_of_parts, cards_in_play}}
+use Rattle.fc_board.specs.{Boards.{is_home, IsDeckFault, IsFaultOf, IsHeight, IsWellFormed}, Games.{Game}}
 use Rattle.fc_board.specs.inside.{board_of_laid, CountsHome, EachOnce, times_on_board}
-use Rattle.fc_board.specs.declared.fault.DeckFault.{DeckFault}
-use Rattle.fc_board.specs.declared.fault.DeckFault.TheVariants.{MissingCard, RepeatedCard}
+use Rattle.fc_board.specs.declared.fault.DeckFault.{DeckFault, TheVariants.{MissingCard, RepeatedCard}}
 
 -- the lowest card with one property is that with any other that the same cards have
 IsLowest-same : (P Q : ℕ → Type 0) (card : ℕ) → ((other : ℕ) → IsCard other → P other → Q other) → ((other : ℕ) → IsCard other → Q other → P other)

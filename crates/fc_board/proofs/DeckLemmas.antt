@@ -1,31 +1,19 @@
 -- A step takes one card from where it is and puts it elsewhere, so each card of the deck stays in one place.
-use Rattle.std.proofs.Common.{◌%◌, ◌++◌, ◌+◌, ◌-◌, ◌/◌, ◌<◌, ◌∙◌, ◌∷◌, ◌≡◌, [], All, ap, arith}
-use Rattle.std.proofs.Common.{cond, eqb, get_or, inl, inr, leb, length, List, None, Option, refl}
-use Rattle.std.proofs.Common.{set, slice_index, Some, subst, suc, sym, zero, ℕ}
-use Rattle.std.proofs.lemmas.Bool.{cases_eq, cases_lt}
-use Rattle.std.proofs.lemmas.Bool.Decides.{nat_tests}
-use Rattle.std.proofs.lemmas.List.{get_or-set_other, get_or-set_same, get_or_past, length-set}
-use Rattle.std.proofs.lemmas.List.{take_all, take_more}
-use Rattle.std.proofs.lemmas.List.Elements.{All-append, All-cons, All-get_or, All-head, All-nil}
-use Rattle.std.proofs.lemmas.List.Elements.{All-push, All-set, All-tail, All-take}
-use Rattle.std.proofs.lemmas.List.Sums.{sum_by-cons, sum_by-set}
-use Rattle.std.proofs.lemmas.Option.{get_or_from_slice_get, slice_get_within}
-use Rattle.std.specs.List.{flat_map, sum_by}
+use Rattle.std.proofs.Common.{◌%◌, ◌++◌, ◌+◌, ◌-◌, ◌/◌, ◌<◌, ◌∙◌, ◌∷◌, ◌≡◌, [], All, ap, arith, cond, eqb, get_or, inl}
+use Rattle.std.proofs.Common.{inr, leb, length, List, None, Option, refl, set, slice_index, Some, subst, suc, sym, zero}
+use Rattle.std.proofs.{Common.{ℕ}, lemmas.{Bool.{cases_eq, cases_lt, Decides.{nat_tests}}, List.Elements.{All-append}}}
+use Rattle.std.proofs.lemmas.List.Elements.{All-cons, All-get_or, All-head, All-nil, All-push, All-set, All-tail}
+use Rattle.std.proofs.lemmas.List.{Elements.{All-take}, get_or-set_other, get_or-set_same, get_or_past, length-set}
+use Rattle.std.proofs.lemmas.List.{Sums.{sum_by-cons, sum_by-set}, take_all, take_more}
+use Rattle.std.{proofs.lemmas.Option.{get_or_from_slice_get, slice_get_within}, specs.List.{flat_map, sum_by}}
 use Rattle.std.specs.Option.{option_to_list}
-use Rattle.fc_card.specs.{IsCard, rank_of, suit_of}
-use Rattle.fc_board.proofs.BoardLemmas.{count_of-append, in_cells, in_columns}
-use Rattle.fc_board.proofs.StepLemmas.{heights_taken}
-use Rattle.fc_card.specs.{count_of}
-use Rattle.fc_board.specs.Boards.{Board, cards_in_play, count_of_places, is_home, IsHeight}
-use Rattle.fc_board.specs.{Boards.{IsWellFormed}, Games.{Game}, Moves.{PlaceFits}, Steps.{card_at}}
-use Rattle.fc_board.specs.Steps.{cell_at, column_at, height_of, last_card, MayGo, put_on, Step}
-use Rattle.fc_board.specs.Steps.{taken_from, without_last}
-use Rattle.fc_board.specs.laws.ListWords.{IsCell}
-use Rattle.fc_board.specs.declared.moves.Move.{Move}
-use Rattle.fc_board.specs.declared.moves.Place.{Place}
-use Rattle.fc_board.specs.declared.moves.Place.TheVariants.{Cell as ToCell, Column as ToColumn}
-use Rattle.fc_board.specs.declared.moves.Place.TheVariants.{Home}
-use Rattle.fc_board.specs.declared.moves.Source.{Source}
+use Rattle.fc_card.specs.{count_of, IsCard, rank_of, suit_of}
+use Rattle.fc_board.proofs.{BoardLemmas.{count_of-append, in_cells, in_columns}, StepLemmas.{heights_taken}}
+use Rattle.fc_board.specs.Boards.{Board, cards_in_play, count_of_places, is_home, IsHeight, IsWellFormed}
+use Rattle.fc_board.specs.{Games.{Game}, laws.ListWords.{IsCell}, Moves.{PlaceFits}, Steps.{card_at, cell_at}}
+use Rattle.fc_board.specs.Steps.{column_at, height_of, last_card, MayGo, put_on, Step, taken_from, without_last}
+use Rattle.fc_board.specs.declared.moves.{Move.{Move}, Place.{Place}}
+use Rattle.fc_board.specs.declared.moves.{Place.TheVariants.{Cell as ToCell, Column as ToColumn, Home}, Source.{Source}}
 use Rattle.fc_board.specs.declared.moves.Source.TheVariants.{Cell as FromCell, Column as FromColumn}
 
 -- ---- the number of parts stays

@@ -1,10 +1,9 @@
 -- Moves of every game are moves of Eight Off.
 use Rattle.std.proofs.{Common.{◌≤◌, arith}, lemmas.List.Elements.{All-weaker}}
-use Rattle.fc_board.specs.{Games.{eight_off, Game}, Moves.{Fits, ListFits, MoveList, OneCard}}
-use Rattle.fc_board.specs.Moves.{PlaceFits, RunFits, Runs, SourceFits}
-use Rattle.fc_board.specs.declared.moves.{Move.{Move}, Place.{Place, TheVariants.{Cell as ToCell}}}
-use Rattle.fc_board.specs.declared.moves.Place.TheVariants.{Column as ToColumn, Home}
-use Rattle.fc_board.specs.declared.moves.Source.{Source}
+use Rattle.fc_board.specs.Games.{eight_off, Game}
+use Rattle.fc_board.specs.Moves.{Fits, ListFits, MoveList, OneCard, PlaceFits, RunFits, Runs, SourceFits}
+use Rattle.fc_board.specs.declared.moves.{Move.{Move}, Place.{Place}}
+use Rattle.fc_board.specs.declared.moves.{Place.TheVariants.{Cell as ToCell, Column as ToColumn, Home}, Source.{Source}}
 use Rattle.fc_board.specs.declared.moves.Source.TheVariants.{Cell as FromCell, Column as FromColumn}
 use Rattle.fc_board.specs.declared.run_move.RunMove.{RunMove, TheVariants.{One, Run}}
 

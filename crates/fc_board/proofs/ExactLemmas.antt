@@ -1,26 +1,18 @@
 -- Capacity is exact: up to it the expansion takes the run over, and beyond it no confined list does.
-use Rattle.std.proofs.Common.{◌&&◌, ◌*◌, ◌++◌, ◌+◌, ◌-◌, ◌<◌, ◌^◌, ◌||◌, ◌↔◌, ◌∙◌, ◌∷◌, ◌≡◌, ◌≢◌}
-use Rattle.std.proofs.Common.{◌≤◌, [], ap, arith, Bool, cond, drop, eqb, false, inl, inr, length}
-use Rattle.std.proofs.Common.{List, not, refl, set, Some, subst, suc, sym, take, true, zero, ℕ}
-use Rattle.std.proofs.lemmas.Bool.{cases_eq, cases_lt, eqb-true}
-use Rattle.std.proofs.lemmas.Bool.Decides.{nat_tests}
-use Rattle.std.proofs.lemmas.List.{drop_at, ext_get_or, get_or-set_other, get_or-set_same}
-use Rattle.std.proofs.lemmas.List.{length-append, length-set, take_at}
-use Rattle.std.specs.List.{filter, range_with_len}
+use Rattle.std.proofs.Common.{◌&&◌, ◌*◌, ◌++◌, ◌+◌, ◌-◌, ◌<◌, ◌^◌, ◌||◌, ◌↔◌, ◌∙◌, ◌∷◌, ◌≡◌, ◌≢◌, ◌≤◌, [], ap, arith}
+use Rattle.std.proofs.Common.{Bool, cond, drop, eqb, false, inl, inr, length, List, not, refl, set, Some, subst, suc}
+use Rattle.std.proofs.{Common.{sym, take, true, zero, ℕ}, lemmas.Bool.{cases_eq, cases_lt, Decides.{nat_tests}}}
+use Rattle.std.proofs.lemmas.{Bool.{eqb-true}, List.{drop_at, ext_get_or, get_or-set_other, get_or-set_same}}
+use Rattle.std.{proofs.lemmas.List.{length-append, length-set, take_at}, specs.List.{filter, range_with_len}}
 use Rattle.std.specs.Option.{is_none}
-use Rattle.fc_card.specs.{places}
-use Rattle.fc_board.proofs.BoardLemmas.{parts_same}
-use Rattle.fc_board.proofs.CapacityLemmas.{first_stays_put}
-use Rattle.fc_board.proofs.ExpansionLemmas.{AreApart, expands, IsEnough}
-use Rattle.fc_board.proofs.ExpansionSteps.{Moved}
-use Rattle.fc_board.proofs.RunLemmas.{BuildsByRank, not_empty}
+use Rattle.{fc_board.specs.declared.moves.Move.{Move}, fc_card.specs.{places}}
+use Rattle.fc_board.proofs.{BoardLemmas.{parts_same}, CapacityLemmas.{first_stays_put}}
+use Rattle.fc_board.proofs.{ExpansionLemmas.{AreApart, expands, IsEnough}, ExpansionSteps.{Moved}}
+use Rattle.fc_board.proofs.{RunLemmas.{BuildsByRank, not_empty}, StepLemmas.{nothing_there}}
 use Rattle.fc_board.specs.{Boards.{Board, IsWellFormed}, Games.{Builds, Fills, Game, is_king}}
-use Rattle.fc_board.specs.{Moves.{expansion}, Steps.{Among, capacity, cell_at, column_at, Confined}}
-use Rattle.fc_board.specs.Steps.{free_cells, is_helper, last_card, MayFollow, run_moved}
+use Rattle.fc_board.specs.{laws.ListWords.{IsRun, MovesPlay}, Moves.{expansion}, Steps.{Among, capacity, cell_at}}
+use Rattle.fc_board.specs.Steps.{column_at, Confined, free_cells, is_helper, last_card, MayFollow, run_moved}
 use Rattle.fc_board.specs.Steps.{spare_columns}
-use Rattle.fc_board.specs.laws.ListWords.{IsRun, MovesPlay}
-use Rattle.fc_board.specs.declared.moves.Move.{Move}
-use Rattle.fc_board.proofs.StepLemmas.{nothing_there}
 
 -- ---- what is filtered from the places
 

@@ -1,20 +1,15 @@
 -- An expansion is legal and confined, and takes the run over.
-use Rattle.std.proofs.Common.{◌*◌, ◌++◌, ◌+◌, ◌-◌, ◌<◌, ◌^◌, ◌∙◌, ◌∷◌, ◌≡◌, ◌≢◌, ◌≤◌, ◌⊎◌, [], ap}
-use Rattle.std.proofs.Common.{arith, cond, drop, get_or, inl, inr, leb, length, List, None, refl}
-use Rattle.std.proofs.Common.{set, Some, subst, suc, sym, take, zero, ℕ}
-use Rattle.std.proofs.lemmas.{Bool.{cases_eq, cases_lt, Decides.{nat_tests}}, List.{append_assoc}}
-use Rattle.std.proofs.lemmas.List.{get_or-set_other, get_or-set_same, length-append, length-take}
-use Rattle.std.proofs.lemmas.List.{set-get_or, set-set, take_all}
-use Rattle.std.proofs.Math.Nat.{mul_assoc, mul_comm, pow-succ'}
+use Rattle.std.proofs.Common.{◌*◌, ◌++◌, ◌+◌, ◌-◌, ◌<◌, ◌^◌, ◌∙◌, ◌∷◌, ◌≡◌, ◌≢◌, ◌≤◌, ◌⊎◌, [], ap, arith, cond, drop}
+use Rattle.std.proofs.Common.{get_or, inl, inr, leb, length, List, None, refl, set, Some, subst, suc, sym, take, zero}
+use Rattle.std.proofs.{Common.{ℕ}, lemmas.{Bool.{cases_eq, cases_lt, Decides.{nat_tests}}, List.{append_assoc}}}
+use Rattle.std.proofs.lemmas.List.{get_or-set_other, get_or-set_same, length-append, length-take, set-get_or, set-set}
+use Rattle.std.proofs.{lemmas.List.{take_all}, Math.Nat.{mul_assoc, mul_comm, pow-succ'}}
 use Rattle.fc_board.proofs.AmongLemmas.{AllAmong, among_left, among_right}
-use Rattle.fc_board.proofs.ExpansionSteps.{across, away, back, last_pushed, Moved, Route, route_of}
-use Rattle.fc_board.proofs.{ExpansionSteps.{route_then}, RunLemmas.{run_after}}
-use Rattle.fc_board.specs.{Boards.{Board, IsWellFormed}, Games.{Builds, Fills, Game}}
-use Rattle.fc_board.specs.laws.ListWords.{IsRun}
-use Rattle.fc_board.specs.Moves.{expansion, half, move_between, over_cells}
+use Rattle.fc_board.proofs.ExpansionSteps.{across, away, back, last_pushed, Moved, Route, route_of, route_then}
+use Rattle.fc_board.{proofs.RunLemmas.{run_after}, specs.{Boards.{Board, IsWellFormed}, Games.{Builds, Fills, Game}}}
+use Rattle.fc_board.specs.{laws.ListWords.{IsRun}, Moves.{expansion, half, move_between, over_cells}}
 use Rattle.fc_board.specs.Steps.{Among, cell_at, column_at, IsOpenColumn, last_card, MayFollow}
-use Rattle.fc_board.specs.declared.moves.Move.{Move}
-use Rattle.fc_board.specs.declared.moves.Place.TheVariants.{Cell as ToCell, Column as ToColumn}
+use Rattle.fc_board.specs.declared.moves.{Move.{Move}, Place.TheVariants.{Cell as ToCell, Column as ToColumn}}
 use Rattle.fc_board.specs.declared.moves.Source.TheVariants.{Cell as FromCell, Column as FromColumn}
 
 -- ---- lists from their ends

@@ -1,19 +1,13 @@
 -- Single moves of an expansion, and what a run that was moved leaves.
-use Rattle.std.proofs.Common.{◌++◌, ◌-◌, ◌<◌, ◌∙◌, ◌∷◌, ◌≡◌, ◌≢◌, [], ap, arith, eqb, false, length}
-use Rattle.std.proofs.Common.{List, None, refl, set, Some, sym, ℕ}
-use Rattle.std.proofs.lemmas.Bool.Decides.{nat_tests}
-use Rattle.std.proofs.lemmas.List.{append_cancel_right, get_or_push, length_push}
-use Rattle.std.proofs.lemmas.Option.{slice_get-get_or}
-use Rattle.fc_board.proofs.DeckLemmas.{stays_well_formed}
-use Rattle.fc_board.proofs.ListLemmas.{played_after}
+use Rattle.std.proofs.Common.{◌++◌, ◌-◌, ◌<◌, ◌∙◌, ◌∷◌, ◌≡◌, ◌≢◌, [], ap, arith, eqb, false, length, List, None, refl}
+use Rattle.std.proofs.{Common.{set, Some, sym, ℕ}, lemmas.Bool.Decides.{nat_tests}}
+use Rattle.std.proofs.lemmas.{List.{append_cancel_right, get_or_push, length_push}, Option.{slice_get-get_or}}
+use Rattle.fc_board.proofs.{DeckLemmas.{stays_well_formed}, ListLemmas.{played_after}}
 use Rattle.fc_board.proofs.MovedCard.{left_in_column, lies_in_column, other_columns}
-use Rattle.fc_board.specs.{Boards.{Board, IsWellFormed}, Games.{Game}, Moves.{move_between}}
-use Rattle.fc_board.specs.Steps.{after_move, after_taking, Among, cell_at, column_at, Confined}
-use Rattle.fc_board.specs.Steps.{IsOpenPlace, IsOpenSource, last_card, MayFollow, put_on, Step}
-use Rattle.fc_board.specs.Steps.{taken_from}
-use Rattle.fc_board.specs.laws.ListWords.{MovesPlay}
-use Rattle.fc_board.specs.declared.moves.Move.{Move}
-use Rattle.fc_board.specs.declared.moves.Place.TheVariants.{Cell as ToCell, Column as ToColumn}
+use Rattle.fc_board.specs.{Boards.{Board, IsWellFormed}, Games.{Game}, laws.ListWords.{MovesPlay}, Moves.{move_between}}
+use Rattle.fc_board.specs.Steps.{after_move, after_taking, Among, cell_at, column_at, Confined, IsOpenPlace}
+use Rattle.fc_board.specs.Steps.{IsOpenSource, last_card, MayFollow, put_on, Step, taken_from}
+use Rattle.fc_board.specs.declared.moves.{Move.{Move}, Place.TheVariants.{Cell as ToCell, Column as ToColumn}}
 use Rattle.fc_board.specs.declared.moves.Source.TheVariants.{Cell as FromCell, Column as FromColumn}
 
 pub last_pushed : (column : List ℕ) (card : ℕ) → last_card (column ++ card ∷ []) ≡ Some card

@@ -1,28 +1,20 @@
 -- The image of a move under orders of the columns and cells: it takes and puts what the move did.
-use Rattle.std.proofs.Common.{◌&&◌, ◌<◌, ◌==◌, ◌∙◌, ◌≡◌, [], All, ap, ap₂, arith, Bool, get_or}
-use Rattle.std.proofs.Common.{length, List, ltb, None, Option, refl, slice_index, sym, true, ℕ}
+use Rattle.std.proofs.Common.{◌&&◌, ◌<◌, ◌==◌, ◌∙◌, ◌≡◌, [], All, ap, ap₂, arith, Bool, get_or, length, List, ltb, None}
+use Rattle.std.proofs.Common.{Option, refl, slice_index, sym, true, ℕ}
 use Rattle.std.proofs.lemmas.Bool.{agree_below, agree_below_at, and_parts, eqb-true, ltb-true}
-use Rattle.std.proofs.lemmas.List.{map-id}
-use Rattle.std.proofs.lemmas.List.Elements.{All-map, All-weaker}
-use Rattle.std.proofs.lemmas.List.FromFn.{length-range_with_len}
+use Rattle.std.proofs.lemmas.List.{Elements.{All-map, All-weaker}, FromFn.{length-range_with_len}, map-id}
 use Rattle.std.proofs.lemmas.Simd.{map-map}
-use Rattle.fc_card.proofs.LaneLemmas.{map-agree}
-use Rattle.fc_card.specs.{inverse_order, IsOrder, pick, place_of, places}
-use Rattle.fc_card.specs.laws.OrderLaws.{get_or-pick, inverse_order-IsOrder, length-inverse_order}
-use Rattle.fc_card.specs.laws.OrderLaws.{length-pick, pick-inverse, pick-IsOrder, place_of-IsOrder}
-use Rattle.fc_card.specs.laws.OrderLaws.{places-IsOrder, slice_index-places}
-use Rattle.fc_board.specs.Games.{Game}
+use Rattle.fc_card.{proofs.LaneLemmas.{map-agree}, specs.{inverse_order, IsOrder, laws.OrderLaws.{get_or-pick}}}
+use Rattle.fc_card.specs.laws.OrderLaws.{inverse_order-IsOrder, length-inverse_order, length-pick, pick-inverse}
+use Rattle.fc_card.specs.laws.OrderLaws.{pick-IsOrder, place_of-IsOrder, places-IsOrder, slice_index-places}
+use Rattle.fc_card.specs.{pick, place_of, places}
+use Rattle.fc_board.specs.{Games.{Game}, laws.ListWords.{images, run_images}}
 use Rattle.fc_board.specs.Moves.{both_columns, Fits, move_between, PlaceFits, RunFits, SourceFits}
 use Rattle.fc_board.specs.Passages.{AreOrders, image, run_image, source_image, target_image}
-use Rattle.fc_board.specs.laws.ListWords.{images, run_images}
-use Rattle.fc_board.specs.declared.moves.Move.{Move}
-use Rattle.fc_board.specs.declared.moves.Place.{Place}
-use Rattle.fc_board.specs.declared.moves.Place.TheVariants.{Cell as ToCell, Column as ToColumn}
-use Rattle.fc_board.specs.declared.moves.Place.TheVariants.{Home}
-use Rattle.fc_board.specs.declared.moves.Source.{Source}
+use Rattle.fc_board.specs.declared.moves.{Move.{Move}, Place.{Place}}
+use Rattle.fc_board.specs.declared.moves.{Place.TheVariants.{Cell as ToCell, Column as ToColumn, Home}, Source.{Source}}
 use Rattle.fc_board.specs.declared.moves.Source.TheVariants.{Cell as FromCell, Column as FromColumn}
-use Rattle.fc_board.specs.declared.run_move.RunMove.{RunMove}
-use Rattle.fc_board.specs.declared.run_move.RunMove.TheVariants.{One, Run}
+use Rattle.fc_board.specs.declared.run_move.RunMove.{RunMove, TheVariants.{One, Run}}
 
 -- ---- where an order has a place
 pub place_inside : (order : List ℕ) (count place : ℕ) → IsOrder order → length order ≡ count → place < count → place_of order place < count

@@ -1,15 +1,11 @@
 -- A list of moves and its images, whatever a move is: they play alike, move by move.
-use Rattle.std.proofs.Common.{◌<◌, ◌↔◌, ◌∙◌, ◌∷◌, ◌≡◌, [], ap, ap₂, arith, length, List, map, None}
-use Rattle.std.proofs.Common.{Option, refl, slice_get, slice_index, Some, subst, suc, sym, take}
-use Rattle.std.proofs.Common.{zero, ℕ}
-use Rattle.std.proofs.lemmas.List.{get_or_default, same_lists, take-map}
-use Rattle.std.proofs.lemmas.Option.{same_Some, slice_get-map}
+use Rattle.std.proofs.Common.{◌<◌, ◌↔◌, ◌∙◌, ◌∷◌, ◌≡◌, [], ap, ap₂, arith, length, List, map, None, Option, refl}
+use Rattle.std.proofs.Common.{slice_get, slice_index, Some, subst, suc, sym, take, zero, ℕ}
+use Rattle.std.proofs.lemmas.{List.{get_or_default, same_lists, take-map}, Option.{same_Some, slice_get-map}}
 use Rattle.std.specs.Option.{option_map}
-use Rattle.fc_card.specs.{AllBelow, inverse_order, IsRenaming}
-use Rattle.fc_card.specs.laws.OrderLaws.{get_or-pick, length-pick}
+use Rattle.fc_card.specs.{AllBelow, inverse_order, IsRenaming, laws.OrderLaws.{get_or-pick, length-pick}}
 use Rattle.fc_card.specs.laws.RenamingLaws.{inverse-IsRenaming}
-use Rattle.fc_board.proofs.ListLemmas.{kept_by_all}
-use Rattle.fc_board.proofs.PassageLemmas.{carried-back, inverse-IsPassage}
+use Rattle.fc_board.proofs.{ListLemmas.{kept_by_all}, PassageLemmas.{carried-back, inverse-IsPassage}}
 use Rattle.fc_board.specs.{Boards.{Board, IsWellFormed}, Games.{Game}}
 use Rattle.fc_board.specs.Passages.{carried, inverse_passage, IsPassage, Passage, renamed_heights}
 use Rattle.fc_board.specs.Play.{IsWon, Played, Stops}

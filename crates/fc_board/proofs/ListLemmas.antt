@@ -1,15 +1,13 @@
 -- What holds of lists of moves, whatever a move is: they lead to one board, play one after another, are legal or refused at one place, and the verdict on them is true.
-use Rattle.std.proofs.Common.{◌++◌, ◌+◌, ◌<◌, ◌==◌, ◌↔◌, ◌∙◌, ◌∷◌, ◌≡◌, ◌⊎◌, [], All, ap, ap₂}
-use Rattle.std.proofs.Common.{arith, Bool, false, get_or, if◌then◌else◌, inl, inr, length, List}
-use Rattle.std.proofs.Common.{None, Option, refl, slice_index, Some, subst, suc, sym, take, true}
-use Rattle.std.proofs.{Common.{zero, ℕ}, lemmas.Bool.{eqb-true}}
-use Rattle.std.proofs.lemmas.List.{Elements.{All-get_or, All-head, All-tail}, ext_get_or}
-use Rattle.std.proofs.lemmas.List.{Sums.{AllPass-from_list_all}, take_more}
-use Rattle.std.{proofs.lemmas.Option.{same_Some, slice_get-get_or}, specs.List.{list_all}}
+use Rattle.std.proofs.Common.{◌++◌, ◌+◌, ◌<◌, ◌==◌, ◌↔◌, ◌∙◌, ◌∷◌, ◌≡◌, ◌⊎◌, [], All, ap, ap₂, arith, Bool, false}
+use Rattle.std.proofs.Common.{get_or, if◌then◌else◌, inl, inr, length, List, None, Option, refl, slice_index, Some}
+use Rattle.std.proofs.{Common.{subst, suc, sym, take, true, zero, ℕ}, lemmas.Bool.{eqb-true}}
+use Rattle.std.proofs.lemmas.List.{Elements.{All-get_or, All-head, All-tail}, ext_get_or, Sums.{AllPass-from_list_all}}
+use Rattle.std.{proofs.lemmas.{List.{take_more}, Option.{same_Some, slice_get-get_or}}, specs.List.{list_all}}
 use Rattle.std.specs.Prelude.{Err, IfErr, IfOk, IsOk, Ok, Result}
-use Rattle.fc_board.{proofs.WonLemmas.{won_height}, specs.Boards.{Board, IsWellFormed}}
-use Rattle.fc_board.specs.{Games.{Game}, Play.{by_first, has_all_home, IsWon, one_later, OnlyLegal}}
-use Rattle.fc_board.specs.Play.{Played, Refused, Stops, Verdict, verdict_by, Won}
+use Rattle.fc_board.{proofs.WonLemmas.{won_height}, specs.{Boards.{Board, IsWellFormed}, Games.{Game}, Play.{by_first}}}
+use Rattle.fc_board.specs.Play.{has_all_home, IsWon, one_later, OnlyLegal, Played, Refused, Stops, Verdict, verdict_by}
+use Rattle.fc_board.specs.Play.{Won}
 use Rattle.fc_board.specs.declared.fault.{PlayFault.{PlayFault}, StepFault.{StepFault}}
 
 -- ---- one list after another

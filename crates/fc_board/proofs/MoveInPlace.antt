@@ -1,28 +1,19 @@
 -- A run is taken over on the columns as they lie in memory.
-use Rattle.std.proofs.Common.{◌++◌, ◌+◌, ◌-◌, ◌<◌, ◌∙◌, ◌∷◌, ◌≡◌, ◌≢◌, ◌≤◌, [], ap, arith, Bool}
-use Rattle.std.proofs.Common.{drop, get_or, length, length-take-le, List, None, Option, refl, set}
-use Rattle.std.proofs.Common.{Some, subst, sym, take, ℕ}
+use Rattle.std.proofs.Common.{◌++◌, ◌+◌, ◌-◌, ◌<◌, ◌∙◌, ◌∷◌, ◌≡◌, ◌≢◌, ◌≤◌, [], ap, arith, Bool, drop, get_or, length}
+use Rattle.std.proofs.Common.{length-take-le, List, None, Option, refl, set, Some, subst, sym, take, ℕ}
+use Rattle.std.proofs.lemmas.{List.{drop-set-lt, length-drop, length_push}, Option.{same_Some}}
 use Rattle.std.proofs.Math.Seq.{take-set-lt}
-use Rattle.std.proofs.lemmas.List.{drop-set-lt, get_or-set_other, length-drop, length_push}
-use Rattle.std.proofs.lemmas.Option.{same_Some}
-use Rattle.fc_board.proofs.BoardLemmas.{columns_together, size_of-set}
-use Rattle.fc_board.proofs.DeckLemmas.{sizes_taken, stays_well_formed}
+use Rattle.fc_board.proofs.{BoardLemmas.{columns_together, size_of-set}, DeckLemmas.{sizes_taken, stays_well_formed}}
 use Rattle.fc_board.proofs.RunPlayLemmas.{token_keeps}
 use Rattle.fc_board.proofs.RunStepLemmas.{longest_few, not_refused_exactly, token_counted}
-use Rattle.fc_board.proofs.StepLemmas.{heights_taken, step_of}
-use Rattle.fc_board.specs.{Boards.{Board, IsWellFormed}, Games.{Game, RuleLaws}}
-use Rattle.fc_board.specs.{Moves.{Fits, PlaceFits, RunFits, SourceFits}, Steps.{card_at, column_at}}
-use Rattle.fc_board.specs.Steps.{last_cards, MayGo, moved_count, put_on, refusal, run_moved}
-use Rattle.fc_board.specs.Steps.{run_refusal, RunStep, Step, taken_from}
-use Rattle.fc_board.specs.inside.{board_with, HasRoomAt, size_of}
-use Rattle.fc_board.specs.declared.moves.Move.{Move}
-use Rattle.fc_board.specs.declared.moves.Place.{Place}
-use Rattle.fc_board.specs.declared.moves.Place.TheVariants.{Cell as ToCell, Column as ToColumn}
-use Rattle.fc_board.specs.declared.moves.Place.TheVariants.{Home}
-use Rattle.fc_board.specs.declared.moves.Source.{Source}
+use Rattle.fc_board.{proofs.StepLemmas.{heights_taken, step_of}, specs.Boards.{Board, IsWellFormed}}
+use Rattle.fc_board.specs.{Games.{Game, RuleLaws}, inside.{HasRoomAt, size_of}}
+use Rattle.fc_board.specs.{Moves.{Fits, PlaceFits, RunFits, SourceFits}, Steps.{card_at, column_at, last_cards, MayGo}}
+use Rattle.fc_board.specs.Steps.{moved_count, put_on, refusal, run_moved, run_refusal, RunStep, Step, taken_from}
+use Rattle.fc_board.specs.declared.moves.{Move.{Move}, Place.{Place}}
+use Rattle.fc_board.specs.declared.moves.{Place.TheVariants.{Cell as ToCell, Column as ToColumn, Home}, Source.{Source}}
 use Rattle.fc_board.specs.declared.moves.Source.TheVariants.{Cell as FromCell, Column as FromColumn}
-use Rattle.fc_board.specs.declared.run_move.RunMove.{RunMove}
-use Rattle.fc_board.specs.declared.run_move.RunMove.TheVariants.{Run}
+use Rattle.fc_board.specs.declared.run_move.RunMove.{RunMove, TheVariants.{Run}}
 
 -- ---- what is known of a move that nothing refuses
 pub record GoesOver (game : Game) (board : Board) (token : RunMove) (from to count : ℕ) : Type 0 where
@@ -62,20 +53,6 @@ room_over columns from count run inside there few is =
     let rest = take (length column - count) column in
     let long = ap length is in
     omega (arith, size_of-set columns from rest inside, length-take-le (length column - count) column (omega arith), length-drop (length column - count) column, long)
-
-pub taken_over : (columns : List (List ℕ)) (from to count i j : ℕ) → from ≢ to → i ≡ from → j ≡ to → (run : List ℕ) →
-    run ≡ last_cards count (get_or columns from []) → (heights : List ℕ) (cells : List (Option ℕ)) → board_with heights cells
-    (set (set columns i (take (length (get_or columns i []) - count) (get_or columns i []))) j
-    (get_or (set columns i (take (length (get_or columns i []) - count) (get_or columns i []))) j [] ++ run))
-    ≡ run_moved (board_with heights cells columns) from to count
-taken_over columns from to count i j apart at_from at_to run is heights cells =
-    let rest = take (length (get_or columns from []) - count) (get_or columns from []) in
-    let other : to ≢ from = λ same. apart (sym same) in
-    (λ k. board_with heights cells
-    (set (set columns (at_from k) (take (length (get_or columns (at_from k) []) - count) (get_or columns (at_from k) []))) (at_to k)
-    (get_or (set columns (at_from k) (take (length (get_or columns (at_from k) []) - count) (get_or columns (at_from k) []))) (at_to k) [] ++ is k)))
-    ∙ ap (λ before. board_with heights cells (set (set columns from rest) to (before ++ last_cards count (get_or columns from []))))
-    (get_or-set_other columns from to rest [] other)
 
 -- ---- the game's part of what lies in memory
 

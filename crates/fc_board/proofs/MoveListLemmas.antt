@@ -1,15 +1,11 @@
 -- What holds of lists of moves in either form.
-use Rattle.std.proofs.Common.{◌↔◌, ◌≡◌, ◌⊎◌, Bool, false, if◌then◌else◌, IsTrue, length, List, refl}
-use Rattle.std.proofs.Common.{true, ℕ}
-use Rattle.fc_board.proofs.AlikeLemmas.{carries-PlaysAlike}
-use Rattle.fc_board.proofs.ListLemmas.{allowed-exactly, legal_not_refused, legal_or_refused}
-use Rattle.fc_board.proofs.ListLemmas.{one_end, one_refusal, refused-exactly, verdict-OnlyLegal}
-use Rattle.fc_board.proofs.ListLemmas.{verdict-Wins, won-exactly}
-use Rattle.fc_board.proofs.RunPlayLemmas.{one_card, several}
+use Rattle.std.proofs.Common.{◌↔◌, ◌≡◌, ◌⊎◌, Bool, false, if◌then◌else◌, IsTrue, length, List, refl, true, ℕ}
+use Rattle.fc_board.proofs.{AlikeLemmas.{carries-PlaysAlike}, ListLemmas.{allowed-exactly, legal_not_refused}}
+use Rattle.fc_board.proofs.ListLemmas.{legal_or_refused, one_end, one_refusal, refused-exactly, verdict-OnlyLegal}
+use Rattle.fc_board.proofs.{ListLemmas.{verdict-Wins, won-exactly}, RunPlayLemmas.{one_card, several}}
 use Rattle.fc_board.specs.{Boards.{Board, IsWellFormed}, Games.{Game, RuleLaws}}
-use Rattle.fc_board.specs.Moves.{list_image, ListFits, MoveList, OneCard, Runs}
-use Rattle.fc_board.specs.{Passages.{Carries, Passage}, Play.{IsWon, Legal, list_verdict}}
-use Rattle.fc_board.specs.Play.{OnlyLegal, Plays, Refused, RefusedAt, Wins, Won}
+use Rattle.fc_board.specs.{Moves.{list_image, ListFits, MoveList, OneCard, Runs}, Passages.{Carries, Passage}}
+use Rattle.fc_board.specs.Play.{IsWon, Legal, list_verdict, OnlyLegal, Plays, Refused, RefusedAt, Wins, Won}
 use Rattle.fc_board.specs.declared.fault.StepFault.{StepFault}
 
 module _ (game : Game) where

@@ -1,19 +1,14 @@
 -- A step takes a card from one pile and puts it on another, and leaves every other pile as it is.
-use Rattle.std.proofs.Common.{◌++◌, ◌+◌, ◌<◌, ◌∙◌, ◌∷◌, ◌≡◌, ◌≢◌, [], ap, arith, eqb, false, length}
-use Rattle.std.proofs.Common.{None, refl, slice_index, Some, sym, ℕ}
-use Rattle.std.proofs.lemmas.Bool.{both_ways, eq-eqb}
+use Rattle.std.proofs.Common.{◌++◌, ◌+◌, ◌<◌, ◌∙◌, ◌∷◌, ◌≡◌, ◌≢◌, [], ap, arith, eqb, false, length, None, refl}
+use Rattle.std.proofs.{Common.{slice_index, Some, sym, ℕ}, lemmas.Bool.{both_ways, eq-eqb}}
 use Rattle.std.proofs.lemmas.List.{get_or-set_other, get_or-set_same}
 use Rattle.fc_card.specs.{rank_of, suit_of}
 use Rattle.fc_board.proofs.DeckLemmas.{inside_cells, inside_columns, sizes_taken, split_last}
-use Rattle.fc_board.proofs.StepLemmas.{heights_taken}
-use Rattle.fc_board.specs.{Boards.{Board, IsWellFormed}, Games.{Game}}
-use Rattle.fc_board.specs.Steps.{card_at, cell_at, column_at, height_of, is_same_pile, put_on, Step}
-use Rattle.fc_board.specs.Steps.{taken_from, without_last}
-use Rattle.fc_board.specs.declared.moves.Move.{Move}
-use Rattle.fc_board.specs.declared.moves.Place.{Place}
-use Rattle.fc_board.specs.declared.moves.Place.TheVariants.{Cell as ToCell, Column as ToColumn}
-use Rattle.fc_board.specs.declared.moves.Place.TheVariants.{Home}
-use Rattle.fc_board.specs.declared.moves.Source.{Source}
+use Rattle.fc_board.{proofs.StepLemmas.{heights_taken}, specs.{Boards.{Board, IsWellFormed}, Games.{Game}}}
+use Rattle.fc_board.specs.Steps.{card_at, cell_at, column_at, height_of, is_same_pile, put_on, Step, taken_from}
+use Rattle.fc_board.specs.Steps.{without_last}
+use Rattle.fc_board.specs.declared.moves.{Move.{Move}, Place.{Place}}
+use Rattle.fc_board.specs.declared.moves.{Place.TheVariants.{Cell as ToCell, Column as ToColumn, Home}, Source.{Source}}
 use Rattle.fc_board.specs.declared.moves.Source.TheVariants.{Cell as FromCell, Column as FromColumn}
 
 -- ---- the piles after a card is put

@@ -1,19 +1,14 @@
 -- The places that pass a test, found one by one.
-use Rattle.std.proofs.Common.{◌%◌, ◌&&◌, ◌*◌, ◌++◌, ◌+◌, ◌<◌, ◌^◌, ◌||◌, ◌∙◌, ◌∷◌, ◌≡◌, ◌≤◌, [], ap}
-use Rattle.std.proofs.Common.{arith, Bool, cond, eqb, false, inl, inr, length, List, None, not}
-use Rattle.std.proofs.Common.{Option, refl, Some, suc, sym, true, zero, ℕ}
-use Rattle.std.proofs.Math.Nat.{mul-le-mul, pow-le-pow_right}
-use Rattle.std.proofs.lemmas.Bool.{cases_eq}
-use Rattle.std.proofs.lemmas.Bool.Decides.{nat_tests}
-use Rattle.std.proofs.lemmas.List.Elements.{filter-append}
+use Rattle.std.proofs.Common.{◌%◌, ◌&&◌, ◌*◌, ◌++◌, ◌+◌, ◌<◌, ◌^◌, ◌||◌, ◌∙◌, ◌∷◌, ◌≡◌, ◌≤◌, [], ap, arith, Bool, cond}
+use Rattle.std.proofs.Common.{eqb, false, inl, inr, length, List, None, not, Option, refl, Some, suc, sym, true, zero}
+use Rattle.std.proofs.{Common.{ℕ}, lemmas.{Bool.{cases_eq, Decides.{nat_tests}}, List.Elements.{filter-append}}}
 use Rattle.std.proofs.lemmas.List.FromFn.{length-range_with_len}
 use Rattle.std.proofs.lemmas.List.Sums.{count_by-le-length, length-filter, sum_by-cons}
-use Rattle.std.specs.List.{count_by, filter, range_with_len}
+use Rattle.std.{proofs.Math.Nat.{mul-le-mul, pow-le-pow_right}, specs.List.{count_by, filter, range_with_len}}
 use Rattle.std.specs.Option.{is_none, is_some}
-use Rattle.fc_card.proofs.OrderLemmas.{places-more}
-use Rattle.fc_card.specs.{places}
-use Rattle.fc_board.specs.{Boards.{Board}, Games.{Game, is_king}, Steps.{Among, capacity, cell_at}}
-use Rattle.fc_board.specs.Steps.{column_at, free_cells, is_helper, spare_columns}
+use Rattle.fc_card.{proofs.OrderLemmas.{places-more}, specs.{places}}
+use Rattle.fc_board.specs.{Boards.{Board}, Games.{Game, is_king}}
+use Rattle.fc_board.specs.Steps.{Among, capacity, cell_at, column_at, free_cells, is_helper, spare_columns}
 
 pub filter_places_more : (p : ℕ → Bool) (n : ℕ) → filter p (places (n + 1)) ≡ filter p (places n) ++ cond (p n) (n ∷ []) []
 filter_places_more p n = ap (filter p) (places-more n) ∙ filter-append p (places n) (n ∷ [])

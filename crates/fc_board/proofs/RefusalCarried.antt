@@ -1,30 +1,19 @@
 -- Piles renamed and put in another order, and why a game refuses the image of a move.
-use Rattle.std.proofs.Common.{◌+◌, ◌-◌, ◌<◌, ◌==◌, ◌∙◌, ◌≡◌, [], ap, arith, length, List, map, None}
-use Rattle.std.proofs.Common.{Option, refl, set, slice_index_or, Some, sym, ℕ}
-use Rattle.std.proofs.lemmas.List.{get_or-map, length-map, map-set, take-map}
-use Rattle.std.proofs.lemmas.Option.{slice_get-map}
-use Rattle.std.specs.Option.{IfSome, is_none}
-use Rattle.fc_card.proofs.PermutationLemmas.{pick-set, same_place}
-use Rattle.fc_card.specs.{IsCard, IsOrder, IsRenaming, pick, place_of, rank_of, renamed_card}
-use Rattle.fc_card.specs.{suit_of}
-use Rattle.fc_card.specs.laws.RenamingLaws.{rank_of-renamed_card, suit_of-below}
-use Rattle.fc_card.specs.laws.RenamingLaws.{suit_of-renamed_card}
-use Rattle.fc_board.proofs.BoardLemmas.{in_cells, in_columns}
-use Rattle.fc_board.proofs.CarriedLemmas.{height-renamed}
-use Rattle.fc_board.proofs.DeckLemmas.{found_is_card}
-use Rattle.fc_board.proofs.ImageLemmas.{picked_there}
-use Rattle.fc_board.specs.{Boards.{Board, HasAllPiles, IsWellFormed}, Games.{Game}}
-use Rattle.fc_board.specs.{Moves.{Fits, PlaceFits, SourceFits}, Passages.{carried, carried_move}}
-use Rattle.fc_board.specs.Passages.{IsPassage, Passage, renamed_cell, renamed_column, source_image}
-use Rattle.fc_board.specs.{Passages.{target_image}, Steps.{card_at, cell_at, column_at}}
-use Rattle.fc_board.specs.Steps.{column_refusal, fault_unless, found_refusal, height_of}
-use Rattle.fc_board.specs.Steps.{is_same_pile, last_card, place_refusal, refusal, without_last}
-use Rattle.fc_board.specs.declared.fault.StepFault.TheVariants.{NotNext}
-use Rattle.fc_board.specs.declared.moves.Move.{Move}
-use Rattle.fc_board.specs.declared.moves.Place.{Place}
-use Rattle.fc_board.specs.declared.moves.Place.TheVariants.{Cell as ToCell, Column as ToColumn}
-use Rattle.fc_board.specs.declared.moves.Place.TheVariants.{Home}
-use Rattle.fc_board.specs.declared.moves.Source.{Source}
+use Rattle.std.proofs.Common.{◌+◌, ◌-◌, ◌<◌, ◌==◌, ◌∙◌, ◌≡◌, [], ap, arith, length, List, map, None, Option, refl, set}
+use Rattle.std.proofs.{Common.{slice_index_or, Some, sym, ℕ}, lemmas.List.{get_or-map, length-map, map-set, take-map}}
+use Rattle.std.{proofs.lemmas.Option.{slice_get-map}, specs.Option.{IfSome, is_none}}
+use Rattle.fc_card.{proofs.PermutationLemmas.{pick-set, same_place}, specs.{IsCard, IsOrder, IsRenaming}}
+use Rattle.fc_card.specs.laws.RenamingLaws.{rank_of-renamed_card, suit_of-below, suit_of-renamed_card}
+use Rattle.fc_card.specs.{pick, place_of, rank_of, renamed_card, suit_of}
+use Rattle.fc_board.proofs.{BoardLemmas.{in_cells, in_columns}, CarriedLemmas.{height-renamed}}
+use Rattle.fc_board.proofs.{DeckLemmas.{found_is_card}, ImageLemmas.{picked_there}}
+use Rattle.fc_board.specs.{Boards.{Board, HasAllPiles, IsWellFormed}, Games.{Game}, Moves.{Fits, PlaceFits, SourceFits}}
+use Rattle.fc_board.specs.Passages.{carried, carried_move, IsPassage, Passage, renamed_cell, renamed_column}
+use Rattle.fc_board.specs.{Passages.{source_image, target_image}, Steps.{card_at, cell_at, column_at, column_refusal}}
+use Rattle.fc_board.specs.Steps.{fault_unless, found_refusal, height_of, is_same_pile, last_card, place_refusal}
+use Rattle.fc_board.specs.Steps.{refusal, without_last}
+use Rattle.fc_board.specs.declared.{fault.StepFault.TheVariants.{NotNext}, moves.{Move.{Move}, Place.{Place}}}
+use Rattle.fc_board.specs.declared.moves.{Place.TheVariants.{Cell as ToCell, Column as ToColumn, Home}, Source.{Source}}
 use Rattle.fc_board.specs.declared.moves.Source.TheVariants.{Cell as FromCell, Column as FromColumn}
 
 pub set-carried : {U : Type 0} (rename : U → U) (items : List U) (order : List ℕ) (place : ℕ) (item new : U) → rename item ≡ new → IsOrder order →

@@ -1,10 +1,8 @@
 -- The cards of a run have ranks one below the other, so each is known by its rank.
-use Rattle.std.proofs.Common.{◌&&◌, ◌++◌, ◌+◌, ◌-◌, ◌<◌, ◌∙◌, ◌∷◌, ◌≡◌, ◌≤◌, [], ap, ap₂, arith}
-use Rattle.std.proofs.Common.{Bool, cond, drop, false, get_or, inl, inr, length, List, refl, suc}
-use Rattle.std.proofs.Common.{sym, true, zero, ℕ}
+use Rattle.std.proofs.Common.{◌&&◌, ◌++◌, ◌+◌, ◌-◌, ◌<◌, ◌∙◌, ◌∷◌, ◌≡◌, ◌≤◌, [], ap, ap₂, arith, Bool, cond, drop}
+use Rattle.std.proofs.Common.{false, get_or, inl, inr, length, List, refl, suc, sym, true, zero, ℕ}
 use Rattle.fc_card.specs.{rank_of}
-use Rattle.fc_board.specs.{Games.{Builds, Game}, Steps.{Among, is_run, longest_run}}
-use Rattle.fc_board.specs.laws.ListWords.{IsRun}
+use Rattle.fc_board.specs.{Games.{Builds, Game}, laws.ListWords.{IsRun}, Steps.{Among, is_run, longest_run}}
 
 -- a card goes on one that is a rank higher, if on any
 abbrev pub BuildsByRank : Game → Type 0

@@ -1,31 +1,22 @@
 -- Moves of one card and moves of several meet what lists of moves ask of one move.
-use Rattle.std.proofs.Common.{◌-◌, ◌<◌, ◌||◌, ◌↔◌, ◌∙◌, ◌∷◌, ◌≡◌, ◌≤◌, [], ap, arith, Bool, length}
-use Rattle.std.proofs.Common.{List, min, None, not, Option, refl, Some, subst, sym, ℕ}
-use Rattle.fc_card.proofs.PermutationLemmas.{place-inside}
+use Rattle.std.proofs.Common.{◌-◌, ◌<◌, ◌||◌, ◌↔◌, ◌∙◌, ◌∷◌, ◌≡◌, ◌≤◌, [], ap, arith, Bool, length, List, min, None}
+use Rattle.std.proofs.Common.{not, Option, refl, Some, subst, sym, ℕ}
+use Rattle.fc_card.{proofs.PermutationLemmas.{place-inside}, specs.laws.RenamingLaws.{rank_of-renamed_card}}
 use Rattle.fc_card.specs.{place_of, rank_of, renamed_card}
-use Rattle.fc_card.specs.laws.RenamingLaws.{rank_of-renamed_card}
-use Rattle.fc_board.proofs.CarriedRunLemmas.{capacity-carried, longest_now, run_moved-carried}
-use Rattle.fc_board.proofs.CarriedRunLemmas.{run_refusal-carried}
+use Rattle.fc_board.proofs.CarriedRunLemmas.{capacity-carried, longest_now, run_moved-carried, run_refusal-carried}
 use Rattle.fc_board.proofs.DeckLemmas.{sizes_put, sizes_taken, stays_well_formed}
 use Rattle.fc_board.proofs.ImageLemmas.{run_image-Fits, same_form}
 use Rattle.fc_board.proofs.ListLemmas.{kept_by_all, MoveLaws, one_end, played_after}
-use Rattle.fc_board.proofs.RefusalCarried.{column-carried, FillsByRank, last-renamed}
-use Rattle.fc_board.proofs.RunLemmas.{BuildsByRank}
-use Rattle.fc_board.proofs.RunStepLemmas.{expansion_played, not_refused_exactly, one_board}
-use Rattle.fc_board.proofs.RunStepLemmas.{token_counted}
+use Rattle.fc_board.proofs.{RefusalCarried.{column-carried, FillsByRank, last-renamed}, RunLemmas.{BuildsByRank}}
+use Rattle.fc_board.proofs.RunStepLemmas.{expansion_played, not_refused_exactly, one_board, token_counted}
 use Rattle.fc_board.proofs.StepCarried.{move-Fits, step-carried}
-use Rattle.fc_board.proofs.StepLemmas.{not_lower, not_refused_at_step, step_from}
-use Rattle.fc_board.specs.{Boards.{Board, IsWellFormed}, Games.{Game, is_king}}
-use Rattle.fc_board.specs.Moves.{Fits, RunFits}
-use Rattle.fc_board.specs.Passages.{carried, IsPassage, Passage, renamed_cell, run_image}
-use Rattle.fc_board.specs.{Play.{expansion_of, expansions, IsWon, Played}, Steps.{after_move}}
-use Rattle.fc_board.specs.Steps.{after_run_move, after_taking, capacity, column_at, counted_by}
-use Rattle.fc_board.specs.Steps.{height_of, last_card, longest_run, moved_count, refusal, run_moved}
-use Rattle.fc_board.specs.Steps.{run_refusal, RunStep, Step, taken_from}
-use Rattle.fc_board.specs.laws.ListWords.{MovesPlay, MovesWin, RunLegal, RunPlays, RunWins}
-use Rattle.fc_board.specs.declared.moves.Move.{Move}
-use Rattle.fc_board.specs.declared.run_move.RunMove.{RunMove}
-use Rattle.fc_board.specs.declared.run_move.RunMove.TheVariants.{One, Run}
+use Rattle.fc_board.{proofs.StepLemmas.{not_lower, not_refused_at_step, step_from}, specs.Boards.{Board, IsWellFormed}}
+use Rattle.fc_board.specs.{Games.{Game, is_king}, laws.ListWords.{MovesPlay, MovesWin, RunLegal, RunPlays, RunWins}}
+use Rattle.fc_board.specs.{Moves.{Fits, RunFits}, Passages.{carried, IsPassage, Passage, renamed_cell, run_image}}
+use Rattle.fc_board.specs.{Play.{expansion_of, expansions, IsWon, Played}, Steps.{after_move, after_run_move}}
+use Rattle.fc_board.specs.Steps.{after_taking, capacity, column_at, counted_by, height_of, last_card, longest_run}
+use Rattle.fc_board.specs.Steps.{moved_count, refusal, run_moved, run_refusal, RunStep, Step, taken_from}
+use Rattle.fc_board.specs.declared.{moves.Move.{Move}, run_move.RunMove.{RunMove, TheVariants.{One, Run}}}
 
 -- ---- of one card
 as_many_foundations : (game : Game) (board after : Board) (move : Move) → length board.heights ≡ 4 → Step game board move after →

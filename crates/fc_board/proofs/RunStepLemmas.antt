@@ -1,39 +1,25 @@
 -- A run goes exactly where nothing refuses it, and then its expansion is played.
-use Rattle.arrayvec.specs.ArrayVec.{ArrayVec}
-use Rattle.std.proofs.Common.{◌*◌, ◌++◌, ◌+◌, ◌-◌, ◌<◌, ◌^◌, ◌||◌, ◌↔◌, ◌∙◌, ◌∷◌, ◌≡◌, ◌≢◌, ◌≤◌, []}
-use Rattle.std.proofs.Common.{All, ap, arith, Bool, cond, eqb, false, inl, inr, leb, length, List}
-use Rattle.std.proofs.Common.{ltb, min, None, not, Option, refl, slice_index, Some, subst, suc, sym}
-use Rattle.std.proofs.Common.{true, ℕ}
-use Rattle.std.proofs.lemmas.Bool.{cases_lt, eq-eqb, leb-true}
-use Rattle.std.proofs.lemmas.Bool.Decides.{nat_tests}
-use Rattle.std.proofs.lemmas.List.{length-append}
-use Rattle.std.proofs.lemmas.List.Elements.{All-cons, All-get_or, All-head, All-nil}
-use Rattle.std.proofs.lemmas.List.FromFn.{length-range_with_len}
-use Rattle.std.proofs.lemmas.List.Sums.{count_by-le-length, length-filter}
-use Rattle.std.proofs.lemmas.Option.{same_Some}
+use Rattle.{arrayvec.specs.ArrayVec.{ArrayVec}, fc_card.specs.{IsCard, places, rank_of}}
+use Rattle.std.proofs.Common.{◌*◌, ◌++◌, ◌+◌, ◌-◌, ◌<◌, ◌^◌, ◌||◌, ◌↔◌, ◌∙◌, ◌∷◌, ◌≡◌, ◌≢◌, ◌≤◌, [], All, ap, arith}
+use Rattle.std.proofs.Common.{Bool, cond, eqb, false, inl, inr, leb, length, List, ltb, min, None, not, Option, refl}
+use Rattle.std.proofs.{Common.{slice_index, Some, subst, suc, sym, true, ℕ}, lemmas.Bool.{cases_lt}}
+use Rattle.std.proofs.lemmas.Bool.{Decides.{nat_tests}, eq-eqb, leb-true}
+use Rattle.std.proofs.lemmas.List.{Elements.{All-cons, All-get_or, All-head, All-nil}, FromFn.{length-range_with_len}}
+use Rattle.std.proofs.lemmas.{List.{length-append, Sums.{count_by-le-length, length-filter}}, Option.{same_Some}}
 use Rattle.std.specs.Prelude.{Err, IfOk, Ok, Result}
-use Rattle.fc_card.specs.{IsCard, places, rank_of}
-use Rattle.fc_board.proofs.BoardLemmas.{All-right, in_columns}
-use Rattle.fc_board.proofs.CapacityLemmas.{ranks_below}
-use Rattle.fc_board.proofs.ExactLemmas.{goes_over, both, other_test}
-use Rattle.fc_board.proofs.ExpansionLemmas.{pow_some}
-use Rattle.fc_board.proofs.RunLemmas.{BuildsByRank, run_tail}
-use Rattle.fc_board.proofs.ShortLemmas.{short}
-use Rattle.fc_board.proofs.StepLemmas.{not_refused_at_step, one_after, step_from}
-use Rattle.fc_board.specs.{Boards.{Board, IsWellFormed}, Games.{Builds, Fills, Game, is_king}}
-use Rattle.fc_board.specs.{Moves.{expansion, Fits, IsCount, RunFits}, Play.{Expands, expansion_of}}
-use Rattle.fc_board.specs.Steps.{capacity, column_at, counted_by, fault_or, first_of_last}
-use Rattle.fc_board.specs.Steps.{free_cells, is_helper, is_run, last_card, longest_run}
-use Rattle.fc_board.specs.Steps.{matches_stated, MayFollow, moved_count, onto, onto_card}
-use Rattle.fc_board.specs.Steps.{onto_nothing, run_count, run_moved, run_refusal, RunGoes, RunStep}
-use Rattle.fc_board.specs.Steps.{spare_columns, takes_every_card}
-use Rattle.fc_board.specs.laws.ListWords.{IsRun, MovesPlay}
-use Rattle.fc_board.specs.declared.fault.StepFault.{StepFault}
-use Rattle.fc_board.specs.declared.fault.StepFault.TheVariants.{KingsOnly, NoRun, NotBuilding}
-use Rattle.fc_board.specs.declared.fault.StepFault.TheVariants.{OverCapacity, SamePile, WrongCount}
-use Rattle.fc_board.specs.declared.moves.Move.{Move}
-use Rattle.fc_board.specs.declared.run_move.RunMove.{RunMove}
-use Rattle.fc_board.specs.declared.run_move.RunMove.TheVariants.{One, Run}
+use Rattle.fc_board.proofs.{BoardLemmas.{All-right, in_columns}, CapacityLemmas.{ranks_below}}
+use Rattle.fc_board.proofs.{ExactLemmas.{both, goes_over, other_test}, ExpansionLemmas.{pow_some}}
+use Rattle.fc_board.proofs.{RunLemmas.{BuildsByRank, run_tail}, ShortLemmas.{short}}
+use Rattle.fc_board.{proofs.StepLemmas.{not_refused_at_step, one_after, step_from}, specs.Boards.{Board, IsWellFormed}}
+use Rattle.fc_board.specs.{Games.{Builds, Fills, Game, is_king}, laws.ListWords.{IsRun, MovesPlay}}
+use Rattle.fc_board.specs.{Moves.{expansion, Fits, IsCount, RunFits}, Play.{Expands, expansion_of}, Steps.{capacity}}
+use Rattle.fc_board.specs.Steps.{column_at, counted_by, fault_or, first_of_last, free_cells, is_helper, is_run}
+use Rattle.fc_board.specs.Steps.{last_card, longest_run, matches_stated, MayFollow, moved_count, onto, onto_card}
+use Rattle.fc_board.specs.Steps.{onto_nothing, run_count, run_moved, run_refusal, RunGoes, RunStep, spare_columns}
+use Rattle.fc_board.specs.Steps.{takes_every_card}
+use Rattle.fc_board.specs.declared.fault.StepFault.{StepFault, TheVariants.{KingsOnly, NoRun, NotBuilding}}
+use Rattle.fc_board.specs.declared.{fault.StepFault.TheVariants.{OverCapacity, SamePile, WrongCount}, moves.Move.{Move}}
+use Rattle.fc_board.specs.declared.run_move.RunMove.{RunMove, TheVariants.{One, Run}}
 
 -- ---- the longest run
 

@@ -1,14 +1,10 @@
 -- The bounds of columns are shifted eight at a time.
 use lib.Lanes.{put_chunk, sel_l, top, zip2}
-use Rattle.std.proofs.Common.{◌%◌, ◌+◌, ◌-◌, ◌<◌, ◌∙◌, ◌∷◌, ◌≡◌, ◌≤◌, [], ap, arith, Bool, cond}
-use Rattle.std.proofs.Common.{drop, false, get_or, length, List, ltb, map, refl, suc, sym, take}
-use Rattle.std.proofs.Common.{true, ℕ}
-use Rattle.std.proofs.lemmas.Bool.Decides.{nat_tests}
-use Rattle.std.proofs.lemmas.List.{ext_get_or, take_all}
-use Rattle.std.proofs.lemmas.Simd.{get_or-zip2, length-zip2, put_chunk_whole}
+use Rattle.std.proofs.Common.{◌%◌, ◌+◌, ◌-◌, ◌<◌, ◌∙◌, ◌∷◌, ◌≡◌, ◌≤◌, [], ap, arith, Bool, cond, drop, false, get_or}
+use Rattle.std.proofs.{Common.{length, List, ltb, map, refl, suc, sym, take, true, ℕ}, lemmas.Bool.Decides.{nat_tests}}
+use Rattle.std.proofs.lemmas.{List.{ext_get_or, take_all}, Simd.{get_or-zip2, length-zip2, put_chunk_whole}}
 use Rattle.std.specs.Prelude.{nat_le}
-use Rattle.fc_board.proofs.ColumnsLemmas.{get_or-lowered, get_or-raised, length-lowered}
-use Rattle.fc_board.proofs.ColumnsLemmas.{length-raised}
+use Rattle.fc_board.proofs.ColumnsLemmas.{get_or-lowered, get_or-raised, length-lowered, length-raised}
 use Rattle.fc_board.specs.inside.{lowered, raised}
 
 abbrev pub less_lane : ℕ → ℕ → ℕ

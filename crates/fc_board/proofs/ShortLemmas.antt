@@ -1,13 +1,10 @@
 -- How long an expansion is, by the numbers of cells, cards and helper columns.
-use Rattle.std.proofs.Common.{◌%◌, ◌*◌, ◌++◌, ◌+◌, ◌-◌, ◌/◌, ◌<◌, ◌∙◌, ◌∷◌, ◌≡◌, ◌≤◌, [], ap, arith}
-use Rattle.std.proofs.Common.{Bool, cond, false, inl, inr, leb, length, List, min, refl, subst, suc}
-use Rattle.std.proofs.Common.{sym, take, true, zero, ℕ}
-use Rattle.std.proofs.lemmas.Bool.{agree_below, agree_below_at, cases_lt, leb-true}
-use Rattle.std.proofs.lemmas.Bool.Decides.{nat_tests}
+use Rattle.std.proofs.Common.{◌%◌, ◌*◌, ◌++◌, ◌+◌, ◌-◌, ◌/◌, ◌<◌, ◌∙◌, ◌∷◌, ◌≡◌, ◌≤◌, [], ap, arith, Bool, cond, false}
+use Rattle.std.proofs.Common.{inl, inr, leb, length, List, min, refl, subst, suc, sym, take, true, zero, ℕ}
+use Rattle.std.proofs.lemmas.Bool.{agree_below, agree_below_at, cases_lt, Decides.{nat_tests}, leb-true}
 use Rattle.std.proofs.lemmas.List.{length-append, length-take}
 use Rattle.fc_board.specs.Moves.{expansion, half, move_between, over_cells}
-use Rattle.fc_board.specs.declared.moves.Place.TheVariants.{Column as ToColumn}
-use Rattle.fc_board.specs.declared.moves.Source.TheVariants.{Cell as FromCell}
+use Rattle.fc_board.specs.declared.moves.{Place.TheVariants.{Column as ToColumn}, Source.TheVariants.{Cell as FromCell}}
 
 -- `half` by the number of helpers
 abbrev half_by : ℕ → ℕ → ℕ → ℕ

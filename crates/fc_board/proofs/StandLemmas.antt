@@ -1,27 +1,19 @@
 -- Where the cards of a run are while it is taken apart, and what is below a card that can be taken.
-use Rattle.std.proofs.Common.{◌++◌, ◌+◌, ◌<◌, ◌∙◌, ◌∷◌, ◌≡◌, ◌≤◌, [], ap, arith, cond, eqb, get_or}
-use Rattle.std.proofs.Common.{inl, inr, length, List, map, None, Option, refl, set, Some, subst}
-use Rattle.std.proofs.Common.{suc, sym, zero, ℕ}
-use Rattle.std.proofs.lemmas.Bool.{cases_eq, cases_lt}
-use Rattle.std.proofs.lemmas.Bool.Decides.{nat_tests}
-use Rattle.std.proofs.lemmas.List.{append_assoc, get_or-set_other, get_or-set_same, length-map}
-use Rattle.std.proofs.lemmas.List.Sums.{sum_by-cons}
-use Rattle.std.specs.List.{count_by, flat_map}
-use Rattle.std.specs.Option.{is_none, option_to_list}
-use Rattle.fc_card.specs.{IsCard, rank_of}
-use Rattle.fc_board.proofs.AmongLemmas.{AllAmong, among_left, among_map, among_right, Clears}
-use Rattle.fc_board.proofs.AmongLemmas.{last_split, newly, newly_among}
+use Rattle.std.proofs.Common.{◌++◌, ◌+◌, ◌<◌, ◌∙◌, ◌∷◌, ◌≡◌, ◌≤◌, [], ap, arith, cond, eqb, get_or, inl, inr, length}
+use Rattle.std.proofs.Common.{List, map, None, Option, refl, set, Some, subst, suc, sym, zero, ℕ}
+use Rattle.std.proofs.lemmas.Bool.{cases_eq, cases_lt, Decides.{nat_tests}}
+use Rattle.std.proofs.lemmas.List.{append_assoc, get_or-set_other, get_or-set_same, length-map, Sums.{sum_by-cons}}
+use Rattle.std.specs.{List.{count_by, flat_map}, Option.{is_none, option_to_list}}
+use Rattle.fc_card.specs.{count_of, IsCard, rank_of}
+use Rattle.fc_board.proofs.AmongLemmas.{AllAmong, among_left, among_map, among_right, Clears, last_split, newly}
+use Rattle.fc_board.proofs.AmongLemmas.{newly_among}
 use Rattle.fc_board.proofs.BoardLemmas.{count_of-append, count_of-cons, in_cells, in_columns}
-use Rattle.fc_board.proofs.DeckLemmas.{count_taken, found_is_card, inside_columns, one_if_same}
-use Rattle.fc_board.proofs.DeckLemmas.{split_last}
+use Rattle.fc_board.proofs.DeckLemmas.{count_taken, found_is_card, inside_columns, one_if_same, split_last}
 use Rattle.fc_board.proofs.RunLemmas.{BuildsByRank, neighbours, rank_in_run}
-use Rattle.fc_card.specs.{count_of}
-use Rattle.fc_board.specs.Boards.{Board, empty_cells_of, empty_columns_of, IsWellFormed}
-use Rattle.fc_board.specs.{Games.{Builds, Fills, Game}, Steps.{Among, card_at, cell_at, column_at}}
-use Rattle.fc_board.specs.Steps.{last_card, taken_from, without_last}
+use Rattle.fc_board.specs.{Boards.{Board, empty_cells_of, empty_columns_of, IsWellFormed}, Games.{Builds, Fills, Game}}
 use Rattle.fc_board.specs.laws.ListWords.{IsRun}
-use Rattle.fc_board.specs.declared.moves.Source.{Source}
-use Rattle.fc_board.specs.declared.moves.Source.TheVariants.{Cell as FromCell, Column as FromColumn}
+use Rattle.fc_board.specs.Steps.{Among, card_at, cell_at, column_at, last_card, taken_from, without_last}
+use Rattle.fc_board.specs.declared.moves.Source.{Source, TheVariants.{Cell as FromCell, Column as FromColumn}}
 
 -- ---- no card lies on one that can be taken
 

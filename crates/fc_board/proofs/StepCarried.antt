@@ -1,28 +1,20 @@
 -- A step and its image: each leads to the carried board of the other's.
-use Rattle.std.proofs.Common.{◌++◌, ◌+◌, ◌<◌, ◌↔◌, ◌∙◌, ◌∷◌, ◌≡◌, [], ap, arith, List, map, None}
-use Rattle.std.proofs.Common.{Option, refl, set, Some, sym, ℕ}
-use Rattle.std.proofs.lemmas.List.{map-append}
-use Rattle.fc_card.proofs.PermutationLemmas.{pick-set, place-inside, place_of-inverse_order}
-use Rattle.fc_card.specs.{inverse_order, pick, place_of, renamed_card, suit_of}
+use Rattle.std.proofs.Common.{◌++◌, ◌+◌, ◌<◌, ◌↔◌, ◌∙◌, ◌∷◌, ◌≡◌, [], ap, arith, List, map, None, Option, refl, set}
+use Rattle.std.proofs.{Common.{Some, sym, ℕ}, lemmas.List.{map-append}}
+use Rattle.fc_card.{proofs.PermutationLemmas.{pick-set, place-inside, place_of-inverse_order}, specs.{inverse_order}}
 use Rattle.fc_card.specs.laws.OrderLaws.{inverse_order-IsOrder, length-inverse_order}
 use Rattle.fc_card.specs.laws.RenamingLaws.{suit_of-below, suit_of-renamed_card}
-use Rattle.fc_board.proofs.BoardLemmas.{parts_same}
-use Rattle.fc_board.proofs.DeckLemmas.{sizes_taken}
-use Rattle.fc_board.proofs.ImageLemmas.{image-Fits}
-use Rattle.fc_board.proofs.RefusalCarried.{column-carried, FillsByRank, found-carried}
-use Rattle.fc_board.proofs.RefusalCarried.{height-carried, refusal-carried, rest-renamed}
-use Rattle.fc_board.proofs.RefusalCarried.{set-carried}
+use Rattle.fc_card.specs.{pick, place_of, renamed_card, suit_of}
+use Rattle.fc_board.proofs.{BoardLemmas.{parts_same}, DeckLemmas.{sizes_taken}, ImageLemmas.{image-Fits}}
+use Rattle.fc_board.proofs.RefusalCarried.{column-carried, FillsByRank, found-carried, height-carried, refusal-carried}
+use Rattle.fc_board.proofs.RefusalCarried.{rest-renamed, set-carried}
 use Rattle.fc_board.proofs.StepLemmas.{not_refused_at_step, one_after, step_from, step_of}
-use Rattle.fc_board.specs.{Boards.{Board, HasAllPiles, IsWellFormed}, Games.{Game}}
-use Rattle.fc_board.specs.{Moves.{Fits, PlaceFits, SourceFits}, Passages.{carried, carried_move}}
-use Rattle.fc_board.specs.Passages.{IsPassage, Passage, renamed_cell, renamed_column}
+use Rattle.fc_board.specs.{Boards.{Board, HasAllPiles, IsWellFormed}, Games.{Game}, Moves.{Fits, PlaceFits, SourceFits}}
+use Rattle.fc_board.specs.Passages.{carried, carried_move, IsPassage, Passage, renamed_cell, renamed_column}
 use Rattle.fc_board.specs.Passages.{renamed_heights, source_image, target_image}
 use Rattle.fc_board.specs.Steps.{column_at, height_of, put_on, Step, taken_from, without_last}
-use Rattle.fc_board.specs.declared.moves.Move.{Move}
-use Rattle.fc_board.specs.declared.moves.Place.{Place}
-use Rattle.fc_board.specs.declared.moves.Place.TheVariants.{Cell as ToCell, Column as ToColumn}
-use Rattle.fc_board.specs.declared.moves.Place.TheVariants.{Home}
-use Rattle.fc_board.specs.declared.moves.Source.{Source}
+use Rattle.fc_board.specs.declared.moves.{Move.{Move}, Place.{Place}}
+use Rattle.fc_board.specs.declared.moves.{Place.TheVariants.{Cell as ToCell, Column as ToColumn, Home}, Source.{Source}}
 use Rattle.fc_board.specs.declared.moves.Source.TheVariants.{Cell as FromCell, Column as FromColumn}
 
 taken-HasAllPiles : (game : Game) (board : Board) (source : Source) → HasAllPiles game board → HasAllPiles game (taken_from board source)

@@ -1,23 +1,14 @@
 -- A step exists where nothing refuses it, and leads to one board. It takes one card from its pile and puts it on another, so the deck stays whole.
-use Rattle.std.proofs.Common.{◌+◌, ◌==◌, ◌∙◌, ◌∷◌, ◌≡◌, ◌≤◌, [], ap, arith, Bool, cond, false, List}
-use Rattle.std.proofs.Common.{None, Option, refl, set, slice_index, Some, subst, suc, sym, true}
-use Rattle.std.proofs.Common.{zero, ℕ}
-use Rattle.std.proofs.lemmas.Bool.{eq-eqb, eqb-true}
-use Rattle.std.proofs.lemmas.Option.{same_Some}
-use Rattle.std.specs.Option.{is_none}
+use Rattle.std.proofs.Common.{◌+◌, ◌==◌, ◌∙◌, ◌∷◌, ◌≡◌, ◌≤◌, [], ap, arith, Bool, cond, false, List, None, Option, refl}
+use Rattle.std.proofs.{Common.{set, slice_index, Some, subst, suc, sym, true, zero, ℕ}, lemmas.Bool.{eq-eqb, eqb-true}}
+use Rattle.std.{proofs.lemmas.Option.{same_Some}, specs.Option.{is_none}}
 use Rattle.fc_card.specs.{rank_of, suit_of}
-use Rattle.fc_board.specs.{Boards.{Board}, Games.{Game}, Moves.{Fits}, Steps.{card_at, cell_at}}
-use Rattle.fc_board.specs.Steps.{column_at, column_refusal, fault_unless, found_refusal, height_of}
-use Rattle.fc_board.specs.Steps.{is_same_pile, last_card, MayFollow, MayGo, place_refusal, put_on}
-use Rattle.fc_board.specs.Steps.{refusal, Step, taken_from}
-use Rattle.fc_board.specs.declared.fault.StepFault.{StepFault}
-use Rattle.fc_board.specs.declared.fault.StepFault.TheVariants.{SamePile}
-use Rattle.fc_board.specs.declared.moves.Move.{Move}
-use Rattle.fc_board.specs.declared.moves.Place.{Place}
-use Rattle.fc_board.specs.declared.moves.Place.TheVariants.{Cell as ToCell, Column as ToColumn}
-use Rattle.fc_board.specs.declared.moves.Place.TheVariants.{Home}
-use Rattle.fc_board.specs.declared.moves.Source.{Source}
-use Rattle.fc_board.specs.declared.moves.Source.TheVariants.{Cell as FromCell, Column as FromColumn}
+use Rattle.fc_board.specs.{Boards.{Board}, Games.{Game}, Moves.{Fits}, Steps.{card_at, cell_at, column_at}}
+use Rattle.fc_board.specs.Steps.{column_refusal, fault_unless, found_refusal, height_of, is_same_pile, last_card}
+use Rattle.fc_board.specs.Steps.{MayFollow, MayGo, place_refusal, put_on, refusal, Step, taken_from}
+use Rattle.fc_board.specs.declared.{fault.StepFault.{StepFault, TheVariants.{SamePile}}, moves.Move.{Move}}
+use Rattle.fc_board.specs.declared.moves.Place.{Place, TheVariants.{Cell as ToCell, Column as ToColumn, Home}}
+use Rattle.fc_board.specs.declared.moves.Source.{Source, TheVariants.{Cell as FromCell, Column as FromColumn}}
 
 -- ---- a step exists exactly where nothing refuses it
 

@@ -1,16 +1,12 @@
 -- A won board has no card to take, since all cards are home, and a board with all cards home is won.
-use Rattle.std.proofs.Common.{◌%◌, ◌+◌, ◌/◌, ◌<◌, ◌∙◌, ◌∷◌, ◌≡◌, ◌≤◌, [], All, ap, arith, cond, leb}
-use Rattle.std.proofs.Common.{List, refl, slice_index, suc, sym, true, zero, ℕ}
-use Rattle.std.proofs.lemmas.Bool.Decides.{nat_tests}
-use Rattle.std.proofs.lemmas.List.{ext_get_or}
-use Rattle.std.proofs.lemmas.List.Elements.{All-get_or, All-head}
-use Rattle.fc_card.specs.{IsCard, suit_of}
+use Rattle.std.proofs.Common.{◌%◌, ◌+◌, ◌/◌, ◌<◌, ◌∙◌, ◌∷◌, ◌≡◌, ◌≤◌, [], All, ap, arith, cond, leb, List, refl}
+use Rattle.std.proofs.{Common.{slice_index, suc, sym, true, zero, ℕ}, lemmas.Bool.Decides.{nat_tests}}
+use Rattle.std.proofs.lemmas.List.{Elements.{All-get_or, All-head}, ext_get_or}
+use Rattle.{fc_board.specs.declared.moves.Move.{Move}, fc_card.specs.{count_of, IsCard, suit_of}}
 use Rattle.fc_board.proofs.BoardLemmas.{count_of-cons, in_cells, in_columns}
 use Rattle.fc_board.proofs.DeckLemmas.{count_taken, found_is_card, one_if_home, one_if_same}
-use Rattle.fc_card.specs.{count_of}
-use Rattle.fc_board.specs.{Boards.{Board, cards_in_play, IsHeight, IsWellFormed}, Games.{Game}}
-use Rattle.fc_board.specs.{Play.{IsWon}, Steps.{Step}}
-use Rattle.fc_board.specs.declared.moves.Move.{Move}
+use Rattle.fc_board.specs.{Boards.{Board, cards_in_play, IsHeight, IsWellFormed}, Games.{Game}, Play.{IsWon}}
+use Rattle.fc_board.specs.Steps.{Step}
 
 pub won_height : (suit : ℕ) → suit < 4 → slice_index (13 ∷ 13 ∷ 13 ∷ 13 ∷ []) suit ≡ 13
 won_height zero below = refl

@@ -1,12 +1,10 @@
 -- The bits of the cards that bytes are.
-use Rattle.std.proofs.Common.{◌%◌, ◌*◌, ◌+◌, ◌-◌, ◌<◌, ◌^◌, ◌∙◌, ◌∷◌, ◌≡◌, ◌≤◌, [], ap, arith, get_or, inl, inr}
-use Rattle.std.proofs.{Common.{length, List, map, min, refl, subst, suc, sym, take, ℕ}, lemmas.Bool.{cases_lt}}
-use Rattle.std.proofs.lemmas.List.Sums.{sum_by-cons}
-use Rattle.std.proofs.lemmas.List.{get_or-map, length-map}
-use Rattle.std.specs.{Int.Bits.{bit_or, or_zero_r}, List.{sum}, Option.{unwrap_or}}
+use Rattle.std.proofs.Common.{◌%◌, ◌*◌, ◌+◌, ◌-◌, ◌<◌, ◌^◌, ◌∙◌, ◌∷◌, ◌≡◌, ◌≤◌, [], ap, arith, get_or, inl, inr, length}
+use Rattle.std.proofs.{Common.{List, map, min, refl, subst, suc, sym, take, ℕ}, lemmas.Bool.{cases_lt}}
+use Rattle.std.{proofs.lemmas.List.{get_or-map, length-map, Sums.{sum_by-cons}}, specs.Int.Bits.{bit_or, or_zero_r}}
+use Rattle.std.specs.{List.{sum}, Option.{unwrap_or}}
 use Rattle.fc_card.{proofs.BitsLemmas.{AreBitsOf-more}, specs.{AreBitsOf, IsCard}}
-use Rattle.fc_bytes.proofs.DecodedLemmas.{card_back}
-use Rattle.fc_bytes.specs.inside.{AreLaid, card_decoded, ends_decoded}
+use Rattle.fc_bytes.{proofs.DecodedLemmas.{card_back}, specs.inside.{AreLaid, card_decoded, ends_decoded}}
 
 -- one byte more
 pub bits_more : (total : ℕ) (bytes cards : List ℕ) (place bits bit : ℕ) → AreLaid total bytes →

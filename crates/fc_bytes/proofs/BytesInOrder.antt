@@ -1,16 +1,13 @@
 -- Eight bytes in another order, by lanes.
 use lib.Lanes.{zip2}
 use mir.Syntax.{w8}
-use Rattle.std.proofs.Common.{◌%◌, ◌*◌, ◌++◌, ◌+◌, ◌-◌, ◌/◌, ◌<◌, ◌∙◌, ◌≡◌, ◌≤◌, ap, arith, drop}
-use Rattle.std.proofs.Common.{get_or, inl, inr, length, length-append, List, map, refl, replicate}
-use Rattle.std.proofs.{Common.{slice_index, suc, sym, take, ℕ}, lemmas.Bool.{cases_lt}}
-use Rattle.std.proofs.lemmas.List.{FromFn.{length-map-range_with_len}, get_or-drop}
-use Rattle.std.proofs.lemmas.List.{get_or-replicate, get_or-take, length-drop, length-replicate}
-use Rattle.std.proofs.lemmas.{List.{length-take-le}, Simd.{Each1-from_get_or, get_or-swz_l_below}}
-use Rattle.std.proofs.lemmas.Simd.{get_or-zip2, length-zip2, swz_l, SwzOk, SwzOk-from_below}
-use Rattle.std.proofs.Math.{ListN.{get_or-append}, Seq.{get_or-append_right}}
-use Rattle.fc_card.specs.{AllBelow, IsOrder, laws.OrderLaws.{get_or-pick, length-pick}}
-use Rattle.fc_card.specs.{pick, places}
+use Rattle.std.proofs.Common.{◌%◌, ◌*◌, ◌++◌, ◌+◌, ◌-◌, ◌/◌, ◌<◌, ◌∙◌, ◌≡◌, ◌≤◌, ap, arith, drop, get_or, inl, inr}
+use Rattle.std.proofs.Common.{length, length-append, List, map, refl, replicate, slice_index, suc, sym, take, ℕ}
+use Rattle.std.proofs.lemmas.{Bool.{cases_lt}, List.{FromFn.{length-map-range_with_len}, get_or-drop, get_or-replicate}}
+use Rattle.std.proofs.lemmas.List.{get_or-take, length-drop, length-replicate, length-take-le}
+use Rattle.std.proofs.lemmas.Simd.{Each1-from_get_or, get_or-swz_l_below, get_or-zip2, length-zip2, swz_l, SwzOk}
+use Rattle.std.proofs.{lemmas.Simd.{SwzOk-from_below}, Math.{ListN.{get_or-append}, Seq.{get_or-append_right}}}
+use Rattle.fc_card.specs.{AllBelow, IsOrder, laws.OrderLaws.{get_or-pick, length-pick}, pick, places}
 use Rattle.fc_board.{proofs.ColumnsLemmas.{is_between}, specs.inside.{AreBounds, columns_between}}
 use Rattle.fc_bytes.{proofs.{DecodedLemmas.{all_places}, LaidBytes.{lengths-there}}, specs.{padded}}
 

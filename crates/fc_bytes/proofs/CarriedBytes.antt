@@ -1,23 +1,13 @@
 -- The cards of columns in a new order, renamed as bytes.
-use Rattle.std.proofs.Common.{◌++◌, ◌∙◌, ◌∷◌, ◌≡◌, ◌≤◌, [], ap}
-use Rattle.std.proofs.Common.{ap₂, arith, length, List, map, refl}
-use Rattle.std.proofs.Common.{sym, take, ℕ}
+use Rattle.std.proofs.Common.{◌++◌, ◌∙◌, ◌∷◌, ◌≡◌, ◌≤◌, [], ap, ap₂, arith, length, List, map, refl, sym, take, ℕ}
+use Rattle.std.proofs.lemmas.{List.{Folds.{flat_map-map}, length-map, take-map}, Simd.{map-map}}
 use Rattle.std.specs.List.{flat_map}
-use Rattle.fc_card.specs.{pick, renamed_code}
-use Rattle.fc_board.proofs.CarriedLemmas.{carried-IsWellFormed}
-use Rattle.fc_board.proofs.PassageLemmas.{map-pick}
-use Rattle.fc_board.specs.{Boards.{Board, IsWellFormed}, Games.{Game}}
+use Rattle.{fc_card.specs.{pick, renamed_card, renamed_code}, fc_text.proofs.BoardViewLemmas.{number-renamed}}
+use Rattle.fc_board.proofs.{CarriedLemmas.{carried-IsWellFormed}, PassageLemmas.{map-pick}}
+use Rattle.fc_board.specs.{Boards.{Board, IsWellFormed}, Games.{Game}, inside.{AreBounds, columns_between}}
 use Rattle.fc_board.specs.Passages.{carried, IsPassage, Passage, renamed_column}
-use Rattle.fc_bytes.proofs.PutCards.{cards_fit}
-use Rattle.fc_bytes.proofs.LaidBytes.{between-mapped, lengths-mapped}
-use Rattle.std.proofs.lemmas.List.{length-map}
-use Rattle.fc_card.specs.{renamed_card}
-use Rattle.fc_board.specs.inside.{AreBounds, columns_between}
-use Rattle.std.proofs.lemmas.List.{take-map}
-use Rattle.std.proofs.lemmas.Simd.{map-map}
-use Rattle.std.proofs.lemmas.List.Folds.{flat_map-map}
+use Rattle.fc_bytes.proofs.{LaidBytes.{between-mapped, lengths-mapped}, PutCards.{cards_fit}}
 use Rattle.fc_bytes.specs.inside.{card_byte}
-use Rattle.fc_text.proofs.BoardViewLemmas.{number-renamed}
 
 -- ---- bytes are renamed as codes are
 renamed_bytes : (renaming column : List ℕ) → map (renamed_code renaming) (map card_byte column) ≡ map card_byte (renamed_column renaming column)

@@ -1,20 +1,17 @@
 -- Moves that a board allows, found one by one, and the canonical boards after them.
-use Rattle.std.proofs.Common.{◌++◌, ◌+◌, ◌<◌, ◌∙◌, ◌∷◌, ◌≡◌, ◌≤◌, [], ap, ap₂, arith, Bool, cond}
-use Rattle.std.proofs.Common.{drop, false, get_or, inl, inr, length, List, map, None, Option, refl}
-use Rattle.std.proofs.Common.{set, Some, subst, suc, sym, take, true, zero, ℕ}
-use Rattle.std.proofs.lemmas.{Bool.{cases_lt}, Grind.{flat_map-append, take-set_at}}
-use Rattle.std.proofs.lemmas.List.{append-nil, append_assoc, drop-drop, drop-set-lt}
-use Rattle.std.proofs.lemmas.List.{Elements.{filter-append}, FromFn.{map-range_with_len_more}}
-use Rattle.std.proofs.lemmas.List.{get_or-set_other, get_or-set_same, get_or-take, length-set}
-use Rattle.std.proofs.{lemmas.List.{length-take-le, map-append}, Math.Seq.{take-suc}}
+use Rattle.std.proofs.Common.{◌++◌, ◌+◌, ◌<◌, ◌∙◌, ◌∷◌, ◌≡◌, ◌≤◌, [], ap, ap₂, arith, Bool, cond, drop, false, get_or}
+use Rattle.std.proofs.Common.{inl, inr, length, List, map, None, Option, refl, set, Some, subst, suc, sym, take, true}
+use Rattle.std.proofs.{Common.{zero, ℕ}, lemmas.{Bool.{cases_lt}, Grind.{flat_map-append, take-set_at}}}
+use Rattle.std.proofs.lemmas.List.{append-nil, append_assoc, drop-drop, drop-set-lt, Elements.{filter-append}}
+use Rattle.std.proofs.lemmas.List.{FromFn.{map-range_with_len_more}, get_or-set_other, get_or-set_same, get_or-take}
+use Rattle.std.proofs.{lemmas.List.{length-set, length-take-le, map-append}, Math.Seq.{take-suc}}
 use Rattle.std.specs.{List.{filter, flat_map}, Option.{is_none}}
 use Rattle.fc_card.{proofs.OrderLemmas.{places-more}, specs.{places}}
 use Rattle.fc_board.specs.{Boards.{Board}, Games.{Game}, Moves.{move_between}}
 use Rattle.fc_board.specs.Steps.{card_at, found_refusal, is_same_pile, refusal}
-use Rattle.fc_board.specs.declared.fault.StepFault.TheVariants.{EmptySource, SamePile}
-use Rattle.fc_board.specs.declared.moves.{Move.{Move}, Place.{Place}, Source.{Source}}
-use Rattle.fc_bytes.specs.{AreKeysAfter, IsKeyAfter, legal_moves_from, source_numbered}
-use Rattle.fc_bytes.specs.{target_numbered}
+use Rattle.fc_board.specs.declared.{fault.StepFault.TheVariants.{EmptySource, SamePile}, moves.Move.{Move}}
+use Rattle.fc_board.specs.declared.moves.{Place.{Place}, Source.{Source}}
+use Rattle.fc_bytes.specs.{AreKeysAfter, IsKeyAfter, legal_moves_from, source_numbered, target_numbered}
 use Rattle.fc_bytes.specs.declared.board.BoardBytes.{BoardBytes}
 
 -- one place more is tried

@@ -1,31 +1,21 @@
 -- What is read of a board's bytes is the board.
-use Rattle.std.proofs.Common.{◌++◌, ◌+◌, ◌-◌, ◌<◌, ◌∙◌, ◌∷◌, ◌≡◌, ◌≤◌, [], All, ap, ap₂, arith}
-use Rattle.std.proofs.Common.{drop, get_or, inl, inr, is_some, IsNone, length, length-append, List}
-use Rattle.std.proofs.Common.{map, None, Option, refl, replicate, slice_index, Some, subst, sym}
-use Rattle.std.proofs.Common.{take, ℕ}
+use Rattle.std.proofs.Common.{◌++◌, ◌+◌, ◌-◌, ◌<◌, ◌∙◌, ◌∷◌, ◌≡◌, ◌≤◌, [], All, ap, ap₂, arith, drop, get_or, inl, inr}
+use Rattle.std.proofs.Common.{is_some, IsNone, length, length-append, List, map, None, Option, refl, replicate}
+use Rattle.std.proofs.{Common.{slice_index, Some, subst, sym, take, ℕ}, lemmas.Bool.{cases_lt, Decides.{nat_tests}}}
+use Rattle.std.proofs.lemmas.List.{append_assoc, drop-drop, drop-map}
+use Rattle.std.proofs.lemmas.List.{Elements.{All-from_get_or, All-get_or, All-head, All-tail}, ext_get_or}
+use Rattle.std.proofs.lemmas.List.FromFn.{get_or-map-range_with_len, length-map-range_with_len, take-map-range_with_len}
+use Rattle.std.proofs.lemmas.List.{get_or-drop, get_or-map, get_or-replicate, get_or_past, length-drop, length-map}
+use Rattle.std.proofs.lemmas.List.{length-replicate, take-map}
 use Rattle.std.proofs.Math.ListN.{get_or-append, get_or-map as get_or-map_any}
-use Rattle.std.proofs.Math.Seq.{drop-append_seam, get_or-append_right, take-append_seam}
-use Rattle.std.proofs.lemmas.Bool.{cases_lt}
-use Rattle.std.proofs.lemmas.Bool.Decides.{nat_tests}
-use Rattle.std.proofs.lemmas.List.{append_assoc, drop-drop, drop-map, ext_get_or, get_or-drop}
-use Rattle.std.proofs.lemmas.List.{get_or-map, get_or-replicate, get_or_past, length-drop}
-use Rattle.std.proofs.lemmas.List.{length-map, length-replicate, take-map}
-use Rattle.std.proofs.lemmas.List.Elements.{All-from_get_or, All-get_or, All-head, All-tail}
-use Rattle.std.proofs.lemmas.List.FromFn.{get_or-map-range_with_len, length-map-range_with_len}
-use Rattle.std.proofs.lemmas.List.FromFn.{take-map-range_with_len}
-use Rattle.std.specs.List.{flat_map}
-use Rattle.std.specs.Option.{unwrap_or}
-use Rattle.std.specs.Prelude.{min}
-use Rattle.fc_card.specs.{IsCard, places}
-use Rattle.fc_board.proofs.BoardLemmas.{in_cells, in_columns, parts_same}
-use Rattle.fc_board.specs.{Boards.{Board, IsWellFormed}, Games.{Game}}
+use Rattle.std.{proofs.Math.Seq.{drop-append_seam, get_or-append_right, take-append_seam}, specs.List.{flat_map}}
+use Rattle.std.specs.{Option.{unwrap_or}, Prelude.{min}}
+use Rattle.{fc_bytes.specs.declared.board.BoardBytes.{BoardBytes}, fc_card.specs.{IsCard, places}}
+use Rattle.fc_board.{proofs.BoardLemmas.{in_cells, in_columns, parts_same}, specs.Boards.{Board, IsWellFormed}}
+use Rattle.fc_board.specs.{Games.{Game}, inside.{board_of_laid, columns_from}, laws.ListWords.{IsCell}}
 use Rattle.fc_board.specs.Steps.{cell_at, height_of}
-use Rattle.fc_board.specs.inside.{board_of_laid, columns_from}
-use Rattle.fc_board.specs.laws.ListWords.{IsCell}
-use Rattle.fc_bytes.specs.{board_bytes, cell_byte, HoldsBoard, padded}
-use Rattle.fc_bytes.specs.inside.{card_byte, card_decoded, cell_decoded, columns_decoded, decoded}
-use Rattle.fc_bytes.specs.inside.{ends_decoded, next_count}
-use Rattle.fc_bytes.specs.declared.board.BoardBytes.{BoardBytes}
+use Rattle.fc_bytes.specs.{board_bytes, cell_byte, HoldsBoard, inside.{card_byte, card_decoded, cell_decoded}}
+use Rattle.fc_bytes.specs.{inside.{columns_decoded, decoded, ends_decoded, next_count}, padded}
 
 -- ---- lists by their places
 -- the first items of a longer row are the list

@@ -1,30 +1,24 @@
 -- Two empty piles of a board may be exchanged, so a card that goes to the one or to the other leads to equivalent boards.
-use Rattle.std.proofs.Common.{◌-◌, ◌<◌, ◌==◌, ◌∙◌, ◌≡◌, ◌≢◌, [], ap, ap₂, arith, Bool, cond}
-use Rattle.std.proofs.Common.{get_or, inl, inr, length, List, map, None, refl, Some, subst, sym, ℕ}
-use Rattle.std.proofs.lemmas.{Bool.{cases_eq, eq-eqb, ne_eqb}, List.Elements.{All-get_or}}
-use Rattle.std.proofs.lemmas.List.FromFn.{get_or-map-range_with_len, length-range_with_len}
+use Rattle.std.proofs.Common.{◌-◌, ◌<◌, ◌==◌, ◌∙◌, ◌≡◌, ◌≢◌, [], ap, ap₂, arith, Bool, cond, get_or, inl, inr, length}
+use Rattle.std.proofs.{Common.{List, map, None, refl, Some, subst, sym, ℕ}, lemmas.Bool.{cases_eq, eq-eqb, ne_eqb}}
+use Rattle.std.proofs.lemmas.List.{Elements.{All-get_or}, FromFn.{get_or-map-range_with_len, length-range_with_len}}
 use Rattle.std.proofs.lemmas.List.{get_or_default, length-map, same_lists}
-use Rattle.fc_card.specs.{AllBelow, IsOrder, laws.OrderLaws.{get_or-pick, length-pick, pick-places}}
-use Rattle.fc_card.specs.laws.OrderLaws.{place_of-IsOrder, places-IsOrder}
+use Rattle.fc_card.specs.{AllBelow, IsOrder}
+use Rattle.fc_card.specs.laws.OrderLaws.{get_or-pick, length-pick, pick-places, place_of-IsOrder, places-IsOrder}
 use Rattle.fc_card.specs.laws.RenamingLaws.{identity-IsRenaming, renamed_card-identity}
 use Rattle.fc_card.specs.{pick, place_of, places, renamed_card}
-use Rattle.fc_board.proofs.{BoardLemmas.{parts_same}, DeckLemmas.{stays_well_formed}}
-use Rattle.fc_board.proofs.ImageLemmas.{place_in_places}
+use Rattle.fc_board.proofs.{BoardLemmas.{parts_same}, DeckLemmas.{stays_well_formed}, ImageLemmas.{place_in_places}}
 use Rattle.fc_board.proofs.PassageLemmas.{carried-identity, map_unchanged, renamed_cell-identity}
-use Rattle.fc_board.proofs.RenamingLemmas.{fills-renamed_card, Keeps-identity}
-use Rattle.fc_board.proofs.{StepCarried.{steps-exactly}, StepLemmas.{one_after, step_from}}
-use Rattle.fc_board.specs.{Boards.{Board, HasAllPiles, IsWellFormed}, Games.{Game, RuleLaws}}
-use Rattle.fc_board.specs.{Moves.{move_between, SourceFits}, Passages.{carried, carried_move}}
+use Rattle.fc_board.proofs.{RenamingLemmas.{fills-renamed_card, Keeps-identity}, StepCarried.{steps-exactly}}
+use Rattle.fc_board.{proofs.StepLemmas.{one_after, step_from}, specs.Boards.{Board, HasAllPiles, IsWellFormed}}
+use Rattle.fc_board.specs.{Games.{Game, RuleLaws}, Moves.{move_between, SourceFits}, Passages.{carried, carried_move}}
 use Rattle.fc_board.specs.Passages.{IsPassage, Passage, renamed_cell, renamed_column, source_image}
 use Rattle.fc_board.specs.Steps.{card_at, cell_at, column_at, last_card, Step}
-use Rattle.fc_board.specs.declared.moves.{Move.{Move}, Place.{Place, TheVariants.{Cell as ToCell}}}
-use Rattle.fc_board.specs.declared.moves.Place.TheVariants.{Column as ToColumn, Home}
-use Rattle.fc_board.specs.declared.moves.Source.{Source}
+use Rattle.fc_board.specs.declared.moves.{Move.{Move}, Place.{Place}}
+use Rattle.fc_board.specs.declared.moves.{Place.TheVariants.{Cell as ToCell, Column as ToColumn, Home}, Source.{Source}}
 use Rattle.fc_board.specs.declared.moves.Source.TheVariants.{Cell as FromCell, Column as FromColumn}
-use Rattle.fc_canon.proofs.LeastTextLemmas.{chosen-same, chosen_passage-Chosen}
-use Rattle.fc_canon.specs.{chosen_passage, Equivalent}
-use Rattle.fc_bytes.{proofs.LegalMoves.{all_legal}, specs.{HoldsBoard}}
-use Rattle.fc_bytes.specs.inside.{AreAlike, AreFreeAlike}
+use Rattle.fc_canon.{proofs.LeastTextLemmas.{chosen-same, chosen_passage-Chosen}, specs.{chosen_passage, Equivalent}}
+use Rattle.fc_bytes.{proofs.LegalMoves.{all_legal}, specs.{HoldsBoard, inside.{AreAlike, AreFreeAlike}}}
 use Rattle.fc_bytes.specs.{IsAllowed, IsKeyAfter, legal_moves, move_bytes}
 use Rattle.fc_bytes.specs.declared.{board.BoardBytes.{BoardBytes}, moves.MoveBytes.{MoveBytes}}
 

@@ -1,29 +1,18 @@
 -- Bytes are those of the board that is read of them exactly where each stands for what is read.
-use Rattle.std.proofs.Common.{◌++◌, ◌+◌, ◌-◌, ◌<◌, ◌∙◌, ◌∷◌, ◌≡◌, ◌≤◌, [], All, ap, ap₂, arith}
-use Rattle.std.proofs.Common.{drop, get_or, inl, inr, IsNone, length, length-append, List, map}
-use Rattle.std.proofs.Common.{None, Option, refl, replicate, Some, subst, sym, take, true≢false, ℕ}
-use Rattle.std.proofs.Math.ListN.{get_or-append}
-use Rattle.std.proofs.Math.Seq.{get_or-append_right, take-add}
-use Rattle.std.proofs.lemmas.Bool.{cases_lt}
-use Rattle.std.proofs.lemmas.List.{drop-map, ext_get_or, get_or-drop, get_or-map, get_or-replicate}
-use Rattle.std.proofs.lemmas.List.{get_or-take, length-drop, length-map, length-replicate}
-use Rattle.std.proofs.lemmas.List.{length-take-le, take-append-drop, take-map}
-use Rattle.std.proofs.lemmas.List.Elements.{All-append, All-drop, All-from_get_or, All-get_or}
-use Rattle.std.proofs.lemmas.List.Elements.{All-head, All-map, All-replicate, All-tail}
-use Rattle.std.proofs.lemmas.List.Sums.{sum_by-cons}
-use Rattle.std.specs.List.{flat_map, sum}
-use Rattle.std.specs.Option.{unwrap_or}
-use Rattle.fc_card.specs.{IsCard}
-use Rattle.fc_board.proofs.BoardLemmas.{All-left, All-right, in_cells, in_columns}
-use Rattle.fc_board.specs.{Boards.{Board}, Games.{Game}}
-use Rattle.fc_board.specs.inside.{board_of_laid, columns_from}
-use Rattle.fc_board.specs.laws.ListWords.{IsCell}
-use Rattle.fc_bytes.proofs.DecodedLemmas.{card_back, columns_read, empty_rest}
-use Rattle.fc_bytes.proofs.PutCards.{cards_fit}
-use Rattle.fc_bytes.specs.{board_bytes, cell_byte, HoldsBoard, padded}
-use Rattle.fc_bytes.specs.inside.{AreLaid, card_byte, card_decoded, cell_decoded, columns_decoded}
-use Rattle.fc_bytes.specs.inside.{ends_decoded, IsCardByte, IsExact, IsLaid, next_count}
-use Rattle.fc_bytes.specs.declared.board.BoardBytes.{BoardBytes}
+use Rattle.std.proofs.Common.{◌++◌, ◌+◌, ◌-◌, ◌<◌, ◌∙◌, ◌∷◌, ◌≡◌, ◌≤◌, [], All, ap, ap₂, arith, drop, get_or, inl, inr}
+use Rattle.std.proofs.Common.{IsNone, length, length-append, List, map, None, Option, refl, replicate, Some, subst, sym}
+use Rattle.std.proofs.{Common.{take, true≢false, ℕ}, lemmas.{Bool.{cases_lt}, List.{drop-map, Elements.{All-append}}}}
+use Rattle.std.proofs.lemmas.List.Elements.{All-drop, All-from_get_or, All-get_or, All-head, All-map, All-replicate}
+use Rattle.std.proofs.lemmas.List.{Elements.{All-tail}, ext_get_or, get_or-drop, get_or-map, get_or-replicate}
+use Rattle.std.proofs.lemmas.List.{get_or-take, length-drop, length-map, length-replicate, length-take-le}
+use Rattle.std.proofs.{lemmas.List.{Sums.{sum_by-cons}, take-append-drop, take-map}, Math.ListN.{get_or-append}}
+use Rattle.std.{proofs.Math.Seq.{get_or-append_right, take-add}, specs.{List.{flat_map, sum}, Option.{unwrap_or}}}
+use Rattle.{fc_bytes.specs.declared.board.BoardBytes.{BoardBytes}, fc_card.specs.{IsCard}}
+use Rattle.fc_board.{proofs.BoardLemmas.{All-left, All-right, in_cells, in_columns}, specs.Boards.{Board}}
+use Rattle.fc_board.specs.{Games.{Game}, inside.{board_of_laid, columns_from}, laws.ListWords.{IsCell}}
+use Rattle.fc_bytes.proofs.{DecodedLemmas.{card_back, columns_read, empty_rest}, PutCards.{cards_fit}}
+use Rattle.fc_bytes.specs.{board_bytes, cell_byte, HoldsBoard, inside.{AreLaid, card_byte, card_decoded, cell_decoded}}
+use Rattle.fc_bytes.specs.{inside.{columns_decoded, ends_decoded, IsCardByte, IsExact, IsLaid, next_count}, padded}
 
 -- ---- bytes that stand for what is read are its bytes
 cell_some : (byte : ℕ) → 0 < byte → byte ≤ 52 → cell_decoded byte ≡ Some (byte - 1)

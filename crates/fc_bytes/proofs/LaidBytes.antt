@@ -1,17 +1,14 @@
 -- Columns that lie end to end, as bytes.
-use Rattle.std.proofs.Common.{◌++◌, ◌+◌, ◌-◌, ◌<◌, ◌∙◌, ◌∷◌, ◌≡◌, ◌≤◌, [], ap, arith, cond, drop}
-use Rattle.std.proofs.Common.{get_or, length, length-append, List, map, nat_lt, refl, subst, suc}
-use Rattle.std.proofs.{Common.{sym, take, zero, ℕ}, lemmas.Bool.{le-ltb, lt-ltb}}
-use Rattle.std.proofs.lemmas.{Grind.{flat_map-append}, List.{append-nil, drop-map}}
-use Rattle.std.proofs.lemmas.List.{Elements.{All-from_get_or}, ext_get_or}
-use Rattle.std.proofs.lemmas.List.{Folds.{flat_map-map, length-flat_map-take}, get_or-drop}
-use Rattle.std.proofs.lemmas.List.{get_or-map, get_or-take, length-drop, length-map, length-take-le}
-use Rattle.std.proofs.lemmas.List.{take-map, take-take, take_all, take_more}
-use Rattle.std.{proofs.Math.Seq.{take-append-add}, specs.List.{flat_map, slice_range}}
+use Rattle.std.proofs.Common.{◌++◌, ◌+◌, ◌-◌, ◌<◌, ◌∙◌, ◌∷◌, ◌≡◌, ◌≤◌, [], ap, arith, cond, drop, get_or, length}
+use Rattle.std.proofs.Common.{length-append, List, map, nat_lt, refl, subst, suc, sym, take, zero, ℕ}
+use Rattle.std.proofs.lemmas.{Bool.{le-ltb, lt-ltb}, Grind.{flat_map-append}, List.{append-nil, drop-map}}
+use Rattle.std.proofs.lemmas.List.{Elements.{All-from_get_or}, ext_get_or, Folds.{flat_map-map, length-flat_map-take}}
+use Rattle.std.proofs.lemmas.List.{get_or-drop, get_or-map, get_or-take, length-drop, length-map, length-take-le}
+use Rattle.std.proofs.{lemmas.List.{take-map, take-take, take_all, take_more}, Math.Seq.{take-append-add}}
+use Rattle.std.specs.List.{flat_map, slice_range}
 use Rattle.fc_card.specs.{AllBelow, IsOrder, laws.OrderLaws.{get_or-pick, length-pick}, pick}
-use Rattle.fc_board.proofs.ColumnsLemmas.{all_cards_laid, column_at, columns_in_front, is_between}
-use Rattle.fc_board.proofs.ColumnsLemmas.{last_at_most, length-columns_from, length-range}
-use Rattle.fc_board.proofs.PassageLemmas.{map-pick}
+use Rattle.fc_board.proofs.ColumnsLemmas.{all_cards_laid, column_at, columns_in_front, is_between, last_at_most}
+use Rattle.fc_board.proofs.{ColumnsLemmas.{length-columns_from, length-range}, PassageLemmas.{map-pick}}
 use Rattle.fc_board.specs.inside.{AreBounds, AscendTo, columns_between, columns_from}
 use Rattle.fc_bytes.{proofs.ExactBytes.{padded_there}, specs.{inside.{AreInside, pieces}, padded}}
 

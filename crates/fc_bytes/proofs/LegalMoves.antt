@@ -1,21 +1,17 @@
 -- The listed moves are all that the game allows.
-use Rattle.std.proofs.Common.{◌+◌, ◌-◌, ◌<◌, ◌↔◌, ◌∙◌, ◌∷◌, ◌≡◌, [], All, ap, ap₂, arith, Bool, cond}
-use Rattle.std.proofs.Common.{false, get_or, inl, inr, length, List, map, nat_lt, refl, subst, suc, sym, true, zero, ℕ}
-use Rattle.std.proofs.lemmas.{Bool.{cases_lt, le-ltb, lt-ltb}, List.Elements.{Contains-append_left}}
-use Rattle.std.proofs.lemmas.List.{get_or-map, length-map}
-use Rattle.std.proofs.lemmas.List.Elements.{All-append, All-cons, All-contains, All-get_or, All-nil}
-use Rattle.std.proofs.lemmas.List.Elements.{Contains-append_right, Contains-push}
+use Rattle.std.proofs.Common.{◌+◌, ◌-◌, ◌<◌, ◌↔◌, ◌∙◌, ◌∷◌, ◌≡◌, [], All, ap, ap₂, arith, Bool, cond, false, get_or}
+use Rattle.std.proofs.Common.{inl, inr, length, List, map, nat_lt, refl, subst, suc, sym, true, zero, ℕ}
+use Rattle.std.proofs.lemmas.{Bool.{cases_lt, le-ltb, lt-ltb}, List.Elements.{All-append, All-cons, All-contains}}
+use Rattle.std.proofs.lemmas.List.Elements.{All-get_or, All-nil, Contains-append_left, Contains-append_right}
+use Rattle.std.proofs.lemmas.List.{Elements.{Contains-push}, get_or-map, length-map}
 use Rattle.std.specs.{List.{Contains, filter, flat_map}, Option.{is_none}}
-use Rattle.fc_card.specs.{places}
-use Rattle.fc_board.specs.{Boards.{Board}, Games.{Game}}
-use Rattle.fc_board.specs.{Moves.{move_between, PlaceFits, SourceFits}, Steps.{refusal}}
-use Rattle.fc_board.specs.declared.moves.{Move.{Move}, Place.{Place, TheVariants.{Cell as ToCell}}}
-use Rattle.fc_board.specs.declared.moves.Place.TheVariants.{Column as ToColumn, Home}
-use Rattle.fc_board.specs.declared.moves.Source.{Source}
+use Rattle.{fc_bytes.specs.declared.moves.MoveBytes.{MoveBytes}, fc_card.specs.{places}}
+use Rattle.fc_board.specs.{Boards.{Board}, Games.{Game}, Moves.{move_between, PlaceFits, SourceFits}, Steps.{refusal}}
+use Rattle.fc_board.specs.declared.moves.{Move.{Move}, Place.{Place}}
+use Rattle.fc_board.specs.declared.moves.{Place.TheVariants.{Cell as ToCell, Column as ToColumn, Home}, Source.{Source}}
 use Rattle.fc_board.specs.declared.moves.Source.TheVariants.{Cell as FromCell, Column as FromColumn}
-use Rattle.fc_bytes.{proofs.ChildrenLemmas.{none_of, source_more, tried_more}, specs.{IsAllowed}}
-use Rattle.fc_bytes.specs.{declared.moves.MoveBytes.{MoveBytes}, HoldsMove, move_bytes}
-use Rattle.fc_bytes.specs.{legal_moves, legal_moves_from, source_numbered, target_numbered}
+use Rattle.fc_bytes.{proofs.ChildrenLemmas.{none_of, source_more, tried_more}, specs.{HoldsMove, IsAllowed}}
+use Rattle.fc_bytes.specs.{legal_moves, legal_moves_from, move_bytes, source_numbered, target_numbered}
 
 pub tried_all : {X : Type 0} (p : X → Bool) (f : ℕ → X) (count k : ℕ) → k < count → p (f k) ≡ true → Contains (filter p (map f (places count))) (f k)
 tried_all p f zero k below passes = absurd (omega (arith, below))

@@ -1,29 +1,16 @@
 -- What is read of a move's two characters is the move.
-use Rattle.std.proofs.Common.{◌==◌, ◌∙◌, ◌≡◌, ◌≤◌, ap, ap₂, arith, Bool, cond, false, IfSome}
-use Rattle.std.proofs.Common.{IsNone, nat_le, None, Option, refl, Some, subst, suc, sym, true, zero}
-use Rattle.std.proofs.Common.{ℕ}
-use Rattle.std.proofs.lemmas.Bool.{eqb-true, leb-true}
-use Rattle.std.proofs.lemmas.Bool.Decides.{nat_tests}
-use Rattle.std.proofs.lemmas.Option.{cond_some, same_Some}
-use Rattle.std.specs.Option.{unwrap_or}
-use Rattle.fc_board.specs.{Games.{Game}, Moves.{both_columns, IsCount, move_between, PlaceFits}}
-use Rattle.fc_board.specs.Moves.{RunFits, SourceFits}
-use Rattle.fc_text.specs.Notation.{source_character, target_character}
-use Rattle.fc_board.specs.declared.moves.Move.{Move}
-use Rattle.fc_board.specs.declared.moves.Place.{Place}
-use Rattle.fc_board.specs.declared.moves.Place.TheVariants.{Cell as ToCell, Column as ToColumn}
-use Rattle.fc_board.specs.declared.moves.Place.TheVariants.{Home}
-use Rattle.fc_board.specs.declared.moves.Source.{Source}
+use Rattle.std.proofs.Common.{◌==◌, ◌∙◌, ◌≡◌, ◌≤◌, ap, ap₂, arith, Bool, cond, false, IfSome, IsNone, nat_le, None}
+use Rattle.std.proofs.{Common.{Option, refl, Some, subst, suc, sym, true, zero, ℕ}, lemmas.Bool.Decides.{nat_tests}}
+use Rattle.std.{proofs.lemmas.{Bool.{eqb-true, leb-true}, Option.{cond_some, same_Some}}, specs.Option.{unwrap_or}}
+use Rattle.fc_board.specs.{Games.{Game}, Moves.{both_columns, IsCount, move_between, PlaceFits, RunFits, SourceFits}}
+use Rattle.fc_board.specs.declared.moves.{Move.{Move}, Place.{Place}}
+use Rattle.fc_board.specs.declared.moves.{Place.TheVariants.{Cell as ToCell, Column as ToColumn, Home}, Source.{Source}}
 use Rattle.fc_board.specs.declared.moves.Source.TheVariants.{Cell as FromCell, Column as FromColumn}
-use Rattle.fc_board.specs.declared.run_move.RunMove.{RunMove}
-use Rattle.fc_board.specs.declared.run_move.RunMove.TheVariants.{One, Run}
-use Rattle.fc_text.proofs.TokenLemmas.{source_named-fits, source_read, target_named-fits}
-use Rattle.fc_text.proofs.TokenLemmas.{target_read}
-use Rattle.fc_text.specs.reader.{source_named, target_named}
-use Rattle.fc_bytes.specs.{HoldsMove, HoldsRun, run_bytes}
-use Rattle.fc_bytes.specs.inside.{count_decoded, run_decoded}
-use Rattle.fc_bytes.specs.declared.moves.MoveBytes.{MoveBytes}
-use Rattle.fc_bytes.specs.declared.runs.RunBytes.{RunBytes}
+use Rattle.fc_board.specs.declared.run_move.RunMove.{RunMove, TheVariants.{One, Run}}
+use Rattle.fc_text.proofs.TokenLemmas.{source_named-fits, source_read, target_named-fits, target_read}
+use Rattle.fc_text.specs.{Notation.{source_character, target_character}, reader.{source_named, target_named}}
+use Rattle.fc_bytes.specs.{HoldsMove, HoldsRun, inside.{count_decoded, run_decoded}, run_bytes}
+use Rattle.fc_bytes.specs.declared.{moves.MoveBytes.{MoveBytes}, runs.RunBytes.{RunBytes}}
 
 pub named_source : (game : Game) (bytes : MoveBytes) (move : Move) → game.cells ≤ 8 → HoldsMove game bytes move → source_named game bytes.from ≡ Some move.from
 named_source game bytes move few holds = ap (λ (bytes : MoveBytes). source_named game bytes.from) holds.1 ∙ source_read game few move.from holds.0.0

@@ -1,24 +1,17 @@
 -- What is read of a passage's bytes is the passage.
-use Rattle.std.proofs.Common.{◌+◌, ◌<◌, ◌↔◌, ◌∙◌, ◌≡◌, ◌≤◌, All, ap, arith, drop, get_or, inl, inr}
-use Rattle.std.proofs.Common.{length, List, refl, replicate, set, slice_index, subst, sym, take, ℕ}
+use Rattle.std.proofs.Common.{◌+◌, ◌<◌, ◌↔◌, ◌∙◌, ◌≡◌, ◌≤◌, All, ap, arith, drop, get_or, inl, inr, length, List, refl}
+use Rattle.std.proofs.{Common.{replicate, set, slice_index, subst, sym, take, ℕ}, lemmas.Bool.{cases_lt}}
+use Rattle.std.proofs.lemmas.List.{drop-drop, drop-set-lt, Elements.{All-drop, All-replicate}}
+use Rattle.std.proofs.lemmas.List.{get_or-drop, get_or-set_other, get_or-set_same, length-set}
 use Rattle.std.proofs.Math.Seq.{drop-append_seam}
-use Rattle.std.proofs.lemmas.Bool.{cases_lt}
-use Rattle.std.proofs.lemmas.List.{drop-drop, drop-set-lt, get_or-drop, get_or-set_other}
-use Rattle.std.proofs.lemmas.List.{get_or-set_same, length-set}
-use Rattle.std.proofs.lemmas.List.Elements.{All-drop, All-replicate}
-use Rattle.fc_board.proofs.CarriedLemmas.{carried-IsWellFormed}
-use Rattle.fc_board.proofs.PassageLemmas.{same_passage}
-use Rattle.fc_board.specs.{Boards.{Board, IsWellFormed}, Games.{Game}}
-use Rattle.fc_board.specs.Passages.{carried, IsPassage, Passage}
+use Rattle.fc_board.proofs.{CarriedLemmas.{carried-IsWellFormed}, PassageLemmas.{same_passage}}
+use Rattle.fc_board.specs.{Boards.{Board, IsWellFormed}, Games.{Game}, Passages.{carried, IsPassage, Passage}}
 use Rattle.fc_text.specs.Printed.{text_of}
-use Rattle.fc_canon.proofs.CanonicalLemmas.{Equivalent-from_canonical}
-use Rattle.fc_canon.proofs.LeastTextLemmas.{chosen-same}
+use Rattle.fc_canon.proofs.{CanonicalLemmas.{Equivalent-from_canonical}, LeastTextLemmas.{chosen-same}}
 use Rattle.fc_canon.specs.{Canonical, Chosen, Equivalent}
-use Rattle.fc_bytes.proofs.DecodedLemmas.{first_places, one_board, padded_places}
-use Rattle.fc_bytes.proofs.ExactBytes.{padded_there}
+use Rattle.fc_bytes.proofs.{DecodedLemmas.{first_places, one_board, padded_places}, ExactBytes.{padded_there}}
 use Rattle.fc_bytes.specs.{board_bytes, HasKey, HaveKeys, HoldsPassage, padded, passage_bytes}
-use Rattle.fc_bytes.specs.declared.board.BoardBytes.{BoardBytes}
-use Rattle.fc_bytes.specs.declared.passage.PassageBytes.{PassageBytes}
+use Rattle.fc_bytes.specs.declared.{board.BoardBytes.{BoardBytes}, passage.PassageBytes.{PassageBytes}}
 
 module _ (game : Game) (bytes : PassageBytes) (passage : Passage) (holds : HoldsPassage game bytes passage) where
   pub held_suits : bytes.suits ≡ passage.renaming

@@ -1,12 +1,7 @@
 -- How many cards the columns hold.
-use Rattle.std.proofs.Common.{◌∷◌, ◌≡◌, ◌≤◌, [], arith}
-use Rattle.std.proofs.Common.{length, length-append, List, map, refl}
-use Rattle.std.proofs.Common.{ℕ}
-use Rattle.std.proofs.lemmas.List.{length-map}
-use Rattle.std.specs.List.{flat_map}
-use Rattle.std.specs.Option.{option_to_list}
-use Rattle.fc_board.proofs.BoardLemmas.{length-cards_in_play}
-use Rattle.fc_board.specs.{Boards.{Board, IsWellFormed}, Games.{Game}}
+use Rattle.std.proofs.Common.{◌∷◌, ◌≡◌, ◌≤◌, [], arith, length, length-append, List, map, refl, ℕ}
+use Rattle.std.{proofs.lemmas.List.{length-map}, specs.{List.{flat_map}, Option.{option_to_list}}}
+use Rattle.fc_board.{proofs.BoardLemmas.{length-cards_in_play}, specs.{Boards.{Board, IsWellFormed}, Games.{Game}}}
 use Rattle.fc_bytes.specs.inside.{card_byte}
 
 length-cards : (columns : List (List ℕ)) → length (flat_map (map card_byte) columns) ≡ length (flat_map (λ column. column) columns)

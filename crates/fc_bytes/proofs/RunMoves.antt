@@ -1,17 +1,14 @@
 -- The listed moves of several cards are all that the game allows.
-use Rattle.std.proofs.Common.{◌++◌, ◌+◌, ◌-◌, ◌<◌, ◌↔◌, ◌∙◌, ◌∷◌, ◌≡◌, ◌≢◌, ◌⊎◌, [], All, ap, ap₂}
-use Rattle.std.proofs.Common.{arith, Bool, cond, drop, false, inl, inr, length, List, map, not, Option, refl}
-use Rattle.std.proofs.Common.{Some, subst, suc, sym, true, zero, ℕ}
-use Rattle.std.proofs.lemmas.{Bool.{cases_lt, eq-eqb, eqb-true}, List.Elements.{All-contains}}
-use Rattle.std.proofs.lemmas.{List.{length-map}, Option.{same_Some}}
-use Rattle.std.specs.{List.{Contains, filter, flat_map}, Option.{is_none}}
+use Rattle.std.proofs.Common.{◌++◌, ◌+◌, ◌-◌, ◌<◌, ◌↔◌, ◌∙◌, ◌∷◌, ◌≡◌, ◌≢◌, ◌⊎◌, [], All, ap, ap₂, arith, Bool, cond}
+use Rattle.std.proofs.Common.{drop, false, inl, inr, length, List, map, not, Option, refl, Some, subst, suc, sym, true}
+use Rattle.std.proofs.{Common.{zero, ℕ}, lemmas.{Bool.{cases_lt, eq-eqb, eqb-true}, List.Elements.{All-contains}}}
+use Rattle.std.{proofs.lemmas.{List.{length-map}, Option.{same_Some}}, specs.List.{Contains, filter, flat_map}}
+use Rattle.std.specs.Option.{is_none}
 use Rattle.{fc_bytes.specs.declared.runs.RunBytes.{RunBytes}, fc_card.specs.{places, rank_of}}
-use Rattle.fc_board.{proofs.RunStepLemmas.{not_refused_exactly}, specs.Boards.{Board}}
-use Rattle.fc_board.specs.{Games.{Game}, Moves.{RunFits}}
-use Rattle.fc_board.specs.Steps.{column_at, fault_or, last_card, longest_run, onto, run_count}
-use Rattle.fc_board.specs.Steps.{run_refusal}
-use Rattle.fc_board.specs.declared.fault.StepFault.{StepFault, TheVariants.{SamePile}}
-use Rattle.fc_board.specs.declared.run_move.RunMove.{RunMove, TheVariants.{Run}}
+use Rattle.fc_board.{proofs.RunStepLemmas.{not_refused_exactly}, specs.{Boards.{Board}, Games.{Game}, Moves.{RunFits}}}
+use Rattle.fc_board.specs.Steps.{column_at, fault_or, last_card, longest_run, onto, run_count, run_refusal}
+use Rattle.fc_board.specs.declared.{fault.StepFault.{StepFault, TheVariants.{SamePile}}, run_move.RunMove.{RunMove}}
+use Rattle.fc_board.specs.declared.run_move.RunMove.TheVariants.{Run}
 use Rattle.fc_bytes.proofs.ChildrenLemmas.{none_of, none_pass, rest_fails, source_more, tried_more}
 use Rattle.fc_bytes.proofs.LegalMoves.{all_sourced, all_tried, sourced_all, tried_all}
 use Rattle.fc_bytes.specs.{IsAllowedRun, legal_runs, legal_runs_between, legal_runs_from, run_bytes}

@@ -1,26 +1,14 @@
 -- Lemmas on the bits of cards: where they are as many as the cards, no card is there twice.
-use Rattle.std.proofs.Common.{◌%◌, ◌*◌, ◌++◌, ◌+◌, ◌<◌, ◌==◌, ◌^◌, ◌∙◌, ◌∷◌, ◌≡◌, ◌≤◌, [], ap, ap₂}
-use Rattle.std.proofs.Common.{arith, Bool, cond, count_ones, false, get_or, inl, inr, length, List}
-use Rattle.std.proofs.Common.{refl, subst, suc, sym, take, true, zero, ℕ}
-use Rattle.std.proofs.lemmas.Bool.{cases_eq, eqb-true}
-use Rattle.std.proofs.lemmas.List.{take_more}
-use Rattle.std.proofs.lemmas.List.Elements.{All-append, All-cons, All-nil}
-use Rattle.std.proofs.lemmas.Nat.{mod-pow-add, mod_below, ones_cat, or_lt, pow_pos}
+use Rattle.std.proofs.Common.{◌%◌, ◌*◌, ◌++◌, ◌+◌, ◌<◌, ◌==◌, ◌^◌, ◌∙◌, ◌∷◌, ◌≡◌, ◌≤◌, [], ap, ap₂, arith, Bool, cond}
+use Rattle.std.proofs.Common.{count_ones, false, get_or, inl, inr, length, List, refl, subst, suc, sym, take, true}
+use Rattle.std.proofs.{Common.{zero, ℕ}, lemmas.Bool.{cases_eq, eqb-true}}
+use Rattle.std.proofs.lemmas.List.{Elements.{All-append, All-cons, All-nil}, take_more}
 use Rattle.std.proofs.lemmas.Nat.Bits.{bit_at-lt, bit_at-zero, bit_at_or}
-use Rattle.std.specs.Int.{bit_at}
-use Rattle.std.specs.Int.Bits.{bit_or}
+use Rattle.std.{proofs.lemmas.Nat.{mod-pow-add, mod_below, ones_cat, or_lt, pow_pos}, specs.Int.{bit_at, Bits.{bit_or}}}
 use Rattle.fc_card.proofs.CardSetLemmas.{bit_of_one, count_of-append, one_below, one_bit}
-use Rattle.fc_card.specs.{AreBitsOf, AreCountsOf, count_of, IsCard}
-use Rattle.fc_card.specs.inside.{count_at, counts_of}
+use Rattle.fc_card.specs.{AreBitsOf, AreCountsOf, count_of, inside.{count_at, counts_of}, IsCard}
 
 -- ---- one card after another
-pub AreBitsOf-nil : AreBitsOf [] 0
-AreBitsOf-nil = record {
-  are_set = λ card in_deck. bit_at-zero card;
-  below = omega arith;
-  in_deck = All-nil IsCard;
-}
-
 count_of-one : (card other : ℕ) → count_of other (card ∷ []) ≡ cond {A = ℕ} (card == other) 1 0
 count_of-one card other = omega arith
 

@@ -1,23 +1,15 @@
 -- Lemmas on counts of cards that two numbers hold by their bits.
-use Rattle.std.proofs.Common.{◌%◌, ◌*◌, ◌++◌, ◌+◌, ◌/◌, ◌<◌, ◌==◌, ◌^◌, ◌↔◌, ◌∙◌, ◌∷◌, ◌≡◌}
-use Rattle.std.proofs.Common.{◌≢◌, ◌≤◌, [], All, ap, arith, Bool, cond, false, get_or, inl, inr}
-use Rattle.std.proofs.Common.{length, List, MatchOption, min, None, Option, refl, slice_index, Some}
-use Rattle.std.proofs.Common.{SomeIff, subst, sym, take, true, ℕ}
-use Rattle.std.proofs.lemmas.Bool.{agree_below, agree_below_at, cases_Bool, cases_eq, cases_lt}
-use Rattle.std.proofs.lemmas.Bool.{eq-eqb, eqb-true}
-use Rattle.std.proofs.lemmas.List.{take_more}
-use Rattle.std.proofs.lemmas.List.Elements.{All-append, All-cons, All-nil}
-use Rattle.std.proofs.lemmas.List.Sums.{sum_by-append}
-use Rattle.std.proofs.lemmas.Nat.{and_le_r, or_lt, pow_below}
-use Rattle.std.proofs.lemmas.Nat.Bits.{and_pow, bit_at-lt, bit_at-pow_other, bit_at-pow_same}
-use Rattle.std.proofs.lemmas.Nat.Bits.{bit_at-trailing_ones, bit_at-trailing_zeros, bit_at-zero}
-use Rattle.std.proofs.lemmas.Nat.Bits.{bit_at_and, bit_at_ones, bit_at_or}
-use Rattle.std.proofs.lemmas.Nat.Bits.{same_from_bits_below}
-use Rattle.std.specs.Int.{bit_at, trailing_ones, trailing_zeros, w64}
-use Rattle.std.specs.Int.Bits.{bit_and, bit_or}
-use Rattle.fc_card.specs.{AreCountsOf, count_of, Counts, CountsEachOnce, CountsNoneUpTo, is_up_to}
-use Rattle.fc_card.specs.{IsCard, IsLowest, NoCard}
-use Rattle.fc_card.specs.inside.{AreCounts, count_at, counts_of}
+use Rattle.std.proofs.Common.{◌%◌, ◌*◌, ◌++◌, ◌+◌, ◌<◌, ◌==◌, ◌^◌, ◌↔◌, ◌∙◌, ◌∷◌, ◌≡◌, ◌≢◌, ◌≤◌, [], All, ap, arith}
+use Rattle.std.proofs.Common.{Bool, cond, false, get_or, inl, inr, length, List, MatchOption, min, None, Option, refl}
+use Rattle.std.proofs.Common.{slice_index, Some, SomeIff, subst, sym, take, true, ℕ}
+use Rattle.std.proofs.lemmas.Bool.{agree_below, agree_below_at, cases_Bool, cases_eq, cases_lt, eq-eqb, eqb-true}
+use Rattle.std.proofs.lemmas.List.{Elements.{All-append, All-cons, All-nil}, Sums.{sum_by-append}, take_more}
+use Rattle.std.proofs.lemmas.Nat.{and_le_r, Bits.{and_pow, bit_at-lt, bit_at-pow_other, bit_at-pow_same}}
+use Rattle.std.proofs.lemmas.Nat.Bits.{bit_at-trailing_ones, bit_at-trailing_zeros, bit_at-zero, bit_at_and}
+use Rattle.std.proofs.lemmas.Nat.{Bits.{bit_at_ones, bit_at_or, same_from_bits_below}, or_lt, pow_below}
+use Rattle.std.specs.Int.{bit_at, Bits.{bit_and, bit_or}, trailing_ones, trailing_zeros, w64}
+use Rattle.fc_card.specs.{AreCountsOf, count_of, Counts, CountsEachOnce, CountsNoneUpTo}
+use Rattle.fc_card.specs.{inside.{AreCounts, count_at, counts_of}, is_up_to, IsCard, IsLowest, NoCard}
 
 -- ---- one more of each card that has its bit
 pub AreCounts-add : (once twice bits : ℕ) → AreCounts once twice → bits < 2 ^ 52 → AreCounts (bit_or once bits) (bit_or twice (bit_and once bits))
@@ -123,15 +115,6 @@ suit_test suit height card = bit_at (suit_bits suit height) card == cond (is_up_
 
 all_suits : agree_below (λ suit. agree_below (λ height. agree_below (suit_test suit height) (λ _. true) 52) (λ _. true) 14) (λ _. true) 4 ≡ true
 all_suits = refl
-
-all_below : agree_below (λ suit. agree_below (λ height. suit_bits suit height / 4503599627370496 == 0) (λ _. true) 14) (λ _. true) 4 ≡ true
-all_below = refl
-
-pub suit_bits-below : (suit height : ℕ) → suit < 4 → height ≤ 13 → suit_bits suit height < 4503599627370496
-suit_bits-below suit height below high =
-    let of_suit = agree_below_at (λ suit. agree_below (λ height. suit_bits suit height / 4503599627370496 == 0) (λ _. true) 14) (λ _. true) 4 suit all_below below in
-    let test = agree_below_at (λ height. suit_bits suit height / 4503599627370496 == 0) (λ _. true) 14 height of_suit (omega (arith, high)) in
-    omega (arith, eqb-true _ _ test)
 
 pub suit_bits-is_up_to : (suit height card : ℕ) → suit < 4 → height ≤ 13 → IsCard card → bit_at (suit_bits suit height) card ≡ cond (is_up_to suit height card) 1 0
 suit_bits-is_up_to suit height card below high in_deck =

@@ -1,12 +1,10 @@
 -- The two letters of a card, read back.
-use Rattle.std.proofs.Common.{◌+◌, ◌-◌, ◌<◌, ◌==◌, ◌∙◌, ◌≡◌, ap, arith, Bool, false, None, Option}
-use Rattle.std.proofs.Common.{option_and_then, position, refl, slice_index, Some, sym, true, ℕ}
-use Rattle.std.proofs.lemmas.Bool.{agree_below, agree_below_at, eqb-true}
-use Rattle.std.proofs.lemmas.List.Quantifiers.{position-Some}
-use Rattle.std.proofs.lemmas.Option.{option_and_then_some}
-use Rattle.std.specs.Option.{option_map}
-use Rattle.fc_card.specs.{card_of, card_text, IsCard, rank_letter, rank_letters, rank_of}
-use Rattle.fc_card.specs.{suit_letter, suit_letters, suit_of}
+use Rattle.std.proofs.Common.{◌+◌, ◌-◌, ◌<◌, ◌==◌, ◌∙◌, ◌≡◌, ap, arith, Bool, false, None, Option, option_and_then}
+use Rattle.std.proofs.Common.{position, refl, slice_index, Some, sym, true, ℕ}
+use Rattle.std.proofs.lemmas.{Bool.{agree_below, agree_below_at, eqb-true}, List.Quantifiers.{position-Some}}
+use Rattle.std.{proofs.lemmas.Option.{option_and_then_some}, specs.Option.{option_map}}
+use Rattle.fc_card.specs.{card_of, card_text, IsCard, rank_letter, rank_letters, rank_of, suit_letter, suit_letters}
+use Rattle.fc_card.specs.{suit_of}
 
 -- the number of the rank that this letter stands for
 abbrev pub rank_named : ℕ → Option ℕ

@@ -1,18 +1,15 @@
 -- Boards of a closed list are not won, however one plays.
-use Rattle.std.proofs.Common.{◌++◌, ◌↔◌, ◌∷◌, [], All, arith, Bool, inl, inr, List, refl, subst}
-use Rattle.std.proofs.{Common.{sym, ℕ}, lemmas.List.Elements.{All-contains, Contains-append_cases}}
-use Rattle.std.proofs.lemmas.List.Elements.{Contains-append_left, Contains-append_right}
-use Rattle.std.specs.List.{Contains}
+use Rattle.std.proofs.Common.{◌++◌, ◌↔◌, ◌∷◌, [], All, arith, Bool, inl, inr, List, refl, subst, sym, ℕ}
+use Rattle.std.proofs.lemmas.List.Elements.{All-contains, Contains-append_cases, Contains-append_left}
+use Rattle.std.{proofs.lemmas.List.Elements.{Contains-append_right}, specs.List.{Contains}}
 use Rattle.fc_board.proofs.{AlikeLemmas.{carries-PlaysAlike}, DeckLemmas.{stays_well_formed}}
 use Rattle.fc_board.proofs.{RenamingLemmas.{fills-renamed_card}, RunPlayLemmas.{list_expanded}}
-use Rattle.fc_board.{proofs.StepCarried.{step-carried}, specs.Boards.{Board, IsWellFormed}}
-use Rattle.fc_board.specs.{Games.{Game, RuleLaws}, Moves.{list_image, MoveList, OneCard, Runs}}
-use Rattle.fc_board.specs.Passages.{carried, carried_move}
+use Rattle.fc_board.{proofs.StepCarried.{step-carried}, specs.{Boards.{Board, IsWellFormed}, Games.{Game, RuleLaws}}}
+use Rattle.fc_board.specs.{Moves.{list_image, MoveList, OneCard, Runs}, Passages.{carried, carried_move}}
 use Rattle.fc_board.specs.{Play.{expansions, IsWon, Played, Plays}, Steps.{Step}}
-use Rattle.fc_board.specs.declared.moves.Move.{Move}
-use Rattle.fc_canon.proofs.CanonicalLemmas.{Equivalent-IsWellFormed, Equivalent-refl}
-use Rattle.fc_canon.{proofs.CanonicalLemmas.{Equivalent-sym, Equivalent-trans}, specs.{Equivalent}}
-use Rattle.fc_closed.specs.{IsAmong, IsClosed, IsUnsolvable}
+use Rattle.{fc_board.specs.declared.moves.Move.{Move}, fc_closed.specs.{IsAmong, IsClosed, IsUnsolvable}}
+use Rattle.fc_canon.proofs.CanonicalLemmas.{Equivalent-IsWellFormed, Equivalent-refl, Equivalent-sym, Equivalent-trans}
+use Rattle.fc_canon.specs.{Equivalent}
 
 module _ {game : Game} {renamings : List (List ℕ)} {cells count : ℕ} {kings_only : Bool} (laws : RuleLaws game renamings cells count kings_only) where
   -- a move from a board that is equivalent to one of these leads to such a board

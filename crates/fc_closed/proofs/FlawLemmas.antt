@@ -1,18 +1,15 @@
 -- What is wrong with a list of keys is one thing, at one place.
-use Rattle.std.proofs.Common.{◌<◌, ◌∙◌, ◌≡◌, ◌≤◌, ◌⊎◌, [], ap, arith, get_or, inl, inr, length}
-use Rattle.std.proofs.{Common.{List, refl, subst, sym, ℕ}, lemmas.Bool.{cases_lt}}
-use Rattle.std.proofs.lemmas.Option.{get_or_from_slice_get, slice_get_within}
+use Rattle.std.proofs.Common.{◌<◌, ◌∙◌, ◌≡◌, ◌≤◌, ◌⊎◌, [], ap, arith, get_or, inl, inr, length, List, refl, subst, sym}
+use Rattle.std.proofs.{Common.{ℕ}, lemmas.{Bool.{cases_lt}, Option.{get_or_from_slice_get, slice_get_within}}}
 use Rattle.std.specs.List.{Contains}
 use Rattle.fc_board.specs.{Boards.{Board}, declared.moves.Move.{Move}, Games.{Game}, Play.{IsWon}}
 use Rattle.fc_canon.specs.{IsFirst}
-use Rattle.fc_bytes.proofs.DecodedLemmas.{one_board}
-use Rattle.fc_bytes.specs.{HasKey, HoldsBoard, legal_moves, move_bytes}
+use Rattle.fc_bytes.{proofs.DecodedLemmas.{one_board}, specs.{HasKey, HoldsBoard, legal_moves, move_bytes}}
 use Rattle.fc_bytes.specs.declared.{board.BoardBytes.{BoardBytes}, moves.MoveBytes.{MoveBytes}}
-use Rattle.fc_closed.{proofs.{KeysLemmas.{one_key}, OutLemmas.{in_not_out}}, specs.{AreKeys}}
-use Rattle.fc_closed.specs.{AreKeysTo, AreShutTo, IsAbove, IsDoubted, IsFirstFlaw, IsFlawInPlay}
-use Rattle.fc_closed.specs.{IsShut, LeadsOut, ShowUnsolvable, StaysIn}
-use Rattle.fc_closed.specs.declared.check.{Doubt.{Doubt}, Flaw.{Flaw, TheVariants.{NoBoard}}}
-use Rattle.fc_closed.specs.declared.check.Flaw.TheVariants.{NotAbove, NotCanonical, Open, Won}
+use Rattle.fc_closed.{proofs.{KeysLemmas.{one_key}, OutLemmas.{in_not_out}}, specs.{AreKeys, AreKeysTo, AreShutTo}}
+use Rattle.fc_closed.specs.{IsAbove, IsDoubted, IsFirstFlaw, IsFlawInPlay, IsShut, LeadsOut, ShowUnsolvable, StaysIn}
+use Rattle.fc_closed.specs.declared.check.{Doubt.{Doubt}, Flaw.{Flaw}}
+use Rattle.fc_closed.specs.declared.check.Flaw.TheVariants.{NoBoard, NotAbove, NotCanonical, Open, Won}
 use Rattle.fc_closed.specs.declared.check.Doubt.TheVariants as doubt
 
 blank : BoardBytes

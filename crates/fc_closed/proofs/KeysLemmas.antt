@@ -1,27 +1,23 @@
 -- Keys that are all shut are those of a closed list of boards, and where something is wrong they are not.
-use Rattle.std.proofs.Common.{◌+◌, ◌-◌, ◌<◌, ◌↔◌, ◌∙◌, ◌∷◌, ◌≡◌, ◌≤◌, [], All, ap, ap₂, arith, Bool}
-use Rattle.std.proofs.Common.{get_or, inl, inr, length, List, map, refl, subst, sym, ℕ}
-use Rattle.std.proofs.lemmas.{Bool.{cases_lt}, List.Elements.{All-cons, All-contains, All-head}}
-use Rattle.std.proofs.lemmas.List.Elements.{All-nil, All-tail, Contains-get_or}
+use Rattle.std.proofs.Common.{◌+◌, ◌-◌, ◌<◌, ◌↔◌, ◌∙◌, ◌∷◌, ◌≡◌, ◌≤◌, [], All, ap, ap₂, arith, Bool, get_or, inl, inr}
+use Rattle.std.proofs.{Common.{length, List, map, refl, subst, sym, ℕ}, lemmas.Bool.{cases_lt}}
+use Rattle.std.proofs.lemmas.List.Elements.{All-cons, All-contains, All-head, All-nil, All-tail, Contains-get_or}
 use Rattle.std.{proofs.lemmas.List.{get_or-map, get_or_default, length-map}, specs.List.{Contains}}
 use Rattle.std.specs.Prelude.{Err, IfErr, IsOk, Ok, Result}
-use Rattle.fc_board.proofs.DeckLemmas.{stays_well_formed}
-use Rattle.fc_board.proofs.StepLemmas.{not_refused_at_step, one_after}
-use Rattle.fc_board.specs.{Boards.{Board, IsWellFormed}, Games.{Game, RuleLaws}, Passages.{carried}}
-use Rattle.fc_board.specs.{Play.{IsWon}, Steps.{Step}}
+use Rattle.fc_board.proofs.{DeckLemmas.{stays_well_formed}, StepLemmas.{not_refused_at_step, one_after}}
+use Rattle.fc_board.specs.{Boards.{Board, IsWellFormed}, Games.{Game, RuleLaws}, Passages.{carried}, Play.{IsWon}}
+use Rattle.fc_board.specs.Steps.{Step}
 use Rattle.{fc_board.specs.declared.moves.Move.{Move}, fc_text.specs.Bytes.{IsLess}}
-use Rattle.fc_canon.proofs.CanonicalLemmas.{Equivalent-refl, Equivalent-sym}
-use Rattle.fc_canon.{proofs.LeastTextLemmas.{chosen-same}, specs.{Equivalent}}
+use Rattle.fc_canon.proofs.{CanonicalLemmas.{Equivalent-refl, Equivalent-sym}, LeastTextLemmas.{chosen-same}}
+use Rattle.fc_canon.specs.{Equivalent}
 use Rattle.fc_bytes.proofs.{DecodedLemmas.{one_board}, LegalMoves.{all_listed}}
 use Rattle.fc_bytes.specs.{all_bytes, board_bytes, HasKey, HoldsBoard, IsKeyAfter, legal_moves}
 use Rattle.fc_bytes.specs.declared.board.BoardBytes.{BoardBytes}
-use Rattle.fc_closed.{proofs.ClosedLemmas.{together, unsolvable}, specs.{AreClosedKeys, AreKeys}}
-use Rattle.fc_closed.specs.{AreKeysTo, AreShutTo, HoldBoards, IsAbove, IsClosed, IsDoubted}
-use Rattle.fc_closed.specs.{IsFirstFlaw, IsFlawInPlay, IsShut, IsSoAt, IsUnsolvable, LeadsOut}
-use Rattle.fc_closed.specs.{ShowUnsolvable, StaysIn}
+use Rattle.fc_closed.{proofs.ClosedLemmas.{together, unsolvable}, specs.{AreClosedKeys, AreKeys, AreKeysTo, AreShutTo}}
+use Rattle.fc_closed.specs.{HoldBoards, IsAbove, IsClosed, IsDoubted, IsFirstFlaw, IsFlawInPlay, IsShut, IsSoAt}
+use Rattle.fc_closed.specs.{IsUnsolvable, LeadsOut, ShowUnsolvable, StaysIn}
 use Rattle.fc_closed.specs.declared.check.{Doubt.{Doubt, TheVariants.{NotAmong}}, Flaw.{Flaw}}
-use Rattle.fc_closed.specs.declared.check.Flaw.TheVariants.{NoBoard, NotAbove, NotCanonical, Open}
-use Rattle.fc_closed.specs.declared.check.Flaw.TheVariants.{Won}
+use Rattle.fc_closed.specs.declared.check.Flaw.TheVariants.{NoBoard, NotAbove, NotCanonical, Open, Won}
 
 -- what maps to an item of the mapped list
 pub mapped_from : {X Y : Type 0} (f : X → Y) (xs : List X) (y : Y) (d : X) → Contains (map f xs) y →

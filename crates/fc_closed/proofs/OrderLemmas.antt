@@ -1,17 +1,14 @@
 -- Bytes that are compared as one number, and part by part.
-use Rattle.std.proofs.Common.{◌*◌, ◌++◌, ◌+◌, ◌<◌, ◌^◌, ◌↔◌, ◌∙◌, ◌∷◌, ◌≡◌, ◌≤◌, [], ap, ap₂, arith}
-use Rattle.std.proofs.Common.{Bool, inl, inr, IsTrue, length, length-append, List, ltb, refl, suc}
-use Rattle.std.proofs.{Common.{sym, ℕ}, lemmas.Bool.{lt-ltb, ltb-true}}
-use Rattle.std.proofs.lemmas.{Cmp.{nat_list_cmp_total, ranked}, List.{append_assoc}}
-use Rattle.std.proofs.lemmas.List.Elements.{All-head, All-tail}
-use Rattle.std.{proofs.Math.Nat.{mul-le-mul_right, suc-mul}, specs.Cmp.Lexicographic.{slice_cmp}}
-use Rattle.std.specs.declared.cmp.Ordering.{Ordering, TheVariants.{Equal, Greater, Less}}
-use Rattle.std.specs.{Int.{from_be_bytes, w32, w64}, Ordering.{is_lt, nat_cmp, ordering_then}}
-use Rattle.std.specs.Prelude.{All}
-use Rattle.fc_text.proofs.TextLemmas.{cases_text, less_before_all, not_both, same_front}
-use Rattle.fc_text.specs.{Bytes.{IsLess}, reader.{IsProperPrefix}}
-use Rattle.{fc_bytes.specs.{all_bytes}, fc_canon.proofs.CanonLoop.{is_less}}
-use Rattle.fc_bytes.specs.declared.board.BoardBytes.{BoardBytes}
+use Rattle.std.proofs.Common.{◌*◌, ◌++◌, ◌+◌, ◌<◌, ◌^◌, ◌↔◌, ◌∙◌, ◌∷◌, ◌≡◌, ◌≤◌, [], ap, ap₂, arith, Bool, inl, inr}
+use Rattle.std.proofs.Common.{IsTrue, length, length-append, List, ltb, refl, suc, sym, ℕ}
+use Rattle.std.proofs.lemmas.{Bool.{lt-ltb, ltb-true}, Cmp.{nat_list_cmp_total, ranked}, List.{append_assoc}}
+use Rattle.std.proofs.{lemmas.List.Elements.{All-head, All-tail}, Math.Nat.{mul-le-mul_right, suc-mul}}
+use Rattle.std.specs.{Cmp.Lexicographic.{slice_cmp}, declared.cmp.Ordering.{Ordering}}
+use Rattle.std.specs.{declared.cmp.Ordering.TheVariants.{Equal, Greater, Less}, Int.{from_be_bytes, w32, w64}}
+use Rattle.std.specs.{Ordering.{is_lt, nat_cmp, ordering_then}, Prelude.{All}}
+use Rattle.fc_text.{proofs.TextLemmas.{cases_text, less_before_all, not_both, same_front}, specs.Bytes.{IsLess}}
+use Rattle.fc_text.specs.reader.{IsProperPrefix}
+use Rattle.{fc_bytes.specs.{all_bytes, declared.board.BoardBytes.{BoardBytes}}, fc_canon.proofs.CanonLoop.{is_less}}
 
 -- ---- as one number
 -- the number with these bytes, the first one its highest

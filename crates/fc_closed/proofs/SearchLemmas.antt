@@ -1,11 +1,9 @@
 -- What a search by halves knows of keys that ascend.
-use Rattle.std.proofs.Common.{◌+◌, ◌-◌, ◌<◌, ◌≡◌, ◌≤◌, arith, get_or, inl, inr, length, List, subst}
-use Rattle.std.proofs.{Common.{suc, sym, zero, ℕ}, lemmas.Bool.{cases_lt}}
-use Rattle.std.proofs.lemmas.{Cmp.{nat_list_cmp_total}, List.{get_or_default}}
+use Rattle.std.proofs.Common.{◌+◌, ◌-◌, ◌<◌, ◌≡◌, ◌≤◌, arith, get_or, inl, inr, length, List, subst, suc, sym, zero, ℕ}
+use Rattle.std.proofs.lemmas.{Bool.{cases_lt}, Cmp.{nat_list_cmp_total}, List.{get_or_default}}
 use Rattle.std.specs.List.{AllPairs, Contains}
-use Rattle.fc_text.{proofs.TextLemmas.{not_itself}, specs.Bytes.{IsLess}}
-use Rattle.fc_bytes.specs.{all_bytes, declared.board.BoardBytes.{BoardBytes}}
-use Rattle.fc_closed.specs.{IsAbove}
+use Rattle.{fc_bytes.specs.{all_bytes}, fc_text.{proofs.TextLemmas.{not_itself}, specs.Bytes.{IsLess}}}
+use Rattle.{fc_bytes.specs.declared.board.BoardBytes.{BoardBytes}, fc_closed.specs.{IsAbove}}
 
 -- each key is above the one before it
 abbrev pub Ascend : List BoardBytes → Type 0

@@ -1,30 +1,23 @@
 -- Records are accepted exactly where their parts are read, spelled and listed.
-use Rattle.std.proofs.Common.{◌+◌, ◌-◌, ◌∙◌, ◌∷◌, ◌≡◌, ◌≤◌, [], ap, Bool, cond, drop, Err, false}
-use Rattle.std.proofs.Common.{if◌then◌else◌, length, List, None, Ok, Option, refl, Result, Some}
-use Rattle.std.proofs.Common.{sym, true, true≢false, ℕ}
+use Rattle.std.proofs.Common.{◌+◌, ◌-◌, ◌∙◌, ◌∷◌, ◌≡◌, ◌≤◌, [], ap, Bool, cond, drop, Err, false, if◌then◌else◌, length}
+use Rattle.std.proofs.Common.{List, None, Ok, Option, refl, Result, Some, sym, true, true≢false, ℕ}
 use Rattle.fc_board.specs.{Games.{Game, game_of}, Moves.{MoveList, OneCard, Runs}}
-use Rattle.fc_board.specs.declared.{moves.Move.{Move}, rule.Variant.{Variant}}
-use Rattle.fc_board.specs.declared.run_move.RunMove.{RunMove}
+use Rattle.fc_board.specs.declared.{moves.Move.{Move}, rule.Variant.{Variant}, run_move.RunMove.{RunMove}}
 use Rattle.fc_text.proofs.MovesReadLemmas.{listed-exactly, runs_listed-exactly}
-use Rattle.fc_text.proofs.ReadingLemmas.{faultless-from_Spells, Spells-board_of}
-use Rattle.fc_text.{proofs.ReadingLemmas.{Spells-from_faultless}, specs.Faults.{first_fault}}
-use Rattle.fc_text.specs.{Lines.{Piece}, Notation.{ListFault}, Readings.{moves_read, runs_read}}
+use Rattle.fc_text.proofs.ReadingLemmas.{faultless-from_Spells, Spells-board_of, Spells-from_faultless}
+use Rattle.fc_text.specs.{Faults.{first_fault}, Lines.{Piece}, Notation.{ListFault}, Readings.{moves_read, runs_read}}
 use Rattle.fc_text.specs.{Rows.{is_empty, line_of}, Spelling.{board_of, Spells}}
 use Rattle.fc_text.specs.declared.fault.BoardFault.{BoardFault}
-use Rattle.fc_record.specs.Grammar.{Accepted, after_header, AreFaulty, AreLists, bad_board}
-use Rattle.fc_record.specs.Grammar.{bad_header, bad_line, bad_list, begins_with, board_part}
-use Rattle.fc_record.specs.Grammar.{Contents, contents_of, contents_with, fault_at, has_two_marks}
-use Rattle.fc_record.specs.Grammar.{Heading, heading_of, IsFaulty, IsList, later_line, list_lines}
-use Rattle.fc_record.specs.Grammar.{list_mark, list_read, list_with, lists_of, next_list, no_lines}
-use Rattle.fc_record.specs.Grammar.{Reading, reading_by, reading_of, reading_with, RecordSays}
-use Rattle.fc_record.specs.Grammar.{Refused, skipped_line, stray_line, with_list}
+use Rattle.fc_record.specs.Grammar.{Accepted, after_header, AreFaulty, AreLists, bad_board, bad_header, bad_line}
+use Rattle.fc_record.specs.Grammar.{bad_list, begins_with, board_part, Contents, contents_of, contents_with, fault_at}
+use Rattle.fc_record.specs.Grammar.{has_two_marks, Heading, heading_of, IsFaulty, IsList, later_line, list_lines}
+use Rattle.fc_record.specs.Grammar.{list_mark, list_read, list_with, lists_of, next_list, no_lines, Reading, reading_by}
+use Rattle.fc_record.specs.Grammar.{reading_of, reading_with, RecordSays, Refused, skipped_line, stray_line, with_list}
 use Rattle.fc_record.specs.Printing.{refuses}
-use Rattle.fc_record.specs.declared.record.RecordFault.{RecordFault}
-use Rattle.fc_record.specs.declared.record.RecordFaultKind.TheVariants.{StrayLine}
+use Rattle.fc_record.specs.declared.record.{RecordFault.{RecordFault}, RecordFaultKind.TheVariants.{StrayLine}}
 use Rattle.fc_record.specs.declared.record.RecordFaultKind.TheVariants as kind
-use Rattle.fc_collect.proofs.HeaderSaysLemmas.{BadHeaderAt-from_err, err-from_BadHeaderAt}
-use Rattle.fc_collect.proofs.HeaderSaysLemmas.{HeaderSays-from_ok, ok-from_HeaderSays}
-use Rattle.fc_collect.proofs.ShareLemmas.{few_cells}
+use Rattle.fc_collect.proofs.HeaderSaysLemmas.{BadHeaderAt-from_err, err-from_BadHeaderAt, HeaderSays-from_ok}
+use Rattle.fc_collect.proofs.{HeaderSaysLemmas.{ok-from_HeaderSays}, ShareLemmas.{few_cells}}
 
 not_ok : {X E : Type 0} {x : X} {e : E} → ◌≡◌ {A = Result X E} (Err e) (Ok x) → ⊥
 not_ok e = cc

@@ -1,26 +1,19 @@
 -- A comment after an accepted record changes nothing of what it says.
-use Rattle.std.proofs.Common.{◌++◌, ◌+◌, ◌-◌, ◌==◌, ◌∙◌, ◌∷◌, ◌≡◌, ◌≤◌, [], All, ap, append_assoc}
-use Rattle.std.proofs.Common.{arith, Bool, cond, drop, false, length, length-append, List, None}
-use Rattle.std.proofs.Common.{not, Ok, Option, refl, Result, Some, take, true, ℕ}
-use Rattle.std.proofs.lemmas.List.{drop-append-le, Elements.{All-cons, All-head, All-tail}}
+use Rattle.std.proofs.Common.{◌++◌, ◌+◌, ◌-◌, ◌==◌, ◌∙◌, ◌∷◌, ◌≡◌, ◌≤◌, [], All, ap, append_assoc, arith, Bool, cond}
+use Rattle.std.proofs.Common.{drop, false, length, length-append, List, None, not, Ok, Option, refl, Result, Some, take}
+use Rattle.std.proofs.{Common.{true, ℕ}, lemmas.List.{drop-append-le, Elements.{All-cons, All-head, All-tail}}}
 use Rattle.std.proofs.lemmas.{List.{Folds.{find-append}, take-append-le}, Option.{same_Some}}
-use Rattle.std.proofs.Math.Seq.{drop-length, take-length}
-use Rattle.std.specs.List.{after_first, find, position_or_len}
+use Rattle.std.{proofs.Math.Seq.{drop-length, take-length}, specs.List.{after_first, find, position_or_len}}
 use Rattle.std.specs.Option.{option_map, option_or, unwrap_or}
-use Rattle.fc_board.specs.{Boards.{Board}, Games.{Game, game_of}, Moves.{MoveList}}
-use Rattle.fc_board.specs.declared.rule.Variant.{Variant}
+use Rattle.fc_board.specs.{Boards.{Board}, declared.rule.Variant.{Variant}, Games.{Game, game_of}, Moves.{MoveList}}
 use Rattle.fc_text.proofs.BlankLineLemmas.{begins_comment, spelled_with_comment}
-use Rattle.fc_text.proofs.LineLemmas.{first_line, InLine, lines_are_pieces}
-use Rattle.fc_text.proofs.NextLineLemmas.{piece_within}
-use Rattle.fc_text.specs.Bytes.{is_gap, line_feed, number_sign}
-use Rattle.fc_text.specs.Lines.{IsPieceOf, lines_from, Piece, words_from}
+use Rattle.fc_text.proofs.{LineLemmas.{first_line, InLine, lines_are_pieces}, NextLineLemmas.{piece_within}}
+use Rattle.fc_text.specs.{Bytes.{is_gap, line_feed, number_sign}, Lines.{IsPieceOf, lines_from, Piece, words_from}}
 use Rattle.fc_text.specs.{Rows.{is_empty, line_of}, Spelling.{Spells}}
-use Rattle.fc_record.proofs.ContentsLemmas.{begins_list}
-use Rattle.fc_record.proofs.TextLineLemmas.{ends-drop, last_byte, lines_after}
-use Rattle.fc_record.specs.Grammar.{Accepted, after_header, AreLists, begins_with, board_part}
-use Rattle.fc_record.specs.Grammar.{Contents, header_line, Heading, heading_of, heading_of_words}
-use Rattle.fc_record.specs.Grammar.{is_line_feed, list_lines, lists_start, next_list, no_lines}
-use Rattle.fc_record.specs.Grammar.{reading_of, skipped_line, without_header}
+use Rattle.fc_record.proofs.{ContentsLemmas.{begins_list}, TextLineLemmas.{ends-drop, last_byte, lines_after}}
+use Rattle.fc_record.specs.Grammar.{Accepted, after_header, AreLists, begins_with, board_part, Contents, header_line}
+use Rattle.fc_record.specs.Grammar.{Heading, heading_of, heading_of_words, is_line_feed, list_lines, lists_start}
+use Rattle.fc_record.specs.Grammar.{next_list, no_lines, reading_of, skipped_line, without_header}
 use Rattle.fc_record.specs.RecordTexts.{ends_line, header_mark}
 use Rattle.fc_record.specs.declared.record.RecordFault.{RecordFault}
 use Rattle.fc_collect.proofs.AcceptanceLemmas.{accepted-from_Says, Says-from_accepted}

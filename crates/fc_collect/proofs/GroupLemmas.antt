@@ -1,18 +1,15 @@
 -- What one more member makes of the groups, and of what is kept of them.
 use Rattle.{fc_board.specs.Games.{variant_word}, indexmap.specs.IndexSet.{insert_key}}
-use Rattle.std.proofs.Common.{◌++◌, ◌+◌, ◌<◌, ◌||◌, ◌∙◌, ◌∷◌, ◌≡◌, [], All, ap, append-nil}
-use Rattle.std.proofs.Common.{append_assoc, ap₂, arith, Bool, cond, false, filter, get_or}
-use Rattle.std.proofs.Common.{if◌then◌else◌, length, List, map, None, not, one-add, refl, set}
-use Rattle.std.proofs.Common.{slice_get, Some, subst, subst₂, suc, sym, true, true≢false, unwrap_or}
-use Rattle.std.proofs.{Common.{zero, ℕ}, lemmas.List.Elements.{All-filter, All-head, All-nil}}
-use Rattle.std.proofs.lemmas.List.Elements.{All-tail, All-weaker, filter-append, filter_passes}
-use Rattle.std.proofs.lemmas.List.{Folds.{list_any-append}, length-map, map-append}
-use Rattle.std.proofs.lemmas.{List.Sums.{prefix_len-le-length}, Slice.Zip.{AllZip-long}}
-use Rattle.std.{proofs.Math.Bool.{or-false}, specs.Cmp.{and_equiv, IsEquivalence}}
-use Rattle.std.specs.{Cmp.Lexicographic.{on_texts_equal}, List.{AllZip, list_any, position_or_len}}
+use Rattle.std.proofs.Common.{◌++◌, ◌+◌, ◌<◌, ◌||◌, ◌∙◌, ◌∷◌, ◌≡◌, [], All, ap, append-nil, append_assoc, ap₂, arith}
+use Rattle.std.proofs.Common.{Bool, cond, false, filter, get_or, if◌then◌else◌, length, List, map, None, not, one-add}
+use Rattle.std.proofs.Common.{refl, set, slice_get, Some, subst, subst₂, suc, sym, true, true≢false, unwrap_or, zero, ℕ}
+use Rattle.std.proofs.lemmas.List.Elements.{All-filter, All-head, All-nil, All-tail, All-weaker, filter-append}
+use Rattle.std.proofs.lemmas.List.{Elements.{filter_passes}, Folds.{list_any-append}, length-map, map-append}
+use Rattle.std.proofs.{lemmas.{List.Sums.{prefix_len-le-length}, Slice.Zip.{AllZip-long}}, Math.Bool.{or-false}}
+use Rattle.std.specs.Cmp.{and_equiv, IsEquivalence, Lexicographic.{on_texts_equal}}
+use Rattle.std.specs.List.{AllZip, list_any, position_or_len}
 use Rattle.fc_collect.proofs.KeyedLemmas.{boards-more, leaders-All, one_key, same-together}
-use Rattle.fc_collect.specs.Groups.{belong_together, canonical_text, groups_of, leaders_after}
-use Rattle.fc_collect.specs.Groups.{Member}
+use Rattle.fc_collect.specs.Groups.{belong_together, canonical_text, groups_of, leaders_after, Member}
 use Rattle.fc_collect.specs.inside.{Gathers, group_key, HasBoard, IsPlaceAmong, same_key}
 use Rattle.fc_collect.specs.declared.groups.{Gathered.{Gathered}, GroupKey.{GroupKey}}
 

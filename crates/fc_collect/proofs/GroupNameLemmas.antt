@@ -1,28 +1,21 @@
 -- What was printed part by part is what is printed for a group.
 use Rattle.{fc_text.specs.Bytes.{blank, line_feed}, indexmap.specs.IndexSet.{insert_key}}
-use Rattle.std.proofs.Common.{◌&&◌, ◌++◌, ◌||◌, ◌↔◌, ◌∙◌, ◌∷◌, ◌≡◌, [], All, ap, append-nil}
-use Rattle.std.proofs.Common.{append_assoc, ap₂, arith, Bool, codes, cond, Contains, decimal, false}
-use Rattle.std.proofs.Common.{filter, flat_map, length, List, map, not, refl, subst, sym, take}
-use Rattle.std.proofs.{Common.{true, true≢false, ℕ}, lemmas.List.Folds.{list_any_at}}
+use Rattle.std.proofs.Common.{◌&&◌, ◌++◌, ◌||◌, ◌↔◌, ◌∙◌, ◌∷◌, ◌≡◌, [], All, ap, append-nil, append_assoc, ap₂, arith}
+use Rattle.std.proofs.Common.{Bool, codes, cond, Contains, decimal, false, filter, flat_map, length, List, map, not}
+use Rattle.std.proofs.{Common.{refl, subst, sym, take, true, true≢false, ℕ}, lemmas.List.Folds.{list_any_at}}
 use Rattle.std.proofs.{lemmas.Slice.Eq.{bytes_eq-Decides}, Math.Seq.{take-append_seam}}
 use Rattle.std.specs.List.{join_with_byte, list_any}
-use Rattle.fc_board.specs.Boards.{Board, IsWellFormed}
-use Rattle.fc_board.specs.Games.{game_of, renamings_of, variant_word}
+use Rattle.fc_board.specs.{Boards.{Board, IsWellFormed}, Games.{game_of, renamings_of, variant_word}}
 use Rattle.fc_board.specs.laws.RenamingTests.{bakers_game_laws, eight_off_laws, freecell_laws}
-use Rattle.fc_board.specs.declared.rule.Variant.TheVariants.{BakersGame, EightOff, FreeCell}
-use Rattle.fc_board.specs.declared.rule.Variant.{Variant}
-use Rattle.fc_canon.proofs.LeastTextLemmas.{one_least_text_where_equivalent}
-use Rattle.fc_canon.specs.{Equivalent, least_text}
+use Rattle.fc_board.specs.declared.rule.Variant.{TheVariants.{BakersGame, EightOff, FreeCell}, Variant}
+use Rattle.fc_canon.{proofs.LeastTextLemmas.{one_least_text_where_equivalent}, specs.{Equivalent, least_text}}
 use Rattle.fc_record.specs.{Grammar.{Contents, Heading}, Printing.{header_text, show_lines}}
-use Rattle.fc_collect.proofs.GroupLemmas.{Apart, has_one, keys-has_one, keys-more, leaders-Apart}
-use Rattle.fc_collect.proofs.GroupLemmas.{leaders-cover, together}
-use Rattle.fc_collect.proofs.KeyedLemmas.{boards-more, leaders-All, one_text, one_variant}
-use Rattle.fc_collect.specs.Groups.{belong_together, canonical_text, group_lines, leaders_after}
-use Rattle.fc_collect.specs.{Groups.{Member, name_of_member, unique_lines}, inside.{AreKeys}}
-use Rattle.fc_collect.specs.inside.{AreNames, group_key, HasBoard, KeepsNames, member_of, name_word}
-use Rattle.fc_collect.specs.inside.{same_key}
-use Rattle.fc_collect.specs.declared.commands.names.GroupNames.{GroupNames}
-use Rattle.fc_collect.specs.declared.groups.GroupKey.{GroupKey}
+use Rattle.fc_collect.proofs.GroupLemmas.{Apart, has_one, keys-has_one, keys-more, leaders-Apart, leaders-cover}
+use Rattle.fc_collect.proofs.{GroupLemmas.{together}, KeyedLemmas.{boards-more, leaders-All, one_text, one_variant}}
+use Rattle.fc_collect.specs.Groups.{belong_together, canonical_text, group_lines, leaders_after, Member, name_of_member}
+use Rattle.fc_collect.specs.Groups.{unique_lines}
+use Rattle.fc_collect.specs.inside.{AreKeys, AreNames, group_key, HasBoard, KeepsNames, member_of, name_word, same_key}
+use Rattle.fc_collect.specs.declared.{commands.names.GroupNames.{GroupNames}, groups.GroupKey.{GroupKey}}
 
 seven_parts : (old a b c d e f new header mark count colon names end text : List ℕ) → a ≡ old ++ header → b ≡ a ++ mark → c ≡ b ++ count → d ≡ c ++ colon
     → e ≡ d ++ names → f ≡ e ++ end → new ≡ f ++ text → new ≡ old ++ (header ++ ((mark ++ (count ++ (colon ++ (names ++ end)))) ++ text))

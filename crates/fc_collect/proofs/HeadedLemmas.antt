@@ -1,20 +1,17 @@
 -- Lemmas on a run whose output begins with a header, and on one that prints each record by itself.
-use Rattle.std.proofs.Common.{◌++◌, ◌∙◌, ◌≡◌, [], ap, append_assoc, arith, Bool, Err, List, Ok}
-use Rattle.std.proofs.Common.{Option, refl, Result, subst, sym, ℕ}
-use Rattle.std.{proofs.KnownBytes.{Appends-trans, Consumes-nil}, specs.Io.KnownBytes.{Appends}}
-use Rattle.std.specs.List.{flat_map}
+use Rattle.std.proofs.Common.{◌++◌, ◌∙◌, ◌≡◌, [], ap, append_assoc, arith, Bool, Err, List, Ok, Option, refl, Result}
+use Rattle.std.proofs.{Common.{subst, sym, ℕ}, KnownBytes.{Appends-trans, Consumes-nil}}
+use Rattle.std.specs.{Io.KnownBytes.{Appends}, List.{flat_map}}
 use Rattle.fc_record.specs.RecordTexts.{RecordText}
-use Rattle.fc_collect.proofs.{PrintingLemmas.{outputs_alone}, RunLemmas.{limits_none}}
-use Rattle.fc_collect.specs.{inside.{output_counts}, Limits.{AreCountable}, Promises.{Begins}}
-use Rattle.fc_collect.specs.Promises.{Printing, ReadsAsCounted, ResultFits, Transfer, Transfers}
-use Rattle.fc_collect.specs.Promises.{whole_of, WritesAsCounted, WritesText}
+use Rattle.fc_collect.{proofs.{PrintingLemmas.{outputs_alone}, RunLemmas.{limits_none}}, specs.inside.{output_counts}}
+use Rattle.fc_collect.specs.{Limits.{AreCountable}, Promises.{Begins, Printing, ReadsAsCounted, ResultFits, Transfer}}
+use Rattle.fc_collect.specs.Promises.{Transfers, whole_of, WritesAsCounted, WritesText}
 use Rattle.fc_collect.specs.{Records.{outputs_after, records_from}, Runs.{RunsWithin}}
 use Rattle.fc_collect.specs.Streams.{bytes_of, GrowsBy, inner_of, Stream, StreamBytes}
 use Rattle.fc_collect.specs.declared.streams.{counted.Counted.{Counted}, faults.RunFault.{RunFault}}
-use Rattle.fc_collect.specs.declared.streams.faults.RunFault.TheVariants.{Memory, Read}
-use Rattle.fc_collect.specs.declared.streams.faults.RunFault.TheVariants.{ReaderNeverEnds, TooLarge}
-use Rattle.fc_collect.specs.declared.streams.faults.RunFault.TheVariants.{Write}
-use Rattle.fc_collect.specs.declared.streams.{faults.Summary.{Summary}, limits.Limits.{Limits}}
+use Rattle.fc_collect.specs.declared.streams.faults.RunFault.TheVariants.{Memory, Read, ReaderNeverEnds, TooLarge}
+use Rattle.fc_collect.specs.declared.streams.faults.{RunFault.TheVariants.{Write}, Summary.{Summary}}
+use Rattle.fc_collect.specs.declared.streams.limits.Limits.{Limits}
 
 -- the header is printed before all else
 abbrev pub headed : (header : List ℕ) → Printing → Printing

@@ -1,13 +1,10 @@
 -- Where headers begin: byte by byte, and by lines.
-use Rattle.std.proofs.Common.{◌&&◌, ◌++◌, ◌+◌, ◌==◌, ◌∷◌, ◌≡◌, [], All, ap, append-nil}
-use Rattle.std.proofs.Common.{append_assoc, arith, Bool, cond, drop, false, length, length-append}
-use Rattle.std.proofs.{Common.{List, map, refl, sym, true, ℕ}, lemmas.Bool.{eqb-true}}
-use Rattle.std.{proofs.lemmas.List.Elements.{All-cons, All-nil}, specs.List.{flat_map}}
+use Rattle.std.proofs.Common.{◌&&◌, ◌++◌, ◌+◌, ◌==◌, ◌∷◌, ◌≡◌, [], All, ap, append-nil, append_assoc, arith, Bool, cond}
+use Rattle.std.proofs.Common.{drop, false, length, length-append, List, map, refl, sym, true, ℕ}
+use Rattle.std.{proofs.lemmas.{Bool.{eqb-true}, List.Elements.{All-cons, All-nil}}, specs.List.{flat_map}}
 use Rattle.fc_text.specs.{Bytes.{line_feed}, Lines.{in_line, lines_from, Piece}}
-use Rattle.fc_record.proofs.TextLineLemmas.{ends_line-last}
-use Rattle.fc_record.specs.RecordTexts.{ends_line, header_mark, RecordText}
-use Rattle.fc_collect.proofs.RecordLemmas.{cut-induction, mark_is}
-use Rattle.fc_collect.specs.Pieces.{header_start, header_starts}
+use Rattle.fc_record.{proofs.TextLineLemmas.{ends_line-last}, specs.RecordTexts.{ends_line, header_mark, RecordText}}
+use Rattle.fc_collect.{proofs.RecordLemmas.{cut-induction, mark_is}, specs.Pieces.{header_start, header_starts}}
 use Rattle.fc_collect.specs.Records.{begins_header, cut, longer, next_text, nothing}
 
 -- where headers begin in bytes at this place, whether or not a line begins there

@@ -1,15 +1,12 @@
 -- A header is read exactly where it says something, and refused exactly where it is bad.
-use Rattle.std.proofs.Common.{◌∷◌, ◌≡◌, ◌⊎◌, [], Bool, cond, drop, Err, false, inl, inr, length}
-use Rattle.std.proofs.Common.{List, None, Ok, Option, refl, Result, Some, subst, true, ℕ}
-use Rattle.fc_board.specs.declared.rule.Variant.{Variant}
-use Rattle.fc_text.specs.{Bytes.{is_gap}, Lines.{Piece, words_from}}
-use Rattle.fc_record.specs.Grammar.{BadHeaderAt, begins_with, fault_at, game_alone, game_and_name}
-use Rattle.fc_record.specs.Grammar.{HasHeader, header_line, HeaderSays, Heading, heading_by}
-use Rattle.fc_record.specs.Grammar.{heading_of, heading_of_words, is_name, no_game, no_header}
-use Rattle.fc_record.specs.Grammar.{no_name, no_word, third_word, variant_named, with_header}
+use Rattle.std.proofs.Common.{◌∷◌, ◌≡◌, ◌⊎◌, [], Bool, cond, drop, Err, false, inl, inr, length, List, None, Ok, Option}
+use Rattle.std.proofs.Common.{refl, Result, Some, subst, true, ℕ}
+use Rattle.{fc_board.specs.declared.rule.Variant.{Variant}, fc_text.specs.{Bytes.{is_gap}, Lines.{Piece, words_from}}}
+use Rattle.fc_record.specs.Grammar.{BadHeaderAt, begins_with, fault_at, game_alone, game_and_name, HasHeader}
+use Rattle.fc_record.specs.Grammar.{header_line, HeaderSays, Heading, heading_by, heading_of, heading_of_words, is_name}
+use Rattle.fc_record.specs.Grammar.{no_game, no_header, no_name, no_word, third_word, variant_named, with_header}
 use Rattle.fc_record.specs.{Grammar.{without_header}, RecordTexts.{header_mark}}
-use Rattle.fc_record.specs.declared.record.RecordFault.{RecordFault}
-use Rattle.fc_record.specs.declared.record.RecordFaultKind.TheVariants.{BadHeader}
+use Rattle.fc_record.specs.declared.record.{RecordFault.{RecordFault}, RecordFaultKind.TheVariants.{BadHeader}}
 
 -- ---- what is said is read
 

@@ -1,18 +1,15 @@
 -- A collection after another one that ends with a line feed, where it begins with a header.
-use Rattle.std.proofs.Common.{◌++◌, ◌+◌, ◌∙◌, ◌∷◌, ◌≡◌, [], ap, append-nil, append_assoc, ap₂}
-use Rattle.std.proofs.Common.{arith, Bool, cond, drop, false, length, length-append, List, map}
-use Rattle.std.proofs.{Common.{refl, sym, true, ℕ}, lemmas.Grind.{flat_map-append}}
-use Rattle.std.specs.List.{flat_map}
+use Rattle.std.proofs.Common.{◌++◌, ◌+◌, ◌∙◌, ◌∷◌, ◌≡◌, [], ap, append-nil, append_assoc, ap₂, arith, Bool, cond, drop}
+use Rattle.std.proofs.Common.{false, length, length-append, List, map, refl, sym, true, ℕ}
+use Rattle.std.{proofs.lemmas.Grind.{flat_map-append}, specs.List.{flat_map}}
 use Rattle.fc_record.specs.RecordTexts.{ends_line, header_mark, RecordText}
 use Rattle.fc_collect.proofs.HeaderLemmas.{cut-header_starts}
-use Rattle.fc_collect.proofs.PrintingLemmas.{next_number-records, records_among-append}
-use Rattle.fc_collect.proofs.RecordLemmas.{begun-number, begun-place, cut-append, cut-induction}
-use Rattle.fc_collect.proofs.RecordLemmas.{finished-append, finished_output-append, mark_is}
-use Rattle.fc_collect.proofs.RecordLemmas.{records_of-append, records_of-last}
-use Rattle.fc_collect.specs.{Pieces.{header_starts, placed_after}, Promises.{Begins}}
-use Rattle.fc_collect.specs.Records.{begins_header, begun, begun_by, cut, finished, finished_output}
-use Rattle.fc_collect.specs.Records.{finished_records, has_content, if_record, longer, next_number}
-use Rattle.fc_collect.specs.Records.{next_text, nothing, output_of_records, records_among}
+use Rattle.fc_collect.proofs.{PrintingLemmas.{next_number-records, records_among-append}, RecordLemmas.{begun-number}}
+use Rattle.fc_collect.proofs.RecordLemmas.{begun-place, cut-append, cut-induction, finished-append}
+use Rattle.fc_collect.proofs.RecordLemmas.{finished_output-append, mark_is, records_of-append, records_of-last}
+use Rattle.fc_collect.specs.{Pieces.{header_starts, placed_after}, Promises.{Begins}, Records.{begins_header, begun}}
+use Rattle.fc_collect.specs.Records.{begun_by, cut, finished, finished_output, finished_records, has_content, if_record}
+use Rattle.fc_collect.specs.Records.{longer, next_number, next_text, nothing, output_of_records, records_among}
 use Rattle.fc_collect.specs.Records.{records_of, whole_output}
 
 -- ---- whether a line has ended

@@ -1,17 +1,13 @@
 -- What the limits of a run that is given no others say.
-use Rattle.std.proofs.Common.{◌&&◌, ◌*◌, ◌++◌, ◌+◌, ◌-◌, ◌<◌, ◌==◌, ◌↔◌, ◌∷◌, ◌≡◌, ◌≤◌, [], All, ap}
-use Rattle.std.proofs.Common.{append_assoc, ap₂, arith, Bool, cond, drop, false, length}
-use Rattle.std.proofs.Common.{length-append, length-drop, length-take-le, List, refl, Some, subst}
-use Rattle.std.proofs.Common.{sym, take, true, ℕ}
+use Rattle.std.proofs.Common.{◌&&◌, ◌*◌, ◌++◌, ◌+◌, ◌-◌, ◌<◌, ◌==◌, ◌↔◌, ◌∷◌, ◌≡◌, ◌≤◌, [], All, ap, append_assoc, ap₂}
+use Rattle.std.proofs.Common.{arith, Bool, cond, drop, false, length, length-append, length-drop, length-take-le, List}
+use Rattle.std.proofs.Common.{refl, Some, subst, sym, take, true, ℕ}
 use Rattle.std.proofs.lemmas.List.Elements.{All-cons, All-nil, All-weaker}
 use Rattle.fc_record.specs.RecordTexts.{ends_line, header_mark, RecordText}
-use Rattle.fc_collect.specs.Limits.{most_record_bytes, standard}
-use Rattle.fc_collect.specs.{Promises.{IsSmall, IsWithinLimits}, Records.{begins_header, begun}}
-use Rattle.fc_collect.specs.Records.{begun_by, cut, finished, finished_by, has_content, longer}
-use Rattle.fc_collect.specs.Records.{next_number, next_text, nothing}
-use Rattle.fc_collect.specs.declared.streams.limits.Limits.{Limits}
-use Rattle.fc_collect.specs.inside.{cut_in, Searched, text_at}
-use Rattle.fc_collect.specs.declared.engine.progress.Progress.{Progress}
+use Rattle.fc_collect.specs.{inside.{cut_in, Searched, text_at}, Limits.{most_record_bytes, standard}}
+use Rattle.fc_collect.specs.{Promises.{IsSmall, IsWithinLimits}, Records.{begins_header, begun, begun_by, cut}}
+use Rattle.fc_collect.specs.Records.{finished, finished_by, has_content, longer, next_number, next_text, nothing}
+use Rattle.fc_collect.specs.declared.{engine.progress.Progress.{Progress}, streams.limits.Limits.{Limits}}
 
 -- the text has no number too many
 abbrev pub IsNumbered : ℕ → RecordText → Type 0

@@ -1,20 +1,15 @@
 -- The accepted records of a collection: what each says, that its lists can be printed, and that their numbers differ.
-use Rattle.std.proofs.Common.{◌+◌, ◌∙◌, ◌∷◌, ◌≡◌, ◌≤◌, ◌⊎◌, [], All, arith, Contains, drop, inl}
-use Rattle.std.proofs.Common.{inr, List, refl, suc, sym, zero, ℕ}
-use Rattle.std.proofs.lemmas.List.Elements.{All-append, All-cons, All-contains, All-nil, All-weaker}
-use Rattle.std.proofs.lemmas.List.Elements.{Contains-append_cases}
+use Rattle.std.proofs.Common.{◌+◌, ◌∙◌, ◌∷◌, ◌≡◌, ◌≤◌, ◌⊎◌, [], All, arith, Contains, drop, inl, inr, List, refl, suc}
+use Rattle.std.proofs.{Common.{sym, zero, ℕ}, lemmas.List.Elements.{All-append, All-cons, All-contains, All-nil}}
+use Rattle.std.proofs.lemmas.List.Elements.{All-weaker, Contains-append_cases}
 use Rattle.fc_board.specs.{Boards.{IsWellFormed}, Games.{Game, game_of}}
 use Rattle.fc_board.specs.Moves.{ListFits, move_count, MoveList, OneCard, Runs}
 use Rattle.fc_board.specs.declared.rule.Variant.{Variant}
-use Rattle.fc_text.{proofs.ListedLemmas.{Listed-Fit, Listed-RunFit}, specs.Lines.{Piece}}
-use Rattle.fc_text.specs.Notation.{most_moves}
-use Rattle.fc_record.specs.Grammar.{Accepted, AreLists, IsList, next_list, no_lines, Reading}
-use Rattle.fc_record.specs.Grammar.{reading_of, RecordSays, Refused, skipped_line}
-use Rattle.fc_record.specs.RecordTexts.{RecordText}
-use Rattle.fc_collect.proofs.AcceptanceLemmas.{Says-from_accepted}
-use Rattle.fc_collect.proofs.RecordLemmas.{cut-NumberedFrom, NumberedFrom}
-use Rattle.fc_collect.specs.Groups.{if_accepted, Member, members_among}
-use Rattle.fc_collect.specs.Records.{nothing, records_of}
+use Rattle.fc_text.{proofs.ListedLemmas.{Listed-Fit, Listed-RunFit}, specs.{Lines.{Piece}, Notation.{most_moves}}}
+use Rattle.fc_record.specs.Grammar.{Accepted, AreLists, IsList, next_list, no_lines, Reading, reading_of, RecordSays}
+use Rattle.fc_record.specs.{Grammar.{Refused, skipped_line}, RecordTexts.{RecordText}}
+use Rattle.fc_collect.proofs.{AcceptanceLemmas.{Says-from_accepted}, RecordLemmas.{cut-NumberedFrom, NumberedFrom}}
+use Rattle.fc_collect.specs.{Groups.{if_accepted, Member, members_among}, Records.{nothing, records_of}}
 
 -- ---- what is said
 

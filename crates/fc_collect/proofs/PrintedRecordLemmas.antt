@@ -1,45 +1,38 @@
 -- What is printed for a record is read as that record again.
-use Rattle.std.proofs.Common.{◌++◌, ◌+◌, ◌-◌, ◌∙◌, ◌∷◌, ◌≡◌, ◌≤◌, [], All, ap, append-nil}
-use Rattle.std.proofs.Common.{append_assoc, arith, Bool, codes, cond, Contains, drop, false}
-use Rattle.std.proofs.Common.{if◌then◌else◌, length, List, map, None, Option, refl, Some, subst}
-use Rattle.std.proofs.Common.{sym, true, ℕ}
-use Rattle.std.proofs.lemmas.List.Elements.{All-contains_itself, All-head, All-tail, All-weaker}
-use Rattle.std.proofs.lemmas.List.Folds.{find-append}
-use Rattle.std.{proofs.Math.Seq.{drop-append_seam, take-append_seam}, specs.Fmt.{decimal}}
-use Rattle.std.specs.{List.{find, flat_map}, Option.{option_map, unwrap_or}}
+use Rattle.std.proofs.Common.{◌++◌, ◌+◌, ◌-◌, ◌∙◌, ◌∷◌, ◌≡◌, ◌≤◌, [], All, ap, append-nil, append_assoc, arith, Bool}
+use Rattle.std.proofs.Common.{codes, cond, Contains, drop, false, if◌then◌else◌, length, List, map, None, Option, refl}
+use Rattle.std.proofs.Common.{Some, subst, sym, true, ℕ}
+use Rattle.std.proofs.lemmas.List.{Elements.{All-contains_itself, All-head, All-tail, All-weaker}, Folds.{find-append}}
+use Rattle.std.{proofs.Math.Seq.{drop-append_seam, take-append_seam}, specs.{Fmt.{decimal}, List.{find, flat_map}}}
+use Rattle.std.specs.Option.{option_map, unwrap_or}
 use Rattle.fc_board.specs.{Boards.{Board, IsWellFormed}, Games.{Game, game_of, variant_word}}
 use Rattle.fc_board.specs.Moves.{MoveList, OneCard, Runs}
 use Rattle.fc_board.specs.declared.rule.Variant.{Variant}
-use Rattle.fc_text.proofs.{LineLemmas.{first_line, InLine}, PrintedTextLemmas.{bytes_in_lines}}
-use Rattle.fc_text.proofs.PrintedTextLemmas.{cells_bytes, heights_bytes, text_lines, text_spells}
+use Rattle.fc_text.proofs.LineLemmas.{first_line, InLine}
+use Rattle.fc_text.proofs.PrintedTextLemmas.{bytes_in_lines, cells_bytes, heights_bytes, text_lines, text_spells}
 use Rattle.fc_text.proofs.PrintLemmas.{print-Listed, print_runs-Listed}
-use Rattle.fc_text.proofs.WordLemmas.{after_separator, words_from-moved}
-use Rattle.fc_text.specs.{Bytes.{blank, line_feed}, Lines.{lines_from, moved, Piece, words_from}}
+use Rattle.fc_text.{proofs.WordLemmas.{after_separator, words_from-moved}, specs.Bytes.{blank, line_feed}}
+use Rattle.fc_text.specs.Lines.{lines_from, moved, Piece, words_from}
 use Rattle.fc_text.specs.Notation.{IsRunToken, IsToken, Listed, print, separates_tokens}
-use Rattle.fc_text.specs.{Printed.{column_line, text_of}, Rows.{is_empty, line_of}}
-use Rattle.fc_text.specs.Spelling.{Spells}
-use Rattle.fc_record.proofs.{ContentsLemmas.{begins_list}, HeadingLemmas.{given_name, header_gone}}
-use Rattle.fc_record.proofs.HeadingLemmas.{header_read, heading_said, in_line, IsGiven, IsHeading}
-use Rattle.fc_record.proofs.HeadingLemmas.{named, numbered, unnamed, without}
+use Rattle.fc_text.specs.{Printed.{column_line, text_of}, Rows.{is_empty, line_of}, Spelling.{Spells}}
+use Rattle.fc_record.proofs.{ContentsLemmas.{begins_list}, HeadingLemmas.{given_name, header_gone, header_read}}
+use Rattle.fc_record.proofs.HeadingLemmas.{heading_said, in_line, IsGiven, IsHeading, named, numbered, unnamed, without}
 use Rattle.fc_record.proofs.PrintedListLemmas.{list_bytes, list_in_line}
-use Rattle.fc_record.proofs.PrintedPartLemmas.{IsPlain, lines_of_board, no_list}
-use Rattle.fc_record.proofs.TextLineLemmas.{AreLines, AreLines-append, AreLines-flat_map}
-use Rattle.fc_record.proofs.TextLineLemmas.{AreLines-line, ends-after, ends-line_feed, lines_after}
-use Rattle.fc_record.specs.Grammar.{Accepted, after_header, AreLists, begins_with, board_part}
-use Rattle.fc_record.specs.Grammar.{Contents, Heading, IsList, list_lines, list_mark, lists_start}
-use Rattle.fc_record.specs.Grammar.{next_list, no_header, no_lines, Reading, reading_of}
-use Rattle.fc_record.specs.{Grammar.{with_header, without_header}, Printing.{after_blank}}
-use Rattle.fc_record.specs.Printing.{header_text, heading_line, list_line, name_of, printed}
-use Rattle.fc_record.specs.{Printing.{show_lines}, RecordTexts.{header_mark, RecordText}}
-use Rattle.fc_collect.proofs.AcceptanceLemmas.{accepted-from_Says, Says-from_accepted}
-use Rattle.fc_collect.proofs.HeaderLemmas.{marks, marks-lines, starts_of}
-use Rattle.fc_collect.proofs.HeaderSaysLemmas.{HeaderSays-from_ok, ok-from_HeaderSays}
-use Rattle.fc_collect.proofs.{MemberLemmas.{CanPrint, lists_can}, ReadAgainLemmas.{all_again}}
-use Rattle.fc_collect.proofs.ReadAgainLemmas.{AreReadAs, IsReadAs, ReadsAgain, same_printed, Stays}
-use Rattle.fc_collect.proofs.ShareLemmas.{few_cells}
-use Rattle.fc_collect.specs.{Groups.{Member, members_among, name_of_member}, inside.{member_of}}
-use Rattle.fc_collect.specs.Limits.{most_countable}
-use Rattle.fc_collect.specs.Records.{has_content, output_of_records, records_of}
+use Rattle.fc_record.proofs.{PrintedPartLemmas.{IsPlain, lines_of_board, no_list}, TextLineLemmas.{AreLines}}
+use Rattle.fc_record.proofs.TextLineLemmas.{AreLines-append, AreLines-flat_map, AreLines-line, ends-after}
+use Rattle.fc_record.{proofs.TextLineLemmas.{ends-line_feed, lines_after}, specs.Grammar.{Accepted, after_header}}
+use Rattle.fc_record.specs.Grammar.{AreLists, begins_with, board_part, Contents, Heading, IsList, list_lines, list_mark}
+use Rattle.fc_record.specs.Grammar.{lists_start, next_list, no_header, no_lines, Reading, reading_of, with_header}
+use Rattle.fc_record.specs.Grammar.{without_header}
+use Rattle.fc_record.specs.Printing.{after_blank, header_text, heading_line, list_line, name_of, printed, show_lines}
+use Rattle.fc_record.specs.RecordTexts.{header_mark, RecordText}
+use Rattle.fc_collect.{
+  proofs.{AcceptanceLemmas.{accepted-from_Says, Says-from_accepted}, HeaderLemmas.{marks, marks-lines, starts_of}},
+  proofs.{HeaderSaysLemmas.{HeaderSays-from_ok, ok-from_HeaderSays}, MemberLemmas.{CanPrint, lists_can}},
+  proofs.{ReadAgainLemmas.{all_again, AreReadAs, IsReadAs, ReadsAgain, same_printed, Stays}, ShareLemmas.{few_cells}},
+  specs.{Groups.{Member, members_among, name_of_member}, inside.{member_of}, Limits.{most_countable}},
+  specs.Records.{has_content, output_of_records, records_of},
+}
 
 -- ---- the lines of lists
 

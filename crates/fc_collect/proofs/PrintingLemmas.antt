@@ -1,27 +1,21 @@
 -- What a record says, and who is a member with it.
-use Rattle.std.proofs.Common.{◌++◌, ◌+◌, ◌-◌, ◌∙◌, ◌∷◌, ◌≡◌, [], ap, append-nil, append_assoc}
-use Rattle.std.proofs.Common.{arith, Bool, cond, Err, false, length, length-append, List, Ok}
-use Rattle.std.proofs.Common.{Option, refl, Result, subst, sym, true, true≢false, ℕ}
-use Rattle.std.proofs.{KnownBytes.{Appends-trans}, lemmas.Grind.{flat_map-append}}
-use Rattle.std.{proofs.lemmas.List.Sums.{sum_by-append}, specs.Io.KnownBytes.{Appends}}
-use Rattle.std.specs.List.{count_by, flat_map}
+use Rattle.std.proofs.Common.{◌++◌, ◌+◌, ◌-◌, ◌∙◌, ◌∷◌, ◌≡◌, [], ap, append-nil, append_assoc, arith, Bool, cond, Err}
+use Rattle.std.proofs.Common.{false, length, length-append, List, Ok, Option, refl, Result, subst, sym, true}
+use Rattle.std.proofs.{Common.{true≢false, ℕ}, KnownBytes.{Appends-trans}, lemmas.Grind.{flat_map-append}}
+use Rattle.std.{proofs.lemmas.List.Sums.{sum_by-append}, specs.{Io.KnownBytes.{Appends}, List.{count_by, flat_map}}}
 use Rattle.fc_board.specs.{declared.rule.Variant.{Variant}, Games.{Game, game_of}}
-use Rattle.fc_record.specs.Grammar.{Accepted, after_header, Contents, contents_of, Heading, Reading}
-use Rattle.fc_record.specs.Grammar.{reading_after, reading_with, Refused}
-use Rattle.fc_record.specs.{Printing.{is_refused, refuses}, RecordTexts.{RecordText}}
+use Rattle.fc_record.specs.Grammar.{Accepted, after_header, Contents, contents_of, Heading, Reading, reading_after}
+use Rattle.fc_record.specs.{Grammar.{reading_with, Refused}, Printing.{is_refused, refuses}, RecordTexts.{RecordText}}
 use Rattle.fc_record.specs.declared.record.RecordFault.{RecordFault}
-use Rattle.fc_collect.proofs.WritingLemmas.{SendingFits-failed, Sends-then, SendsSome-after}
-use Rattle.fc_collect.proofs.WritingLemmas.{SendsSome-more, SendsSome-then}
-use Rattle.fc_collect.specs.{Groups.{if_accepted, Member, summary_of}, inside.{Finishes, IsAllowed}}
-use Rattle.fc_collect.specs.inside.{IsPrintFault, last_output, records_in, Sends, SendsSome}
+use Rattle.fc_collect.proofs.WritingLemmas.{SendingFits-failed, Sends-then, SendsSome-after, SendsSome-more}
+use Rattle.fc_collect.{proofs.WritingLemmas.{SendsSome-then}, specs.Groups.{if_accepted, Member, summary_of}}
+use Rattle.fc_collect.specs.inside.{Finishes, IsAllowed, IsPrintFault, last_output, records_in, Sends, SendsSome}
 use Rattle.fc_collect.specs.{inside.{TakeUpFault, Treats}, Promises.{WritesText}}
-use Rattle.fc_collect.specs.Records.{has_content, if_record, next_number, outputs_after}
-use Rattle.fc_collect.specs.Records.{records_among}
-use Rattle.fc_collect.specs.declared.engine.progress.Progress.{Progress}
-use Rattle.fc_collect.specs.declared.streams.faults.RunFault.{RunFault, TheVariants.{Memory, Read}}
-use Rattle.fc_collect.specs.declared.streams.faults.RunFault.TheVariants.{ReaderNeverEnds, TooLarge}
-use Rattle.fc_collect.specs.declared.streams.faults.RunFault.TheVariants.{Write}
-use Rattle.fc_collect.specs.declared.streams.{faults.Summary.{Summary}, limits.Limits.{Limits}}
+use Rattle.fc_collect.specs.Records.{has_content, if_record, next_number, outputs_after, records_among}
+use Rattle.fc_collect.specs.declared.{engine.progress.Progress.{Progress}, streams.faults.RunFault.{RunFault}}
+use Rattle.fc_collect.specs.declared.streams.faults.RunFault.TheVariants.{Memory, Read, ReaderNeverEnds, TooLarge}
+use Rattle.fc_collect.specs.declared.streams.faults.{RunFault.TheVariants.{Write}, Summary.{Summary}}
+use Rattle.fc_collect.specs.declared.streams.limits.Limits.{Limits}
 
 -- a record is read as its body is, after its heading
 pub read-as : (game : Game) (heading : Heading) (bytes body : List ℕ) (place : ℕ) (said : Result Contents RecordFault) → game ≡ game_of heading.variant → body ≡ after_header bytes

@@ -1,41 +1,31 @@
 -- What is printed for the records of a collection is read as those that were accepted.
-use Rattle.std.proofs.Common.{◌&&◌, ◌++◌, ◌+◌, ◌==◌, ◌||◌, ◌∙◌, ◌∷◌, ◌≡◌, ◌≤◌, [], All, ap}
-use Rattle.std.proofs.Common.{append-nil, append_assoc, arith, Bool, codes, cond, drop, eqb, false}
-use Rattle.std.proofs.Common.{length, length-append, List, map, not, Option, refl, slice_index, suc}
-use Rattle.std.proofs.{Common.{sym, true, zero, ℕ}, lemmas.List.Elements.{All-append, All-cons}}
-use Rattle.std.proofs.lemmas.List.Elements.{All-head, All-nil, All-tail, All-weaker}
-use Rattle.std.proofs.lemmas.List.{Folds.{list_any-append}, map-append}
-use Rattle.std.{proofs.lemmas.List.Sums.{AllPass-from_list_all}, specs.Fmt.{decimal}}
-use Rattle.std.specs.List.{flat_map, list_all, list_any}
-use Rattle.fc_card.specs.{card_text, rank_letter, rank_letters, rank_of, suit_letter, suit_letters}
-use Rattle.fc_card.specs.{suit_of}
+use Rattle.std.proofs.Common.{◌&&◌, ◌++◌, ◌+◌, ◌==◌, ◌||◌, ◌∙◌, ◌∷◌, ◌≡◌, ◌≤◌, [], All, ap, append-nil, append_assoc}
+use Rattle.std.proofs.Common.{arith, Bool, codes, cond, drop, eqb, false, length, length-append, List, map, not, Option}
+use Rattle.std.proofs.Common.{refl, slice_index, suc, sym, true, zero, ℕ}
+use Rattle.std.proofs.lemmas.List.Elements.{All-append, All-cons, All-head, All-nil, All-tail, All-weaker}
+use Rattle.std.proofs.lemmas.List.{Folds.{list_any-append}, map-append, Sums.{AllPass-from_list_all}}
+use Rattle.std.specs.{Fmt.{decimal}, List.{flat_map, list_all, list_any}}
+use Rattle.fc_card.specs.{card_text, rank_letter, rank_letters, rank_of, suit_letter, suit_letters, suit_of}
 use Rattle.fc_board.proofs.BoardLemmas.{All-right}
 use Rattle.fc_text.proofs.{BlankLineLemmas.{begins_comment}, LineLemmas.{first_line, InLine}}
-use Rattle.fc_text.specs.{Bytes.{line_feed, number_sign}, Lines.{lines_from, Piece}}
-use Rattle.fc_text.specs.Rows.{is_empty, line_of}
+use Rattle.fc_text.specs.{Bytes.{line_feed, number_sign}, Lines.{lines_from, Piece}, Rows.{is_empty, line_of}}
 use Rattle.fc_record.proofs.HeadingLemmas.{bytes_of_name, decimal-high, IsInName, refused_name}
 use Rattle.fc_record.proofs.TextLineLemmas.{ends-after, ends-line_feed, ends_line-last, lines_after}
-use Rattle.fc_record.specs.Grammar.{Accepted, begins_with, Contents, Heading, Reading, reading_of}
-use Rattle.fc_record.specs.Grammar.{Refused}
+use Rattle.fc_record.specs.Grammar.{Accepted, begins_with, Contents, Heading, Reading, reading_of, Refused}
 use Rattle.fc_record.specs.Printing.{name_of, printed, printed_by, record_reason, refusal_line}
 use Rattle.fc_record.specs.RecordTexts.{ends_line, header_mark, RecordText}
-use Rattle.fc_record.specs.declared.record.RecordFault.{RecordFault}
-use Rattle.fc_record.specs.declared.record.RecordFaultKind.{RecordFaultKind}
-use Rattle.fc_collect.{
-  proofs.{CommentLemmas.{accepted-comment_after}, HeaderLemmas.{marks, marks-lines}},
-  proofs.{JoiningLemmas.{begun-ends_from, records-joined}, LimitLemmas.{IsNumbered}},
-  proofs.RecordLemmas.{begun-append, cut-induction, finished-append, records_of-last},
-  specs.{Groups.{if_accepted, Member, members_among}, inside.{member_of}, Limits.{most_countable}},
-  specs.{Pieces.{placed_after}, Records.{begun, cut, finished, finished_records, has_content}},
-  specs.Records.{if_record, longer, next_text, nothing, output_of_records, records_among},
-  specs.Records.{records_of},
-}
+use Rattle.fc_record.specs.declared.record.{RecordFault.{RecordFault}, RecordFaultKind.{RecordFaultKind}}
+use Rattle.fc_collect.proofs.{CommentLemmas.{accepted-comment_after}, HeaderLemmas.{marks, marks-lines}}
+use Rattle.fc_collect.proofs.{JoiningLemmas.{begun-ends_from, records-joined}, LimitLemmas.{IsNumbered}}
+use Rattle.fc_collect.proofs.RecordLemmas.{begun-append, cut-induction, finished-append, records_of-last}
+use Rattle.fc_collect.specs.{Groups.{if_accepted, Member, members_among}, inside.{member_of}, Limits.{most_countable}}
+use Rattle.fc_collect.specs.{Pieces.{placed_after}, Records.{begun, cut, finished, finished_records, has_content}}
+use Rattle.fc_collect.specs.Records.{if_record, longer, next_text, nothing, output_of_records, records_among}
+use Rattle.fc_collect.specs.Records.{records_of}
 use Rattle.fc_record.specs.declared.record.RecordFaultKind.TheVariants as kind
 use Rattle.fc_board.specs.declared.rule.Variant.{Variant}
-use Rattle.fc_text.specs.declared.fault.BoardFaultKind.TheVariants.{BadCard, BadFoundation}
-use Rattle.fc_text.specs.declared.fault.BoardFaultKind.TheVariants.{MissingCard, RepeatedCard}
-use Rattle.fc_text.specs.declared.fault.BoardFaultKind.TheVariants.{RepeatedLine, TooManyCells}
-use Rattle.fc_text.specs.declared.fault.BoardFaultKind.TheVariants.{TooManyColumns}
+use Rattle.fc_text.specs.declared.fault.BoardFaultKind.TheVariants.{BadCard, BadFoundation, MissingCard, RepeatedCard}
+use Rattle.fc_text.specs.declared.fault.BoardFaultKind.TheVariants.{RepeatedLine, TooManyCells, TooManyColumns}
 
 -- ---- bytes without a header
 

@@ -1,16 +1,11 @@
 -- Laws of the texts that bytes are cut into, byte by byte.
-use Rattle.std.proofs.Common.{◌++◌, ◌+◌, ◌∙◌, ◌∷◌, ◌≡◌, [], ap, append-nil, append_assoc, ap₂}
-use Rattle.std.proofs.Common.{arith, Bool, cond, eqb, false, length, length-append, List, refl}
-use Rattle.std.proofs.Common.{subst, sym, true, ℕ}
-use Rattle.std.proofs.lemmas.Bool.{and_parts, eqb-true}
-use Rattle.std.proofs.lemmas.Grind.{flat_map-append}
-use Rattle.std.specs.List.{flat_map}
+use Rattle.std.proofs.Common.{◌++◌, ◌+◌, ◌∙◌, ◌∷◌, ◌≡◌, [], ap, append-nil, append_assoc, ap₂, arith, Bool, cond, eqb}
+use Rattle.std.proofs.Common.{false, length, length-append, List, refl, subst, sym, true, ℕ}
+use Rattle.std.{proofs.lemmas.{Bool.{and_parts, eqb-true}, Grind.{flat_map-append}}, specs.List.{flat_map}}
 use Rattle.fc_record.specs.RecordTexts.{ends_line, header_mark, RecordText}
-use Rattle.fc_collect.specs.Records.{begins_header, begun, begun_by, cut, finished, finished_by}
-use Rattle.fc_collect.specs.Records.{finished_output, finished_records, has_content, if_record}
-use Rattle.fc_collect.specs.Records.{longer, next_number, next_text, nothing, records_among}
-use Rattle.fc_collect.specs.Records.{records_of}
-use Rattle.fc_collect.proofs.PrintingLemmas.{records_among-append}
+use Rattle.fc_collect.{proofs.PrintingLemmas.{records_among-append}, specs.Records.{begins_header, begun, begun_by}}
+use Rattle.fc_collect.specs.Records.{cut, finished, finished_by, finished_output, finished_records, has_content}
+use Rattle.fc_collect.specs.Records.{if_record, longer, next_number, next_text, nothing, records_among, records_of}
 
 -- ---- some bytes and then others
 

@@ -1,34 +1,26 @@
 -- Lemmas on the turns of a run.
-use Rattle.std.proofs.Common.{◌++◌, ◌+◌, ◌<◌, ◌∙◌, ◌∷◌, ◌≡◌, ◌≤◌, [], All, ap, append-nil}
-use Rattle.std.proofs.Common.{append_assoc, arith, Bool, cond, drop, Err, length, length-append}
-use Rattle.std.proofs.Common.{List, Ok, Option, refl, Result, subst, sym, take, true, ℕ}
-use Rattle.std.proofs.KnownBytes.{Appends-nil, Appends-trans, Consumes-nil, Consumes-trans}
-use Rattle.std.proofs.lemmas.List.Elements.{All-append, All-cons, All-head, All-nil}
-use Rattle.std.proofs.lemmas.List.Sums.{sum_by-append}
-use Rattle.std.proofs.Math.Seq.{drop-append_seam, take-append_seam}
-use Rattle.std.specs.{Io.KnownBytes.{Appends, Consumes}, List.{count_by}}
-use Rattle.fc_board.proofs.BoardLemmas.{All-left, All-right}
-use Rattle.fc_board.specs.declared.rule.Variant.{Variant}
-use Rattle.fc_record.specs.{Grammar.{Contents, Heading}, Printing.{is_refused}}
-use Rattle.fc_record.specs.RecordTexts.{RecordText}
+use Rattle.std.proofs.Common.{◌++◌, ◌+◌, ◌<◌, ◌∙◌, ◌∷◌, ◌≡◌, ◌≤◌, [], All, ap, append-nil, append_assoc, arith, Bool}
+use Rattle.std.proofs.Common.{cond, drop, Err, length, length-append, List, Ok, Option, refl, Result, subst, sym, take}
+use Rattle.std.proofs.{Common.{true, ℕ}, KnownBytes.{Appends-nil, Appends-trans, Consumes-nil, Consumes-trans}}
+use Rattle.std.proofs.lemmas.List.{Elements.{All-append, All-cons, All-head, All-nil}, Sums.{sum_by-append}}
+use Rattle.std.{proofs.Math.Seq.{drop-append_seam, take-append_seam}, specs.Io.KnownBytes.{Appends, Consumes}}
+use Rattle.std.specs.List.{count_by}
+use Rattle.fc_board.{proofs.BoardLemmas.{All-left, All-right}, specs.declared.rule.Variant.{Variant}}
+use Rattle.fc_record.specs.{Grammar.{Contents, Heading}, Printing.{is_refused}, RecordTexts.{RecordText}}
 use Rattle.fc_record.specs.declared.record.RecordFault.{RecordFault}
-use Rattle.fc_collect.{
-  proofs.{PrintingLemmas.{outputs_after-append}, RecordLemmas.{begun-append, begun-number}},
-  proofs.RecordLemmas.{begun-place, cut-append, finished_among-append, records_among-last},
-  specs.{Closed.{refused_with}, Groups.{Member}, inside.{begun_in, ConsumedRead, cut_in}},
-  specs.inside.{FillsWindow, Finished, finished_in, Finishes, IsAllowed, last_output},
-  specs.inside.{printed_after, records_in, SendsSome, TakeUpFault, text_at},
-  specs.{Limits.{AreCountable}, Promises.{Begins, IsSmall, IsWithinLimits, OutputOf, Printing}},
-  specs.{Promises.{ReadsAsCounted, ResultCounts, ResultFits, Transfers, whole_of}, Records.{begun}},
-  specs.Records.{cut, finished, finished_from, first_of, if_record, outputs_after, records_among},
-  specs.Streams.{counts_of, GrowsBy, HasRoom, inner_of, one_more_if, StreamBytes},
-}
-use Rattle.fc_collect.specs.declared.engine.progress.Progress.{Progress}
-use Rattle.fc_collect.specs.declared.streams.{counted.Counted.{Counted}, faults.RunFault.{RunFault}}
-use Rattle.fc_collect.specs.declared.streams.faults.RunFault.TheVariants.{Memory, Read}
-use Rattle.fc_collect.specs.declared.streams.faults.RunFault.TheVariants.{ReaderNeverEnds, TooLarge}
-use Rattle.fc_collect.specs.declared.streams.faults.RunFault.TheVariants.{Write}
-use Rattle.fc_collect.specs.declared.streams.{faults.Summary.{Summary}, limits.Limits.{Limits}}
+use Rattle.fc_collect.proofs.{PrintingLemmas.{outputs_after-append}, RecordLemmas.{begun-append, begun-number}}
+use Rattle.fc_collect.proofs.RecordLemmas.{begun-place, cut-append, finished_among-append, records_among-last}
+use Rattle.fc_collect.specs.{Closed.{refused_with}, Groups.{Member}, inside.{begun_in, ConsumedRead, cut_in}}
+use Rattle.fc_collect.specs.inside.{FillsWindow, Finished, finished_in, Finishes, IsAllowed, last_output, printed_after}
+use Rattle.fc_collect.specs.{inside.{records_in, SendsSome, TakeUpFault, text_at}, Limits.{AreCountable}}
+use Rattle.fc_collect.specs.Promises.{Begins, IsSmall, IsWithinLimits, OutputOf, Printing, ReadsAsCounted, ResultCounts}
+use Rattle.fc_collect.specs.{Promises.{ResultFits, Transfers, whole_of}, Records.{begun, cut, finished, finished_from}}
+use Rattle.fc_collect.specs.Records.{first_of, if_record, outputs_after, records_among}
+use Rattle.fc_collect.specs.Streams.{counts_of, GrowsBy, HasRoom, inner_of, one_more_if, StreamBytes}
+use Rattle.fc_collect.specs.declared.{engine.progress.Progress.{Progress}, streams.counted.Counted.{Counted}}
+use Rattle.fc_collect.specs.declared.streams.faults.RunFault.{RunFault, TheVariants.{Memory, Read, ReaderNeverEnds}}
+use Rattle.fc_collect.specs.declared.streams.faults.{RunFault.TheVariants.{TooLarge, Write}, Summary.{Summary}}
+use Rattle.fc_collect.specs.declared.streams.limits.Limits.{Limits}
 
 -- ---- a run, and what it has between two turns
 

@@ -1,20 +1,16 @@
 -- Which passage leads from the first member to another.
-use Rattle.std.proofs.Common.{◌++◌, ◌↔◌, ◌∙◌, ◌∷◌, ◌≡◌, ◌≢◌, [], ap, append_assoc, ap₂, Bool, cond}
-use Rattle.std.proofs.Common.{false, IfSome, IsSome, List, None, Option, refl, Some, subst, sym}
-use Rattle.std.proofs.Common.{true, true≢false, ℕ}
+use Rattle.std.proofs.Common.{◌++◌, ◌↔◌, ◌∙◌, ◌∷◌, ◌≡◌, ◌≢◌, [], ap, append_assoc, ap₂, Bool, cond, false, IfSome}
+use Rattle.std.proofs.Common.{IsSome, List, None, Option, refl, Some, subst, sym, true, true≢false, ℕ}
 use Rattle.fc_board.specs.{Boards.{Board, IsWellFormed}, Games.{Game, game_of, renamings_of}}
 use Rattle.fc_board.specs.Passages.{Carries, inverse_passage, Passage, passage_product}
-use Rattle.fc_record.specs.{Grammar.{Contents, Heading}, Printing.{name_of}}
-use Rattle.fc_collect.specs.Groups.{belong_together, Member, passage_between, passage_of}
-use Rattle.fc_collect.specs.Runs.{passage_found, passage_to, same_lines}
 use Rattle.fc_board.specs.declared.rule.Variant.{Variant}
-use Rattle.fc_canon.proofs.LeastTextLemmas.{chosen-between}
-use Rattle.fc_canon.specs.{Chosen, chosen_passage, Equivalent, HasCanonText}
+use Rattle.fc_canon.{proofs.LeastTextLemmas.{chosen-between}, specs.{Chosen, chosen_passage, Equivalent, HasCanonText}}
+use Rattle.fc_record.specs.{Grammar.{Contents, Heading}, Printing.{name_of}}
+use Rattle.fc_collect.proofs.{GroupNameLemmas.{together-Equivalent}, KeyedLemmas.{chosen, one_variant}}
+use Rattle.fc_collect.specs.Groups.{belong_together, Member, passage_between, passage_of}
+use Rattle.fc_collect.specs.inside.{canon_variant, IsCanonOf, KeepsFirst, member_of, passage_held, text_held}
+use Rattle.fc_collect.specs.Runs.{passage_found, passage_to, same_lines}
 use Rattle.fc_collect.specs.declared.groups.any_board.AnyCanon.{AnyCanon}
-use Rattle.fc_collect.specs.inside.{canon_variant, member_of, passage_held, text_held}
-use Rattle.fc_collect.proofs.KeyedLemmas.{chosen, one_variant}
-use Rattle.fc_collect.proofs.GroupNameLemmas.{together-Equivalent}
-use Rattle.fc_collect.specs.inside.{IsCanonOf, KeepsFirst}
 
 -- members of two variants
 pub passage-apart : (first member : Member) → first.heading.variant ≢ member.heading.variant → passage_to first member ≡ None

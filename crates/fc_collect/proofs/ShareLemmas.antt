@@ -1,50 +1,31 @@
 -- What is kept of a group is kept of it with one more member, and what is printed of it are the lines of its members.
-use Rattle.std.proofs.Common.{◌++◌, ◌<◌, ◌∙◌, ◌∷◌, ◌≡◌, ◌≢◌, ◌≤◌, [], All, ap, append-nil, ap₂}
-use Rattle.std.proofs.Common.{arith, Bool, cond, false, get_or, IfSome, if◌then◌else◌, is_some}
-use Rattle.std.proofs.Common.{length, List, None, Option, option_map, refl, Some, subst, suc, sym}
-use Rattle.std.proofs.Common.{take, take_all, true, zero, ℕ}
-use Rattle.std.proofs.lemmas.Bool.{eq-eqb, ne_eqb}
-use Rattle.std.proofs.lemmas.List.Elements.{All-weaker}
-use Rattle.std.proofs.lemmas.List.Folds.{find-append}
-use Rattle.std.proofs.lemmas.Slice.Zip.{all_zipped_more, AllZip-long}
-use Rattle.std.specs.List.{AllZip, find, flat_map}
+use Rattle.std.proofs.Common.{◌++◌, ◌<◌, ◌∙◌, ◌∷◌, ◌≡◌, ◌≢◌, ◌≤◌, [], All, ap, append-nil, ap₂, arith, Bool, cond}
+use Rattle.std.proofs.Common.{false, get_or, IfSome, if◌then◌else◌, is_some, length, List, None, Option, option_map}
+use Rattle.std.proofs.Common.{refl, Some, subst, suc, sym, take, take_all, true, zero, ℕ}
+use Rattle.std.proofs.lemmas.{Bool.{eq-eqb, ne_eqb}, List.{Elements.{All-weaker}, Folds.{find-append}}}
+use Rattle.std.{proofs.lemmas.Slice.Zip.{all_zipped_more, AllZip-long}, specs.List.{AllZip, find, flat_map}}
 use Rattle.std.specs.Option.{option_or, option_to_list}
-use Rattle.fc_card.proofs.LaneLemmas.{map-agree}
-use Rattle.fc_card.proofs.PermutationLemmas.{place_of-inverse_order}
-use Rattle.fc_card.specs.{inverse_order, IsOrder, pick, place_of}
-use Rattle.fc_card.specs.laws.OrderLaws.{inverse_order-IsOrder, length-inverse_order}
-use Rattle.fc_card.specs.laws.OrderLaws.{place_of-IsOrder}
-use Rattle.fc_board.proofs.ImageLemmas.{place_in_product}
-use Rattle.fc_board.specs.{Games.{Game, game_of, renamings_of}, Moves.{Fits, list_image, ListFits}}
-use Rattle.fc_board.specs.Moves.{MoveList, OneCard, PlaceFits, RunFits, Runs, SourceFits}
-use Rattle.fc_board.specs.Passages.{carried_move, carried_run, inverse_passage, Passage}
-use Rattle.fc_board.specs.Passages.{passage_product, source_image, target_image}
-use Rattle.fc_text.specs.Printed.{text_of}
-use Rattle.fc_record.specs.Printing.{header_text, image_line, list_line}
-use Rattle.fc_collect.specs.Groups.{Member, member_lines, name_of_member, owner_among}
-use Rattle.fc_collect.specs.Groups.{passage_between, passage_of, shared_line, solution_line}
-use Rattle.fc_collect.specs.Groups.{solution_of}
-use Rattle.fc_board.specs.declared.moves.Move.{Move}
-use Rattle.fc_board.specs.declared.moves.Place.{Place}
-use Rattle.fc_board.specs.declared.moves.Place.TheVariants.{Cell as ToCell, Column as ToColumn}
-use Rattle.fc_board.specs.declared.moves.Place.TheVariants.{Home}
-use Rattle.fc_board.specs.declared.moves.Source.{Source}
+use Rattle.fc_card.proofs.{LaneLemmas.{map-agree}, PermutationLemmas.{place_of-inverse_order}}
+use Rattle.fc_card.specs.{inverse_order, IsOrder}
+use Rattle.fc_card.specs.laws.OrderLaws.{inverse_order-IsOrder, length-inverse_order, place_of-IsOrder}
+use Rattle.fc_card.specs.{pick, place_of}
+use Rattle.fc_board.{proofs.ImageLemmas.{place_in_product}, specs.Games.{Game, game_of, renamings_of}}
+use Rattle.fc_board.specs.Moves.{Fits, list_image, ListFits, MoveList, OneCard, PlaceFits, RunFits, Runs, SourceFits}
+use Rattle.fc_board.specs.Passages.{carried_move, carried_run, inverse_passage, Passage, passage_product, source_image}
+use Rattle.fc_board.specs.Passages.{target_image}
+use Rattle.fc_board.specs.declared.moves.{Move.{Move}, Place.{Place}}
+use Rattle.fc_board.specs.declared.moves.{Place.TheVariants.{Cell as ToCell, Column as ToColumn, Home}, Source.{Source}}
 use Rattle.fc_board.specs.declared.moves.Source.TheVariants.{Cell as FromCell, Column as FromColumn}
-use Rattle.fc_board.specs.declared.rule.Variant.{Variant}
-use Rattle.fc_board.specs.declared.rule.Variant.TheVariants.{BakersGame, EightOff, FreeCell}
-use Rattle.fc_board.specs.declared.run_move.RunMove.{RunMove}
-use Rattle.fc_board.specs.declared.run_move.RunMove.TheVariants.{One, Run}
-use Rattle.fc_canon.specs.{chosen_passage}
-use Rattle.fc_record.proofs.LineLemmas.{three_parts}
-use Rattle.fc_collect.specs.inside.{board_held, variant_held}
-use Rattle.fc_collect.proofs.GroupLemmas.{AllZip-at}
-use Rattle.fc_collect.specs.inside.{group_key, KeepsMember, KeepsOwner, KeepsShared, KeepsSolution}
-use Rattle.fc_collect.specs.inside.{SameGame}
-use Rattle.fc_collect.specs.inside.Wide.{IsWide, Widens}
-use Rattle.fc_collect.specs.declared.groups.GroupKey.{GroupKey}
-use Rattle.fc_collect.specs.declared.groups.solution.Shared.{Shared}
-use Rattle.fc_collect.specs.declared.groups.solution.SharedMember.{SharedMember}
-use Rattle.fc_collect.specs.declared.groups.solution.Solution.{Solution}
+use Rattle.fc_board.specs.declared.rule.Variant.{TheVariants.{BakersGame, EightOff, FreeCell}, Variant}
+use Rattle.fc_board.specs.declared.run_move.RunMove.{RunMove, TheVariants.{One, Run}}
+use Rattle.{fc_canon.specs.{chosen_passage}, fc_text.specs.Printed.{text_of}}
+use Rattle.fc_record.{proofs.LineLemmas.{three_parts}, specs.Printing.{header_text, image_line, list_line}}
+use Rattle.fc_collect.{proofs.GroupLemmas.{AllZip-at}, specs.Groups.{Member, member_lines, name_of_member, owner_among}}
+use Rattle.fc_collect.specs.Groups.{passage_between, passage_of, shared_line, solution_line, solution_of}
+use Rattle.fc_collect.specs.inside.{board_held, group_key, KeepsMember, KeepsOwner, KeepsShared, KeepsSolution}
+use Rattle.fc_collect.specs.inside.{SameGame, variant_held, Wide.{IsWide, Widens}}
+use Rattle.fc_collect.specs.declared.groups.{GroupKey.{GroupKey}, solution.Shared.{Shared}}
+use Rattle.fc_collect.specs.declared.groups.solution.{SharedMember.{SharedMember}, Solution.{Solution}}
 
 -- each game has at most eight cells
 pub few_cells : (variant : Variant) → (game_of variant).cells ≤ 8

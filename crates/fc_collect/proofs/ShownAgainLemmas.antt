@@ -1,20 +1,16 @@
 -- Records as `show` prints them, with headers and names: `show` takes a collection of them as it is.
-use Rattle.std.proofs.Common.{◌++◌, ◌+◌, ◌∙◌, ◌∷◌, ◌≡◌, ◌≤◌, [], All, ap, append-nil, append_assoc, ap₂}
-use Rattle.std.proofs.Common.{arith, drop, false, length, length-append, List, map, Ok, refl, Some}
-use Rattle.std.proofs.{Common.{sym, true, ℕ}, lemmas.List.Elements.{All-head, All-tail}}
-use Rattle.std.specs.{Fmt.{decimal}, List.{count_by, flat_map}}
-use Rattle.fc_board.specs.{Boards.{IsWellFormed}, Games.{game_of}}
-use Rattle.fc_board.specs.declared.rule.Variant.{Variant}
+use Rattle.std.proofs.Common.{◌++◌, ◌+◌, ◌∙◌, ◌∷◌, ◌≡◌, ◌≤◌, [], All, ap, append-nil, append_assoc, ap₂, arith, drop}
+use Rattle.std.proofs.Common.{false, length, length-append, List, map, Ok, refl, Some, sym, true, ℕ}
+use Rattle.std.{proofs.lemmas.List.Elements.{All-head, All-tail}, specs.{Fmt.{decimal}, List.{count_by, flat_map}}}
+use Rattle.fc_board.specs.{Boards.{IsWellFormed}, declared.rule.Variant.{Variant}, Games.{game_of}}
 use Rattle.fc_text.{proofs.PrintedTextLemmas.{text_spells}, specs.Printed.{text_of}}
 use Rattle.fc_record.proofs.{HeadingLemmas.{IsGiven}, PrintedPartLemmas.{lines_of_board}}
 use Rattle.fc_record.specs.Grammar.{Accepted, Contents, Reading, reading_of, with_header}
-use Rattle.fc_record.specs.Printing.{header_text, is_refused, list_line, printed, printed_by}
-use Rattle.fc_record.specs.Printing.{refuses, show_lines}
+use Rattle.fc_record.specs.Printing.{header_text, is_refused, list_line, printed, printed_by, refuses, show_lines}
 use Rattle.fc_record.specs.RecordTexts.{RecordText}
 use Rattle.fc_collect.proofs.{MemberLemmas.{CanPrint}, PrintedRecordLemmas.{with_header-IsReadAs}}
-use Rattle.fc_collect.proofs.ReadAgainLemmas.{IsReadAs, Reads, Reads-lines}
-use Rattle.fc_collect.specs.{Limits.{standard}, Promises.{IsWithinLimits}, Records.{records_of}}
-use Rattle.fc_collect.specs.Runs.{TransfersWithin}
+use Rattle.fc_collect.{proofs.ReadAgainLemmas.{IsReadAs, Reads, Reads-lines}, specs.Limits.{standard}}
+use Rattle.fc_collect.specs.{Promises.{IsWithinLimits}, Records.{records_of}, Runs.{TransfersWithin}}
 use Rattle.fc_collect.specs.declared.commands.RunKind.TheVariants.{Show}
 
 -- a record by its name and what it holds

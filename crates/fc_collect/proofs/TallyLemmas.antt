@@ -1,23 +1,19 @@
 -- What one more member makes of what `count` keeps, and what the figures are of records.
 use Rattle.{fc_board.specs.declared.rule.Variant.{Variant}, indexmap.specs.IndexSet.{insert_key}}
-use Rattle.std.proofs.Common.{◌++◌, ◌+◌, ◌-◌, ◌||◌, ◌∙◌, ◌∷◌, ◌≡◌, ◌≤◌, [], ap, append-nil}
-use Rattle.std.proofs.Common.{append_assoc, ap₂, arith, Bool, codes, cond, eqb, false, filter}
-use Rattle.std.proofs.Common.{get_or, is_some, length, length-append, List, None, not, Option, refl}
-use Rattle.std.proofs.{Common.{set, Some, sym, true, ℕ}, lemmas.Bool.{ne_eqb}}
+use Rattle.std.proofs.Common.{◌++◌, ◌+◌, ◌-◌, ◌||◌, ◌∙◌, ◌∷◌, ◌≡◌, ◌≤◌, [], ap, append-nil, append_assoc, ap₂, arith}
+use Rattle.std.proofs.Common.{Bool, codes, cond, eqb, false, filter, get_or, is_some, length, length-append, List, None}
+use Rattle.std.proofs.{Common.{not, Option, refl, set, Some, sym, true, ℕ}, lemmas.Bool.{ne_eqb}}
 use Rattle.std.proofs.lemmas.{Grind.{flat_map-append}, List.{length-map, Sums.{sum_by-cons}}}
 use Rattle.std.specs.List.{AllZip, count_by, find, flat_map, position_or_len}
-use Rattle.fc_record.specs.Grammar.{Accepted, Reading, reading_of, Refused}
-use Rattle.fc_record.specs.{Printing.{is_refused, refuses}, RecordTexts.{RecordText}}
-use Rattle.fc_collect.proofs.GroupLemmas.{Gains, Gathers-begun, Gathers-joined, Gathers-length}
-use Rattle.fc_collect.proofs.GroupLemmas.{has_one, leaders-more}
-use Rattle.fc_collect.proofs.ShareLemmas.{owner_among-more, owner_with}
-use Rattle.fc_collect.specs.Groups.{belong_together, figures, groups_of, if_accepted, leaders_after}
-use Rattle.fc_collect.specs.Groups.{Member, members_among, owner_among, solution_of, wins_of}
-use Rattle.fc_collect.specs.inside.{figures_seen, Gathers, group_key, HasBoard, IsPlaceAmong}
-use Rattle.fc_collect.specs.inside.{KeepsSolved, KeepsTally, same_key}
-use Rattle.fc_collect.specs.declared.commands.count.{Figures.{Figures}, Tally.{Tally}}
-use Rattle.fc_collect.specs.declared.groups.{Gathered.{Gathered}, GroupKey.{GroupKey}}
-use Rattle.fc_collect.specs.declared.streams.faults.Summary.{Summary}
+use Rattle.fc_record.specs.{Grammar.{Accepted, Reading, reading_of, Refused}, Printing.{is_refused, refuses}}
+use Rattle.fc_record.specs.RecordTexts.{RecordText}
+use Rattle.fc_collect.proofs.GroupLemmas.{Gains, Gathers-begun, Gathers-joined, Gathers-length, has_one, leaders-more}
+use Rattle.fc_collect.{proofs.ShareLemmas.{owner_among-more, owner_with}, specs.Groups.{belong_together, figures}}
+use Rattle.fc_collect.specs.Groups.{groups_of, if_accepted, leaders_after, Member, members_among, owner_among}
+use Rattle.fc_collect.specs.{Groups.{solution_of, wins_of}, inside.{figures_seen, Gathers, group_key, HasBoard}}
+use Rattle.fc_collect.specs.inside.{IsPlaceAmong, KeepsSolved, KeepsTally, same_key}
+use Rattle.fc_collect.specs.declared.{commands.count.{Figures.{Figures}, Tally.{Tally}}, groups.Gathered.{Gathered}}
+use Rattle.fc_collect.specs.declared.{groups.GroupKey.{GroupKey}, streams.faults.Summary.{Summary}}
 
 -- ---- what is kept
 

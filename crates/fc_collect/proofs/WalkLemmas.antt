@@ -1,19 +1,15 @@
 -- Lemmas of the search for the next header.
-use Rattle.memchr.specs.Find.{is_byte, IsFirstByte}
-use Rattle.std.proofs.Common.{◌&&◌, ◌++◌, ◌+◌, ◌-◌, ◌<◌, ◌==◌, ◌↔◌, ◌∙◌, ◌∷◌, ◌≡◌, ◌≤◌, []}
-use Rattle.std.proofs.Common.{add-zero, All, ap, append-nil, append_assoc, ap₂, arith, Bool, cond}
-use Rattle.std.proofs.Common.{drop, drop-drop, false, get_or, IsTrue, length, length-take-le, List}
-use Rattle.std.proofs.Common.{None, refl, Some, subst, suc, sym, take, true, zero, ℕ}
-use Rattle.std.proofs.lemmas.Bool.{false_from_ne_true}
-use Rattle.std.proofs.lemmas.List.{drop_more, get_or-drop, length-drop, take_more}
+use Rattle.{fc_board.proofs.BoardLemmas.{All-left, All-right}, memchr.specs.Find.{is_byte, IsFirstByte}}
+use Rattle.std.proofs.Common.{◌&&◌, ◌++◌, ◌+◌, ◌-◌, ◌<◌, ◌==◌, ◌↔◌, ◌∙◌, ◌∷◌, ◌≡◌, ◌≤◌, [], add-zero, All, ap}
+use Rattle.std.proofs.Common.{append-nil, append_assoc, ap₂, arith, Bool, cond, drop, drop-drop, false, get_or, IsTrue}
+use Rattle.std.proofs.Common.{length, length-take-le, List, None, refl, Some, subst, suc, sym, take, true, zero, ℕ}
+use Rattle.std.proofs.lemmas.{Bool.{false_from_ne_true}, List.{drop_more}}
 use Rattle.std.proofs.lemmas.List.Elements.{All-append, All-cons, All-head, All-nil}
-use Rattle.fc_board.proofs.BoardLemmas.{All-left, All-right}
+use Rattle.std.proofs.lemmas.List.{get_or-drop, length-drop, take_more}
 use Rattle.fc_record.specs.RecordTexts.{ends_line, header_mark, RecordText}
+use Rattle.fc_collect.specs.inside.{begun_in, cut_in, finished_in, Passes, PassesNoHeader, Searched, text_at}
 use Rattle.fc_collect.specs.{Promises.{IsSmall}, Records.{begun, finished, next_text}}
-use Rattle.fc_collect.specs.declared.streams.limits.Limits.{Limits}
-use Rattle.fc_collect.specs.inside.{begun_in, cut_in, finished_in, Passes, PassesNoHeader, Searched}
-use Rattle.fc_collect.specs.inside.{text_at}
-use Rattle.fc_collect.specs.declared.engine.progress.Progress.{Progress}
+use Rattle.fc_collect.specs.declared.{engine.progress.Progress.{Progress}, streams.limits.Limits.{Limits}}
 
 -- a byte that is no header goes to what is begun
 pub finished-on : (progress : Progress) (xs : List ℕ) (at : ℕ) → at < length xs → (ends_line (take at xs) && get_or xs at 0 == header_mark) ≡ false

@@ -1,17 +1,12 @@
 -- Lemmas on what calls add to counts.
 use borrow.Rule.Slice.PartMut.{put_mid}
-use Rattle.std.proofs.Common.{◌++◌, ◌+◌, ◌-◌, ◌<◌, ◌==◌, ◌^◌, ◌∙◌, ◌∷◌, ◌≡◌, ◌≢◌, ◌≤◌, [], ap}
-use Rattle.std.proofs.Common.{arith, drop, length, length-append, length-drop, length-take-le, List}
-use Rattle.std.proofs.Common.{nat_lt, Option, refl, subst, sym, take, true, zero-add, ℕ}
-use Rattle.std.proofs.Math.Seq.{take-append-add}
-use Rattle.std.proofs.lemmas.Bool.Decides.{nat_tests}
-use Rattle.std.proofs.lemmas.List.{drop-take, take-append-le}
-use Rattle.std.proofs.lemmas.List.Edits.{take-paste}
-use Rattle.std.specs.Io.KnownBytes.{Consumes, IsAtEnd}
-use Rattle.std.specs.List.{copy_within}
-use Rattle.fc_collect.specs.Streams.{counts_of, GrowsBy, HasRoom, moves_none, one_more_if}
+use Rattle.std.proofs.Common.{◌++◌, ◌+◌, ◌-◌, ◌<◌, ◌==◌, ◌^◌, ◌∙◌, ◌∷◌, ◌≡◌, ◌≢◌, ◌≤◌, [], ap, arith, drop, length}
+use Rattle.std.proofs.Common.{length-append, length-drop, length-take-le, List, nat_lt, Option, refl, subst, sym, take}
+use Rattle.std.proofs.{Common.{true, zero-add, ℕ}, lemmas.{Bool.Decides.{nat_tests}, List.{drop-take}}}
+use Rattle.std.proofs.{lemmas.List.{Edits.{take-paste}, take-append-le}, Math.Seq.{take-append-add}}
+use Rattle.std.specs.{Io.KnownBytes.{Consumes, IsAtEnd}, List.{copy_within}}
+use Rattle.fc_collect.specs.{inside.{FillsWindow}, Streams.{counts_of, GrowsBy, HasRoom, moves_none, one_more_if}}
 use Rattle.fc_collect.specs.declared.streams.counted.Counted.{Counted}
-use Rattle.fc_collect.specs.inside.{FillsWindow}
 
 -- no more where a call moved some bytes
 pub one_more_if-moved : (count moved : ℕ) (bytes : List ℕ) → moved ≢ 0 → one_more_if (moves_none moved bytes) count ≡ count

@@ -1,17 +1,13 @@
 -- Lemmas on texts that go out in parts, with some of them pending.
-use Rattle.std.proofs.Common.{◌++◌, ◌+◌, ◌-◌, ◌<◌, ◌∙◌, ◌≡◌, [], add-one, ap, append-nil}
-use Rattle.std.proofs.Common.{append_assoc, drop, Err, flat_map, get_or, length, List, Ok, Option}
-use Rattle.std.proofs.Common.{refl, Result, subst, sym, take, take-suc, ℕ}
-use Rattle.std.proofs.KnownBytes.{Appends-nil, Appends-trans}
-use Rattle.std.proofs.Math.Seq.{take-add}
-use Rattle.std.proofs.lemmas.Grind.{flat_map-append}
-use Rattle.std.proofs.lemmas.List.{flat_map_more, take-append-drop, take_rest}
+use Rattle.std.proofs.Common.{◌++◌, ◌+◌, ◌-◌, ◌<◌, ◌∙◌, ◌≡◌, [], add-one, ap, append-nil, append_assoc, drop, Err}
+use Rattle.std.proofs.Common.{flat_map, get_or, length, List, Ok, Option, refl, Result, subst, sym, take, take-suc, ℕ}
+use Rattle.std.proofs.{KnownBytes.{Appends-nil, Appends-trans}, lemmas.Grind.{flat_map-append}}
+use Rattle.std.proofs.{lemmas.List.{flat_map_more, take-append-drop, take_rest}, Math.Seq.{take-add}}
 use Rattle.std.specs.Io.KnownBytes.{Appends}
-use Rattle.fc_collect.specs.declared.streams.faults.RunFault.{RunFault, TheVariants.{Memory, Read}}
-use Rattle.fc_collect.specs.declared.streams.faults.RunFault.TheVariants.{ReaderNeverEnds, TooLarge}
-use Rattle.fc_collect.specs.declared.streams.faults.RunFault.TheVariants.{Write}
-use Rattle.fc_collect.specs.Promises.{Begins, WritesText, WritingFits}
 use Rattle.fc_collect.specs.inside.{IsPrintFault, SendingFits, Sends, SendsSome}
+use Rattle.fc_collect.specs.Promises.{Begins, WritesText, WritingFits}
+use Rattle.fc_collect.specs.declared.streams.faults.RunFault.{RunFault, TheVariants.{Memory, Read, ReaderNeverEnds}}
+use Rattle.fc_collect.specs.declared.streams.faults.RunFault.TheVariants.{TooLarge, Write}
 
 -- one text after another
 pub Sends-then : {text more old middle new : List ℕ} {a b c : Option (List ℕ)} → Sends text old middle a b → Sends more middle new b c → Sends (text ++ more) old new a c

@@ -1,20 +1,13 @@
 -- The columns while the cards are dealt one after another.
-use Rattle.arrayvec.specs.ArrayVec.{ArrayVec}
-use Rattle.std.proofs.Common.{◌%◌, ◌++◌, ◌+◌, ◌<◌, ◌==◌, ◌∙◌, ◌∷◌, ◌≡◌, ◌≢◌, [], ap, arith, Bool}
-use Rattle.std.proofs.Common.{cond, false, get_or, inl, inr, length, length-set, List, refl, set}
-use Rattle.std.proofs.Common.{sym, true, ℕ}
-use Rattle.std.proofs.lemmas.Bool.{cases_eq, eq-eqb, ne_eqb}
-use Rattle.std.proofs.lemmas.List.{append-nil, ext_get_or, get_or-map, get_or-set_other}
-use Rattle.std.proofs.lemmas.List.{get_or-set_same, get_or_default, length-map, map-append, map-set}
-use Rattle.std.proofs.lemmas.List.Elements.{filter-append}
-use Rattle.std.proofs.lemmas.List.FromFn.{get_or-map-range_with_len, length-map-range_with_len}
-use Rattle.std.proofs.lemmas.List.FromFn.{length-range_with_len}
-use Rattle.std.proofs.lemmas.List.Sums.{count_by-le-length, length-filter}
-use Rattle.std.specs.List.{filter}
+use Rattle.{arrayvec.specs.ArrayVec.{ArrayVec}, fc_card.{proofs.OrderLemmas.{places-more}, specs.{places}}}
+use Rattle.std.proofs.Common.{◌%◌, ◌++◌, ◌+◌, ◌<◌, ◌==◌, ◌∙◌, ◌∷◌, ◌≡◌, ◌≢◌, [], ap, arith, Bool, cond, false, get_or}
+use Rattle.std.proofs.Common.{inl, inr, length, length-set, List, refl, set, sym, true, ℕ}
+use Rattle.std.proofs.lemmas.{Bool.{cases_eq, eq-eqb, ne_eqb}, List.{append-nil, Elements.{filter-append}, ext_get_or}}
+use Rattle.std.proofs.lemmas.List.FromFn.{get_or-map-range_with_len, length-map-range_with_len, length-range_with_len}
+use Rattle.std.proofs.lemmas.List.{get_or-map, get_or-set_other, get_or-set_same, get_or_default, length-map}
+use Rattle.std.{proofs.lemmas.List.{map-append, map-set, Sums.{count_by-le-length, length-filter}}, specs.List.{filter}}
 use Rattle.std.specs.Prelude.{map, slice_index}
-use Rattle.fc_card.proofs.OrderLemmas.{places-more}
-use Rattle.fc_card.specs.{places}
-use Rattle.fc_deal.specs.{dealt_column, places_dealt_to}
+use Rattle.fc_deal.specs.{places_dealt_to}
 
 -- the cards of the column once so many are dealt
 abbrev pub column_after : List ℕ → ℕ → ℕ → List ℕ
@@ -81,9 +74,6 @@ column-has_room cards count columns column default are within few =
     let all = length-range_with_len 0 count in
     omega arith
 
-pub AreDealt-none : (cards : List ℕ) (columns : List (ArrayVec ℕ)) → map (λ column. column.items) columns ≡ map (dealt_column []) (places 8) → AreDealt cards 0 columns
-AreDealt-none cards columns e = record { each = e }
-
 pub AreDealt-push : (cards : List ℕ) (count : ℕ) (columns : List (ArrayVec ℕ)) (default after : ArrayVec ℕ) (card : ℕ) → AreDealt cards count columns →
     count < length cards → after.items ≡ (get_or columns (count % 8) default).items ++ get_or cards count card ∷ [] →
     AreDealt cards (count + 1) (set columns (count % 8) after)
@@ -100,7 +90,3 @@ AreDealt-push cards count columns default after card are within pushed =
           ∙ ap (set (map (column_after cards count) (places 8)) column) items
           ∙ set_one (column_after cards count) (column_after cards (count + 1)) 8 column near (λ i ne. column-kept cards count i ne);
     }
-
-pub all-dealt : (cards : List ℕ) (count : ℕ) (columns : List (ArrayVec ℕ)) → count ≡ length cards → AreDealt cards count columns →
-    map (λ column. column.items) columns ≡ map (dealt_column cards) (places 8)
-all-dealt cards count columns e are = are.each ∙ ap (λ n. map (column_after cards n) (places 8)) e

@@ -1,21 +1,15 @@
 -- A deal is the deck in another order: each card that is dealt is taken out of the deck, and the last one takes its place.
-use Rattle.arrayvec.specs.ArrayVec.{ArrayVec}
-use Rattle.std.proofs.Common.{◌%◌, ◌++◌, ◌+◌, ◌-◌, ◌/◌, ◌<◌, ◌∙◌, ◌∷◌, ◌≡◌, ◌≤◌, [], ap, arith}
-use Rattle.std.proofs.Common.{Bool, cond, false, get_or, length, length-set, length-take, List}
-use Rattle.std.proofs.Common.{refl, set, suc, sym, take, true, zero, ℕ}
-use Rattle.std.proofs.lemmas.Bool.{agree_below, agree_below_at, eqb-true, lt-leb}
-use Rattle.std.proofs.lemmas.List.{ext_get_or, get_or-replicate, get_or_default, take-replicate}
+use Rattle.{arrayvec.specs.ArrayVec.{ArrayVec}, fc_card.specs.{count_of, IsCard, places}}
+use Rattle.std.proofs.Common.{◌%◌, ◌++◌, ◌+◌, ◌-◌, ◌/◌, ◌<◌, ◌∙◌, ◌∷◌, ◌≡◌, ◌≤◌, [], ap, arith, Bool, cond, false}
+use Rattle.std.proofs.Common.{get_or, length, length-set, length-take, List, refl, set, suc, sym, take, true, zero, ℕ}
+use Rattle.std.proofs.lemmas.{Bool.{agree_below, agree_below_at, eqb-true, lt-leb}, List.{ext_get_or}}
 use Rattle.std.proofs.lemmas.List.FromFn.{get_or-map-range_with_len, length-map-range_with_len}
-use Rattle.std.proofs.lemmas.List.Sorted.{IsPermutation-cons, IsPermutation-refl}
-use Rattle.std.proofs.lemmas.List.Sorted.{IsPermutation-swap_remove, IsPermutation-trans}
-use Rattle.std.proofs.lemmas.List.Sorted.{length_permutation, sum_by-IsPermutation}
-use Rattle.std.specs.List.{count_by, filter, flat_map, swap_remove}
-use Rattle.std.specs.List.Sorted.{IsPermutation}
-use Rattle.std.specs.Option.{option_to_list}
+use Rattle.std.proofs.lemmas.List.{get_or-replicate, get_or_default, Sorted.{IsPermutation-cons, IsPermutation-refl}}
+use Rattle.std.proofs.lemmas.List.Sorted.{IsPermutation-swap_remove, IsPermutation-trans, length_permutation}
+use Rattle.std.proofs.lemmas.List.{Sorted.{sum_by-IsPermutation}, take-replicate}
+use Rattle.std.specs.{List.{count_by, filter, flat_map, Sorted.{IsPermutation}, swap_remove}, Option.{option_to_list}}
 use Rattle.std.specs.Prelude.{◌==◌, map, nat_le, None, Option, replicate, slice_index}
-use Rattle.fc_card.specs.{IsCard, places}
 use Rattle.fc_board.proofs.BoardLemmas.{count_of-append}
-use Rattle.fc_card.specs.{count_of}
 use Rattle.fc_board.specs.Boards.{Board, board_of_parts, cards_in_play, HasEachCardOnce, is_home}
 use Rattle.fc_deal.specs.{deal, dealt, dealt_board, dealt_column, deck, next_state, place_drawn}
 

@@ -1,13 +1,10 @@
 -- While a deck is dealt in place, the cards that are left lie in front, and the dealt ones after them, the first one last.
-use Rattle.std.proofs.Common.{◌++◌, ◌+◌, ◌-◌, ◌<◌, ◌∙◌, ◌∷◌, ◌≡◌, ◌≤◌, [], ap, arith, drop, get_or}
-use Rattle.std.proofs.Common.{length, length-set, length-take, List, reverse, set, subst, suc, sym}
-use Rattle.std.proofs.Common.{take, zero, ℕ}
-use Rattle.std.proofs.Math.Seq.{take-set-lt}
-use Rattle.std.proofs.lemmas.Grind.{reverse_onto}
-use Rattle.std.proofs.lemmas.List.{append_assoc, drop-set, drop-set-lt, drop_all, ext_get_or}
-use Rattle.std.proofs.lemmas.List.{get_or-take, get_or_default, take-set, take-take, take_all}
+use Rattle.std.proofs.Common.{◌++◌, ◌+◌, ◌-◌, ◌<◌, ◌∙◌, ◌∷◌, ◌≡◌, ◌≤◌, [], ap, arith, drop, get_or, length, length-set}
+use Rattle.std.proofs.Common.{length-take, List, reverse, set, subst, suc, sym, take, zero, ℕ}
+use Rattle.std.proofs.lemmas.{Grind.{reverse_onto}, List.{append_assoc, drop-set, drop-set-lt, drop_all}}
 use Rattle.std.proofs.lemmas.List.Edits.{length-swap, swap_is}
-use Rattle.std.specs.List.{swap, swap_remove}
+use Rattle.std.proofs.lemmas.List.{ext_get_or, get_or-take, get_or_default, take-set, take-take, take_all}
+use Rattle.std.{proofs.Math.Seq.{take-set-lt}, specs.List.{swap, swap_remove}}
 use Rattle.fc_card.specs.laws.OrderLaws.{slice_index-places}
 use Rattle.fc_deal.specs.{deal, dealt, deck, next_state, place_drawn}
 

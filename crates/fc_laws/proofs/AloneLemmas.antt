@@ -1,17 +1,15 @@
 -- A collection in which no line begins with `@` or `>`: it is one text, and says what its board says.
-use Rattle.std.proofs.Common.{◌++◌, ◌+◌, ◌-◌, ◌==◌, ◌∙◌, ◌∷◌, ◌≡◌, [], ap, append-nil, arith, Bool}
-use Rattle.std.proofs.Common.{cond, false, length, length-append, List, map, None, Ok, refl, Some}
-use Rattle.std.proofs.{Common.{sym, true, ℕ}, lemmas.List.{length-map, nil_from_length}}
-use Rattle.std.{proofs.Math.Seq.{drop-length, take-length}, specs.List.{find, flat_map}}
+use Rattle.std.proofs.Common.{◌++◌, ◌+◌, ◌-◌, ◌==◌, ◌∙◌, ◌∷◌, ◌≡◌, [], ap, append-nil, arith, Bool, cond, false, length}
+use Rattle.std.proofs.Common.{length-append, List, map, None, Ok, refl, Some, sym, true, ℕ}
+use Rattle.std.proofs.{lemmas.List.{length-map, nil_from_length}, Math.Seq.{drop-length, take-length}}
+use Rattle.std.specs.List.{find, flat_map}
 use Rattle.fc_board.specs.{Boards.{Board}, declared.rule.Variant.{Variant}, Games.{Game, game_of}}
-use Rattle.fc_text.proofs.ReadingLemmas.{faultless-from_Spells, Spells-board_of}
-use Rattle.fc_text.specs.{Bytes.{line_feed}, Faults.{first_fault}, Lines.{lines_from}}
-use Rattle.fc_text.specs.Spelling.{board_of, Spells}
+use Rattle.fc_text.{proofs.ReadingLemmas.{faultless-from_Spells, Spells-board_of}, specs.Bytes.{line_feed}}
+use Rattle.fc_text.specs.{Faults.{first_fault}, Lines.{lines_from}, Spelling.{board_of, Spells}}
 use Rattle.fc_text.specs.declared.fault.BoardFault.{BoardFault}
-use Rattle.fc_record.specs.Grammar.{Accepted, after_header, begins_with, board_part, contents_with}
-use Rattle.fc_record.specs.Grammar.{fault_at, heading_of, list_lines, list_mark, lists_of}
-use Rattle.fc_record.specs.Grammar.{lists_start, reading_of, reading_with, Refused, without_header}
-use Rattle.fc_record.specs.RecordTexts.{header_mark, RecordText}
+use Rattle.fc_record.specs.Grammar.{Accepted, after_header, begins_with, board_part, contents_with, fault_at}
+use Rattle.fc_record.specs.Grammar.{heading_of, list_lines, list_mark, lists_of, lists_start, reading_of, reading_with}
+use Rattle.fc_record.specs.{Grammar.{Refused, without_header}, RecordTexts.{header_mark, RecordText}}
 use Rattle.fc_collect.proofs.HeaderLemmas.{cut-header_starts, header_starts-marks, marks}
 use Rattle.fc_collect.{proofs.RecordLemmas.{begun-number, cut-bytes}, specs.Pieces.{header_starts}}
 use Rattle.fc_collect.specs.Records.{begun, cut, finished, if_record, nothing, records_of}

@@ -1,42 +1,35 @@
 -- What canon prints for a record is read as its canonical board with the images of its lists.
-use Rattle.std.proofs.Common.{◌++◌, ◌+◌, ◌∙◌, ◌∷◌, ◌≡◌, ◌≤◌, [], All, ap, append_assoc, ap₂, arith}
-use Rattle.std.proofs.Common.{codes, length, List, map, refl, slice_index, subst, sym, ℕ}
-use Rattle.std.proofs.lemmas.List.Elements.{All-append, All-cons, All-head, All-nil, All-tail}
-use Rattle.std.{proofs.lemmas.List.{Elements.{All-weaker}, length-map}, specs.List.{flat_map}}
+use Rattle.std.proofs.Common.{◌++◌, ◌+◌, ◌∙◌, ◌∷◌, ◌≡◌, ◌≤◌, [], All, ap, append_assoc, ap₂, arith, codes, length, List}
+use Rattle.std.proofs.Common.{map, refl, slice_index, subst, sym, ℕ}
+use Rattle.std.proofs.lemmas.List.{Elements.{All-append, All-cons, All-head, All-nil, All-tail, All-weaker}, length-map}
+use Rattle.std.specs.List.{flat_map}
 use Rattle.fc_card.specs.{renaming_text, suit_letter, suit_letters}
-use Rattle.fc_board.proofs.{CarriedLemmas.{carried-IsWellFormed}, ImageLemmas.{images-Fit}}
-use Rattle.fc_board.proofs.ImageLemmas.{images-identity, run_images-Fit, run_images-identity}
+use Rattle.fc_board.proofs.CarriedLemmas.{carried-IsWellFormed}
+use Rattle.fc_board.proofs.ImageLemmas.{images-Fit, images-identity, run_images-Fit, run_images-identity}
 use Rattle.fc_board.{proofs.PassageLemmas.{carried-identity}, specs.Boards.{Board, IsWellFormed}}
 use Rattle.fc_board.specs.Games.{Game, game_of, renamings_of}
 use Rattle.fc_board.specs.laws.RenamingTests.{bakers_game_laws, eight_off_laws, freecell_laws}
 use Rattle.fc_board.specs.Moves.{list_image, ListFits, MoveList, OneCard, Runs}
-use Rattle.fc_board.specs.Passages.{carried, carried_move, carried_run, identity_passage, IsPassage}
-use Rattle.fc_board.specs.Passages.{Passage}
-use Rattle.fc_board.specs.declared.rule.Variant.TheVariants.{BakersGame, EightOff, FreeCell}
-use Rattle.fc_board.specs.declared.rule.Variant.{Variant}
-use Rattle.fc_text.proofs.BlankLineLemmas.{begins_comment, spelled_with_comment}
-use Rattle.fc_text.proofs.{LineLemmas.{first_line, InLine}, PrintedTextLemmas.{text_spells}}
-use Rattle.fc_text.specs.{Bytes.{number_sign}, Lines.{lines_from}}
+use Rattle.fc_board.specs.Passages.{carried, carried_move, carried_run, identity_passage, IsPassage, Passage}
+use Rattle.fc_board.specs.declared.rule.Variant.{TheVariants.{BakersGame, EightOff, FreeCell}, Variant}
+use Rattle.fc_text.proofs.{BlankLineLemmas.{begins_comment, spelled_with_comment}, LineLemmas.{first_line, InLine}}
+use Rattle.fc_text.{proofs.PrintedTextLemmas.{text_spells}, specs.{Bytes.{number_sign}, Lines.{lines_from}}}
 use Rattle.fc_text.specs.{Notation.{cell_letters, column_digits}, Printed.{text_of}}
-use Rattle.fc_canon.proofs.CanonicalLemmas.{Canonical-equivalent}
-use Rattle.fc_canon.proofs.LeastTextLemmas.{identity-Chosen, one_chosen}
+use Rattle.fc_canon.proofs.{CanonicalLemmas.{Canonical-equivalent}, LeastTextLemmas.{identity-Chosen, one_chosen}}
 use Rattle.fc_canon.specs.{Canonical, Chosen, chosen_passage, least_text}
-use Rattle.fc_record.proofs.HeadingLemmas.{heading_said}
-use Rattle.fc_record.proofs.PrintedPartLemmas.{IsPlain, lines_of_board}
+use Rattle.fc_record.proofs.{HeadingLemmas.{heading_said}, PrintedPartLemmas.{IsPlain, lines_of_board}}
 use Rattle.fc_record.proofs.TextLineLemmas.{AreLines-append, AreLines-line, lines_after}
 use Rattle.fc_record.specs.Grammar.{Accepted, begins_with, Contents, Reading}
-use Rattle.fc_record.specs.Printing.{canon_lines, heading_line, image_line, list_line, passage_line}
-use Rattle.fc_record.specs.{Printing.{printed}, RecordTexts.{header_mark}}
-use Rattle.fc_collect.{
-  proofs.{AcceptanceLemmas.{Says-from_accepted}, HeaderSaysLemmas.{ok-from_HeaderSays}},
-  proofs.KeyedLemmas.{canonical-IsWellFormed, chosen, text_is},
-  proofs.MemberLemmas.{CanPrint, IsSaid, lists_can, members-said},
-  proofs.PrintedRecordLemmas.{board_first, heading_again, lines-IsReadAs, printed_heading},
-  proofs.{PrintedRecordLemmas.{printed_variant}, ReadAgainLemmas.{all_again, AreReadAs}},
-  proofs.ReadAgainLemmas.{codes_in_line, IsReadAs, letter_in_line, ReadsAgain, same_printed, Stays},
-  specs.{Groups.{canonical_text, Member, members_among, passage_of}, Limits.{most_countable}},
-  specs.Records.{has_content, output_of_records, records_of},
-}
+use Rattle.fc_record.specs.Printing.{canon_lines, heading_line, image_line, list_line, passage_line, printed}
+use Rattle.fc_record.specs.RecordTexts.{header_mark}
+use Rattle.fc_collect.proofs.{AcceptanceLemmas.{Says-from_accepted}, HeaderSaysLemmas.{ok-from_HeaderSays}}
+use Rattle.fc_collect.proofs.KeyedLemmas.{canonical-IsWellFormed, chosen, text_is}
+use Rattle.fc_collect.proofs.MemberLemmas.{CanPrint, IsSaid, lists_can, members-said}
+use Rattle.fc_collect.proofs.PrintedRecordLemmas.{board_first, heading_again, lines-IsReadAs, printed_heading}
+use Rattle.fc_collect.proofs.{PrintedRecordLemmas.{printed_variant}, ReadAgainLemmas.{all_again, AreReadAs}}
+use Rattle.fc_collect.proofs.ReadAgainLemmas.{codes_in_line, IsReadAs, letter_in_line, ReadsAgain, same_printed, Stays}
+use Rattle.fc_collect.specs.{Groups.{canonical_text, Member, members_among, passage_of}, Limits.{most_countable}}
+use Rattle.fc_collect.specs.Records.{has_content, output_of_records, records_of}
 
 -- ---- the line of the passage
 

@@ -1,27 +1,23 @@
 -- Texts that differ in the case of letters alone are read alike.
-use Rattle.std.proofs.Common.{◌&&◌, ◌++◌, ◌+◌, ◌-◌, ◌<◌, ◌∙◌, ◌∷◌, ◌≡◌, [], ap, ap₂, arith, Bool}
-use Rattle.std.proofs.Common.{codes, cond, drop, eqb, false, leb, length, List, map, None, Option}
-use Rattle.std.proofs.Common.{refl, Some, suc, take, true, zero, ℕ}
+use Rattle.std.proofs.Common.{◌&&◌, ◌++◌, ◌+◌, ◌-◌, ◌<◌, ◌∙◌, ◌∷◌, ◌≡◌, [], ap, ap₂, arith, Bool, codes, cond, drop}
+use Rattle.std.proofs.Common.{eqb, false, leb, length, List, map, None, Option, refl, Some, suc, take, true, zero, ℕ}
 use Rattle.std.proofs.lemmas.{Bool.Decides.{nat_tests}, List.{length-map, map-append}}
-use Rattle.std.proofs.lemmas.Str.Ascii.{lowercase-uppercase, uppercase-uppercase}
-use Rattle.std.specs.Char.{to_ascii_uppercase}
+use Rattle.std.{proofs.lemmas.Str.Ascii.{lowercase-uppercase, uppercase-uppercase}, specs.Char.{to_ascii_uppercase}}
 use Rattle.std.specs.List.{cons_option, flat_map, list_any, position_or_len, prefix_len}
 use Rattle.std.specs.Option.{is_some, option_map, option_to_list}
 use Rattle.std.specs.Str.{bytes_eq, str_to_ascii_lowercase, str_to_ascii_uppercase}
 use Rattle.{fc_board.specs.Games.{Game}, fc_card.specs.{rank_letters, suit_letters}}
-use Rattle.fc_text.proofs.{RowLemmas.{items_of_words}, SoundLemmas.{lines-append, words-append}}
-use Rattle.fc_text.specs.{Bytes.{is_gap}, Faults.{cards_of_word, count_of_lines, count_of_words}}
-use Rattle.fc_text.specs.Faults.{fault_of_line, fault_of_part, first_fault, first_faulty, has_form}
-use Rattle.fc_text.specs.Faults.{is_past_cells, Item, items_of, items_of_row, suits_of_word}
-use Rattle.fc_text.specs.Lines.{in_line, in_word, lines_from, Piece, trim_carriage_return}
-use Rattle.fc_text.specs.{Lines.{words_from}, Rows.{Blank, cells_names, column_row, columns_left}}
-use Rattle.fc_text.specs.Rows.{Comment, Content, heights_names, is_colon, is_empty, is_named, Line}
-use Rattle.fc_text.specs.Rows.{line_of, line_of_front, named_row, Row, row_of, rows_of, rows_within}
-use Rattle.fc_text.specs.Spelling.{all_spelled, board_of, card_spelled, cell_spelled}
-use Rattle.fc_text.specs.Spelling.{foundation_spelled, height_spelled, is_section, letter_spelled}
-use Rattle.fc_text.specs.Spelling.{lines_of, rank_spelled, words_of}
-use Rattle.fc_text.specs.declared.board.reader.Section.{Section}
-use Rattle.fc_text.specs.declared.board.reader.Section.TheVariants.{Column, Foundations, Freecells}
+use Rattle.fc_text.{proofs.{RowLemmas.{items_of_words}, SoundLemmas.{lines-append, words-append}}, specs.Bytes.{is_gap}}
+use Rattle.fc_text.specs.Faults.{cards_of_word, count_of_lines, count_of_words, fault_of_line, fault_of_part}
+use Rattle.fc_text.specs.Faults.{first_fault, first_faulty, has_form, is_past_cells, Item, items_of, items_of_row}
+use Rattle.fc_text.specs.Faults.{suits_of_word}
+use Rattle.fc_text.specs.{Lines.{in_line, in_word, lines_from, Piece, trim_carriage_return, words_from}, Rows.{Blank}}
+use Rattle.fc_text.specs.Rows.{cells_names, column_row, columns_left, Comment, Content, heights_names, is_colon}
+use Rattle.fc_text.specs.Rows.{is_empty, is_named, Line, line_of, line_of_front, named_row, Row, row_of, rows_of}
+use Rattle.fc_text.specs.{Rows.{rows_within}, Spelling.{all_spelled, board_of, card_spelled, cell_spelled}}
+use Rattle.fc_text.specs.Spelling.{foundation_spelled, height_spelled, is_section, letter_spelled, lines_of}
+use Rattle.fc_text.specs.Spelling.{rank_spelled, words_of}
+use Rattle.fc_text.specs.declared.board.reader.Section.{Section, TheVariants.{Column, Foundations, Freecells}}
 
 abbrev upper : List ℕ → List ℕ
 upper bytes = str_to_ascii_uppercase bytes

@@ -1,52 +1,33 @@
 -- The sums of equivalent boards are the same, in some order; a move changes each by one term.
-use Rattle.std.proofs.Common.{◌%◌, ◌*◌, ◌++◌, ◌+◌, ◌-◌, ◌<◌, ◌^◌, ◌∙◌, ◌∷◌, ◌≡◌, ◌≤◌, [], ap, ap₂, arith}
-use Rattle.std.proofs.Common.{All, Bool, cond, Contains, false, inl, inr, get_or, length, List, map, None, Option, refl}
-use Rattle.std.proofs.Common.{Some, subst, suc, sym, zero, ℕ}
-use Rattle.std.proofs.Common.{drop, length-append, replicate, take}
-use Rattle.std.proofs.Math.ListN.{get_or-append}
-use Rattle.std.proofs.Math.Seq.{get_or-append_right, take-append_seam}
-use Rattle.std.proofs.lemmas.List.{ext_get_or, get_or-drop, get_or-replicate, length-drop, take-map}
-use Rattle.fc_bytes.specs.class_hash.{AreMoved, AreSums, CanMove, sum_in, sums_in, words_of}
-use Rattle.fc_bytes.specs.{declared.class_hash.ClassSums.{ClassSums}, padded}
-use Rattle.fc_board.proofs.BoardLemmas.{All-right}
-use Rattle.std.proofs.lemmas.List.Elements.{All-get_or, All-take}
-use Rattle.fc_board.proofs.BoardLemmas.{in_cells}
-use Rattle.fc_board.specs.Moves.{PlaceFits, SourceFits}
-use Rattle.fc_board.specs.laws.ListWords.{IsCell}
+use Rattle.std.proofs.Common.{◌%◌, ◌*◌, ◌++◌, ◌+◌, ◌-◌, ◌<◌, ◌^◌, ◌∙◌, ◌∷◌, ◌≡◌, ◌≤◌, [], All, ap, ap₂, arith, Bool}
+use Rattle.std.proofs.Common.{cond, Contains, drop, false, get_or, inl, inr, length, length-append, List, map, None}
+use Rattle.std.proofs.Common.{Option, refl, replicate, Some, subst, suc, sym, take, zero, ℕ}
 use Rattle.std.proofs.lemmas.Bool.{cases_lt, eqb-false, le-leb}
-use Rattle.std.proofs.lemmas.List.Elements.{All-head, All-tail}
-use Rattle.std.proofs.lemmas.List.{get_or-map, get_or-set_other, get_or_default}
-use Rattle.std.proofs.lemmas.List.{length-map, length-set}
-use Rattle.std.proofs.lemmas.List.{Sorted.{sum_by-IsPermutation}, Sums.{sum_by-cons, sum_by-set}}
-use Rattle.std.specs.{Int.{to_le_bytes, w128}, List.{sum_by}}
-use Rattle.fc_card.proofs.PermutationLemmas.{IsPermutation-pick}
-use Rattle.fc_card.specs.{IsCard, IsRenaming, pick, renamed_card, renamed_code, renaming_product}
+use Rattle.std.proofs.lemmas.List.{Elements.{All-get_or, All-head, All-tail, All-take}, ext_get_or, get_or-drop}
+use Rattle.std.proofs.lemmas.List.{get_or-map, get_or-replicate, get_or-set_other, get_or_default, length-drop}
+use Rattle.std.proofs.lemmas.List.{length-map, length-set, Sorted.{sum_by-IsPermutation}}
+use Rattle.std.proofs.{lemmas.List.{Sums.{sum_by-cons, sum_by-set}, take-map}, Math.ListN.{get_or-append}}
+use Rattle.std.{proofs.Math.Seq.{get_or-append_right, take-append_seam}, specs.{Int.{to_le_bytes, w128}, List.{sum_by}}}
+use Rattle.fc_card.{proofs.PermutationLemmas.{IsPermutation-pick}, specs.{IsCard, IsRenaming}}
 use Rattle.fc_card.specs.laws.RenamingLaws.{renamed_card-IsCard, renamed_card-product}
-use Rattle.fc_board.proofs.BoardLemmas.{in_columns}
-use Rattle.fc_board.proofs.CarriedLemmas.{carried-IsWellFormed, Carries-inverse}
-use Rattle.fc_board.proofs.ConfinedLemmas.{empty_from_last}
-use Rattle.fc_board.proofs.DeckLemmas.{inside_cells, inside_columns, split_last}
-use Rattle.fc_bytes.proofs.SumLemmas.{least_bound}
-use Rattle.fc_board.proofs.RenamingLemmas.{product-listed}
-use Rattle.fc_board.specs.Boards.{Board, IsWellFormed}
-use Rattle.fc_board.specs.Games.{Game, RuleLaws}
-use Rattle.fc_board.specs.Moves.{Fits, move_between}
-use Rattle.fc_board.specs.Passages.{carried, Carries, inverse_passage, IsPassage, Passage}
-use Rattle.fc_board.specs.Passages.{renamed_cell, renamed_column}
-use Rattle.fc_board.specs.Steps.{card_at, cell_at, column_at, is_same_pile, last_card, MayGo}
-use Rattle.fc_board.specs.Steps.{Offers, put_on, Step, taken_from}
-use Rattle.fc_board.specs.Steps.{without_last}
-use Rattle.fc_board.specs.declared.moves.{Move.{Move}, Place.{Place, TheVariants.{Cell as ToCell}}}
-use Rattle.fc_board.specs.declared.moves.Place.TheVariants.{Column as ToColumn, Home}
-use Rattle.fc_board.specs.declared.moves.Source.{Source}
+use Rattle.fc_card.specs.{pick, renamed_card, renamed_code, renaming_product}
+use Rattle.fc_board.proofs.BoardLemmas.{All-right, in_cells, in_columns}
+use Rattle.fc_board.proofs.{CarriedLemmas.{carried-IsWellFormed, Carries-inverse}, ConfinedLemmas.{empty_from_last}}
+use Rattle.fc_board.proofs.{DeckLemmas.{inside_cells, inside_columns, split_last}, RenamingLemmas.{product-listed}}
+use Rattle.fc_board.specs.{Boards.{Board, IsWellFormed}, Games.{Game, RuleLaws}, laws.ListWords.{IsCell}}
+use Rattle.fc_board.specs.Moves.{Fits, move_between, PlaceFits, SourceFits}
+use Rattle.fc_board.specs.Passages.{carried, Carries, inverse_passage, IsPassage, Passage, renamed_cell, renamed_column}
+use Rattle.fc_board.specs.Steps.{card_at, cell_at, column_at, is_same_pile, last_card, MayGo, Offers, put_on, Step}
+use Rattle.fc_board.specs.Steps.{taken_from, without_last}
+use Rattle.fc_board.specs.declared.moves.{Move.{Move}, Place.{Place}}
+use Rattle.fc_board.specs.declared.moves.{Place.TheVariants.{Cell as ToCell, Column as ToColumn, Home}, Source.{Source}}
 use Rattle.fc_board.specs.declared.moves.Source.TheVariants.{Cell as FromCell, Column as FromColumn}
-use Rattle.fc_text.proofs.BoardViewLemmas.{number-renamed}
-use Rattle.fc_canon.specs.{Equivalent}
-use Rattle.fc_bytes.specs.{cell_byte}
-use Rattle.fc_bytes.specs.class_hash.{board_total, card_weight, cell_total, child_hash, class_hash}
-use Rattle.fc_bytes.specs.class_hash.{class_sum, class_sums, column_total, hash_of_sums, least_sum}
-use Rattle.fc_bytes.specs.class_hash.{lies_on, moved_sum, moved_sums, place_weight, put_onto}
-use Rattle.fc_bytes.specs.class_hash.{renamed_place, term}
+use Rattle.{fc_canon.specs.{Equivalent}, fc_text.proofs.BoardViewLemmas.{number-renamed}}
+use Rattle.fc_bytes.{proofs.SumLemmas.{least_bound}, specs.{cell_byte, class_hash.{AreMoved, AreSums, board_total}}}
+use Rattle.fc_bytes.specs.class_hash.{CanMove, card_weight, cell_total, child_hash, class_hash, class_sum, class_sums}
+use Rattle.fc_bytes.specs.class_hash.{column_total, hash_of_sums, least_sum, lies_on, moved_sum, moved_sums}
+use Rattle.fc_bytes.specs.{class_hash.{place_weight, put_onto, renamed_place, sum_in, sums_in, term, words_of}, padded}
+use Rattle.fc_bytes.specs.declared.class_hash.ClassSums.{ClassSums}
 
 -- ---- one renaming after the other
 place_of_card : (renaming : List ℕ) (byte : ℕ) → byte ≤ 52 → renamed_place renaming byte ≡ renamed_code renaming byte

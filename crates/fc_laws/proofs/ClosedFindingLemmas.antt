@@ -1,33 +1,28 @@
 -- What `closed` finds is so of all members of a collection.
-use Rattle.std.proofs.Common.{◌++◌, ◌+◌, ◌==◌, ◌↔◌, ◌∙◌, ◌∷◌, ◌≡◌, [], ap, ap₂, arith, Bool, codes}
-use Rattle.std.proofs.Common.{cond, false, is_some, length, List, map, None, not, Option, refl}
-use Rattle.std.proofs.Common.{slice_index, Some, subst, suc, sym, true, true≢false, zero, ℕ}
-use Rattle.std.proofs.lemmas.{Bool.{eqb-true}, List.{Elements.{All-contains}, Folds.{list_any_at}}}
-use Rattle.std.proofs.lemmas.List.{get_or-map, length-map, Sums.{sum_by-cons}}
-use Rattle.std.specs.List.{Contains, count_by, filter, find}
-use Rattle.std.specs.{Option.{option_map, option_or, unwrap_or}, Str.{bytes_eq}}
+use Rattle.std.proofs.Common.{◌++◌, ◌+◌, ◌==◌, ◌↔◌, ◌∙◌, ◌∷◌, ◌≡◌, [], ap, ap₂, arith, Bool, codes, cond, false}
+use Rattle.std.proofs.Common.{is_some, length, List, map, None, not, Option, refl, slice_index, Some, subst, suc, sym}
+use Rattle.std.proofs.{Common.{true, true≢false, zero, ℕ}, lemmas.{Bool.{eqb-true}, List.Elements.{All-contains}}}
+use Rattle.std.proofs.lemmas.List.{Folds.{list_any_at}, get_or-map, length-map, Sums.{sum_by-cons}}
+use Rattle.std.specs.{List.{Contains, count_by, filter, find}, Option.{option_map, option_or, unwrap_or}}
+use Rattle.std.specs.Str.{bytes_eq}
 use Rattle.fc_board.proofs.{DeckLemmas.{stays_well_formed}, RunPlayLemmas.{after_step}}
-use Rattle.fc_board.proofs.StepLemmas.{not_refused_at_step, step_from}
-use Rattle.fc_board.specs.{Boards.{Board, IsWellFormed}, Games.{game_of, variant_word}}
-use Rattle.fc_board.specs.laws.RenamingTests.{bakers_game_laws, eight_off_laws, freecell_laws}
-use Rattle.fc_board.specs.{Play.{has_all_home}, Steps.{Step}}
-use Rattle.fc_board.specs.declared.moves.Move.{Move}
-use Rattle.fc_board.specs.declared.rule.Variant.TheVariants.{BakersGame, EightOff, FreeCell}
+use Rattle.fc_board.{proofs.StepLemmas.{not_refused_at_step, step_from}, specs.Boards.{Board, IsWellFormed}}
+use Rattle.fc_board.specs.Games.{game_of, variant_word}
+use Rattle.fc_board.specs.{laws.RenamingTests.{bakers_game_laws, eight_off_laws, freecell_laws}, Play.{has_all_home}}
+use Rattle.fc_board.specs.Steps.{Step}
+use Rattle.fc_board.specs.declared.{moves.Move.{Move}, rule.Variant.TheVariants.{BakersGame, EightOff, FreeCell}}
 use Rattle.fc_board.specs.declared.rule.Variant.{Variant}
-use Rattle.fc_canon.proofs.{CanonicalLemmas.{Equivalent-sym}, SymmetryLemmas.{Contains-kept}}
-use Rattle.fc_canon.specs.{Equivalent}
+use Rattle.fc_canon.{proofs.{CanonicalLemmas.{Equivalent-sym}, SymmetryLemmas.{Contains-kept}}, specs.{Equivalent}}
 use Rattle.fc_bytes.{proofs.LegalMoves.{all_legal, all_listed}, specs.{IsAllowed, legal_moves}}
 use Rattle.fc_closed.{proofs.ClosedLemmas.{unsolvable}, specs.{IsAmong, IsClosed, IsUnsolvable}}
 use Rattle.fc_record.specs.Grammar.{Accepted, Reading, reading_of, Refused as IsRefused}
-use Rattle.fc_record.specs.Printing.{is_refused, printed_or, refusal_line, refuses}
-use Rattle.fc_record.specs.RecordTexts.{RecordText}
+use Rattle.fc_record.specs.{Printing.{is_refused, printed_or, refusal_line, refuses}, RecordTexts.{RecordText}}
 use Rattle.fc_collect.proofs.{ClosedLemmas.{all_home, won_home}, GroupLemmas.{has_one}}
-use Rattle.fc_collect.proofs.GroupNameLemmas.{together-Equivalent}
-use Rattle.fc_collect.{proofs.MemberLemmas.{member-IsWellFormed}, specs.Closed.{boards_of, Closed}}
-use Rattle.fc_collect.specs.Closed.{Finding, finding_line, finding_of, first_flawed, flaw_of}
-use Rattle.fc_collect.specs.Closed.{Flawed, flawless, has_flaw, leads_out, member_after, move_out}
-use Rattle.fc_collect.specs.{Closed.{opened, Refused, refused_with}, Groups.{belong_together}}
-use Rattle.fc_collect.specs.Groups.{groups_of, Member, members_among, name_of_member, summary_of}
+use Rattle.fc_collect.proofs.{GroupNameLemmas.{together-Equivalent}, MemberLemmas.{member-IsWellFormed}}
+use Rattle.fc_collect.specs.Closed.{boards_of, Closed, Finding, finding_line, finding_of, first_flawed, flaw_of, Flawed}
+use Rattle.fc_collect.specs.Closed.{flawless, has_flaw, leads_out, member_after, move_out, opened, Refused}
+use Rattle.fc_collect.specs.Closed.{refused_with}
+use Rattle.fc_collect.specs.Groups.{belong_together, groups_of, Member, members_among, name_of_member, summary_of}
 use Rattle.fc_collect.specs.Runs.{refusals}
 use Rattle.fc_collect.specs.declared.commands.closed.Flaw.{Flaw, TheVariants.{Open, Won}}
 use Rattle.fc_collect.specs.declared.streams.faults.Summary.{Summary}

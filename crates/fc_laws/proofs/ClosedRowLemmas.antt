@@ -1,11 +1,10 @@
 -- Lists of boards of which each has one move at most.
-use Rattle.std.proofs.Common.{◌∷◌, ◌≡◌, ◌⊎◌, [], ap, arith, inl, inr, List, slice_index, subst, suc}
-use Rattle.std.{proofs.Common.{zero}, specs.List.{Contains}}
-use Rattle.fc_board.proofs.StepLemmas.{not_refused_at_step, one_after}
-use Rattle.fc_board.specs.{Boards.{Board, IsWellFormed}, Games.{Game}, Play.{IsWon}, Steps.{Step}}
-use Rattle.{fc_board.specs.declared.moves.Move.{Move}, fc_closed.specs.{IsAmong}}
-use Rattle.fc_canon.proofs.CanonicalLemmas.{Equivalent-refl}
-use Rattle.fc_bytes.{proofs.LegalMoves.{all_listed}, specs.{legal_moves}}
+use Rattle.std.proofs.Common.{◌∷◌, ◌≡◌, ◌⊎◌, [], ap, arith, inl, inr, List, slice_index, subst, suc, zero}
+use Rattle.std.specs.List.{Contains}
+use Rattle.fc_board.{proofs.StepLemmas.{not_refused_at_step, one_after}, specs.Boards.{Board, IsWellFormed}}
+use Rattle.fc_board.specs.{Games.{Game}, Play.{IsWon}, Steps.{Step}}
+use Rattle.{fc_board.specs.declared.moves.Move.{Move}, fc_canon.proofs.CanonicalLemmas.{Equivalent-refl}}
+use Rattle.{fc_bytes.{proofs.LegalMoves.{all_listed}, specs.{legal_moves}}, fc_closed.specs.{IsAmong}}
 
 pub the_one : {X : Type 0} (x y : X) → Contains (x ∷ []) y → x ≡ y
 the_one x y (zero, below, is) = is

@@ -1,34 +1,28 @@
 -- What expand prints for a list.
-use Rattle.std.proofs.Common.{◌++◌, ◌+◌, ◌<◌, ◌↔◌, ◌∙◌, ◌∷◌, ◌≡◌, ◌≤◌, ◌⊎◌, [], All, ap, append-nil}
-use Rattle.std.proofs.Common.{append_assoc, arith, Bool, codes, Contains, false, if◌then◌else◌, inl}
-use Rattle.std.proofs.Common.{inr, length, List, nat_le, refl, slice_index, sym, true, true≢false}
-use Rattle.std.proofs.{Common.{ℕ}, lemmas.Bool.{le-leb, leb-false, leb-true, lt-leb}}
-use Rattle.std.proofs.lemmas.List.{append_cancel_left, Elements.{All-append, All-cons}}
-use Rattle.std.specs.Fmt.{decimal}
+use Rattle.std.proofs.Common.{◌++◌, ◌+◌, ◌<◌, ◌↔◌, ◌∙◌, ◌∷◌, ◌≡◌, ◌≤◌, ◌⊎◌, [], All, ap, append-nil, append_assoc}
+use Rattle.std.proofs.Common.{arith, Bool, codes, Contains, false, if◌then◌else◌, inl, inr, length, List, nat_le, refl}
+use Rattle.std.proofs.Common.{slice_index, sym, true, true≢false, ℕ}
+use Rattle.std.proofs.lemmas.{Bool.{le-leb, leb-false, leb-true, lt-leb}, List.{append_cancel_left}}
+use Rattle.std.{proofs.lemmas.List.Elements.{All-append, All-cons}, specs.Fmt.{decimal}}
 use Rattle.fc_board.proofs.ListLemmas.{verdict-OnlyLegal, verdict-Wins}
-use Rattle.fc_board.proofs.MoveListLemmas.{list_allowed-exactly, list_refused-exactly}
-use Rattle.fc_board.proofs.MoveListLemmas.{list_won-exactly}
-use Rattle.fc_board.proofs.RunPlayLemmas.{list_expanded, one_card, wins_expanded}
-use Rattle.fc_board.specs.{Boards.{Board, IsWellFormed}, Games.{Game, game_of, RuleLaws}}
-use Rattle.fc_board.specs.{Moves.{ListFits, move_count, MoveList, OneCard, Runs}, Play.{Legal}}
-use Rattle.fc_board.specs.Play.{list_verdict, OnlyLegal, Plays, Refused, RefusedAt, Verdict, Won}
+use Rattle.fc_board.proofs.MoveListLemmas.{list_allowed-exactly, list_refused-exactly, list_won-exactly}
+use Rattle.fc_board.{proofs.RunPlayLemmas.{list_expanded, one_card, wins_expanded}, specs.Boards.{Board, IsWellFormed}}
+use Rattle.fc_board.specs.{Games.{Game, game_of, RuleLaws}, Moves.{ListFits, move_count, MoveList, OneCard, Runs}}
+use Rattle.fc_board.specs.Play.{Legal, list_verdict, OnlyLegal, Plays, Refused, RefusedAt, Verdict, Won}
 use Rattle.fc_board.specs.Steps.{step_reason}
 use Rattle.fc_board.specs.declared.fault.StepFault.{StepFault}
 use Rattle.fc_board.specs.declared.fault.StepFault.TheVariants as step
 use Rattle.fc_board.specs.laws.RenamingTests.{bakers_game_laws, eight_off_laws, freecell_laws}
-use Rattle.fc_board.specs.declared.moves.Move.{Move}
-use Rattle.fc_board.specs.declared.rule.Variant.TheVariants.{BakersGame, EightOff, FreeCell}
+use Rattle.fc_board.specs.declared.{moves.Move.{Move}, rule.Variant.TheVariants.{BakersGame, EightOff, FreeCell}}
 use Rattle.fc_board.specs.declared.rule.Variant.{Variant}
-use Rattle.fc_text.{proofs.LineLemmas.{InLine}, specs.Bytes.{blank, line_feed, number_sign}}
-use Rattle.fc_text.specs.{Notation.{most_moves}, Printed.{text_of}}
-use Rattle.fc_record.proofs.LineLemmas.{played-ListLegal}
-use Rattle.fc_record.specs.{Grammar.{begins_with, Heading, list_mark}, Printing.{check_lines}}
-use Rattle.fc_record.specs.Printing.{comment_line, expand_lines, expanded_by, expanded_line}
-use Rattle.fc_record.specs.Printing.{heading_line, list_line, name_of, numbered_lines}
-use Rattle.fc_record.specs.Printing.{one_card_moves, verdict_line, verdict_words}
+use Rattle.fc_text.{proofs.LineLemmas.{InLine}, specs.{Bytes.{blank, line_feed, number_sign}, Notation.{most_moves}}}
+use Rattle.fc_text.specs.Printed.{text_of}
+use Rattle.fc_record.{proofs.LineLemmas.{played-ListLegal}, specs.Grammar.{begins_with, Heading, list_mark}}
+use Rattle.fc_record.specs.Printing.{check_lines, comment_line, expand_lines, expanded_by, expanded_line, heading_line}
+use Rattle.fc_record.specs.Printing.{list_line, name_of, numbered_lines, one_card_moves, verdict_line, verdict_words}
 use Rattle.fc_collect.proofs.MemberLemmas.{CanPrint, member-Can, member-IsWellFormed}
-use Rattle.fc_collect.proofs.ReadAgainLemmas.{codes_in_line, decimal_in_line}
-use Rattle.fc_collect.specs.{Groups.{Member, members_among}, Records.{records_of}}
+use Rattle.fc_collect.{proofs.ReadAgainLemmas.{codes_in_line, decimal_in_line}, specs.Groups.{Member, members_among}}
+use Rattle.fc_collect.specs.Records.{records_of}
 use Rattle.fc_laws.proofs.VerdictLineLemmas.{not_both, small_index, verdict_Refused}
 
 -- ---- a list and its expansion

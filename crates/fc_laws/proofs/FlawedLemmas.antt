@@ -1,24 +1,17 @@
 -- The record that `closed` names is the first with a flaw.
-use Rattle.std.proofs.Common.{◌++◌, ◌<◌, ◌==◌, ◌∙◌, ◌∷◌, ◌≡◌, [], ap, arith, Bool, cond, false}
-use Rattle.std.proofs.Common.{length, List, None, Option, refl, Some, subst, suc, sym, true}
-use Rattle.std.proofs.{Common.{true≢false, zero, ℕ}, lemmas.List.Elements.{All-contains}}
-use Rattle.std.proofs.lemmas.List.Elements.{Contains-append_left, Contains-append_right}
-use Rattle.std.specs.{List.{Contains, find}, Option.{option_map, option_or, unwrap_or}}
-use Rattle.std.specs.Prelude.{slice_get}
-use Rattle.fc_board.proofs.StepLemmas.{step_from}
-use Rattle.fc_board.specs.{Boards.{IsWellFormed}, Games.{game_of}, Play.{has_all_home}}
-use Rattle.fc_board.specs.declared.{moves.Move.{Move}}
-use Rattle.{fc_bytes.specs.declared.moves.MoveBytes.{MoveBytes}}
-use Rattle.fc_bytes.proofs.LegalMoves.{all_legal}
-use Rattle.fc_bytes.specs.{IsAllowed, legal_moves}
-use Rattle.fc_collect.{proofs.ClosedLemmas.{home_won, won_home}, specs.Closed.{Closed, Finding}}
-use Rattle.fc_collect.specs.Closed.{finding_of, first_flawed, flaw_of, Flawed, flawless, leads_out}
-use Rattle.fc_collect.specs.Closed.{move_out, opened, Refused}
+use Rattle.std.proofs.Common.{◌++◌, ◌<◌, ◌==◌, ◌∙◌, ◌∷◌, ◌≡◌, [], ap, arith, Bool, cond, false, length, List, None}
+use Rattle.std.proofs.Common.{Option, refl, Some, subst, suc, sym, true, true≢false, zero, ℕ}
+use Rattle.std.proofs.lemmas.List.Elements.{All-contains, Contains-append_left, Contains-append_right}
+use Rattle.std.specs.{List.{Contains, find}, Option.{option_map, option_or, unwrap_or}, Prelude.{slice_get}}
+use Rattle.fc_board.{proofs.StepLemmas.{step_from}, specs.{Boards.{IsWellFormed}, Games.{game_of}, Play.{has_all_home}}}
+use Rattle.{fc_board.specs.declared.moves.Move.{Move}, fc_bytes.specs.declared.moves.MoveBytes.{MoveBytes}}
+use Rattle.fc_bytes.{proofs.LegalMoves.{all_legal}, specs.{IsAllowed, legal_moves}}
+use Rattle.fc_collect.{proofs.ClosedLemmas.{home_won, won_home}, specs.Closed.{Closed, Finding, finding_of}}
+use Rattle.fc_collect.specs.Closed.{first_flawed, flaw_of, Flawed, flawless, leads_out, move_out, opened, Refused}
 use Rattle.fc_collect.specs.Groups.{groups_of, Member, name_of_member}
 use Rattle.fc_collect.specs.declared.commands.closed.Flaw.{Flaw, TheVariants.{Open, Won}}
 use Rattle.fc_collect.specs.declared.streams.faults.Summary.{Summary}
-use Rattle.fc_laws.proofs.ClosedFindingLemmas.{flawless_parts, next_among}
-use Rattle.fc_laws.proofs.ClosedFindingLemmas.{stays_exactly}
+use Rattle.fc_laws.proofs.ClosedFindingLemmas.{flawless_parts, next_among, stays_exactly}
 use Rattle.fc_laws.specs.Findings.{IsFirstFlawed, IsFlawIn, IsShutIn, LeadsAway}
 
 -- ---- the first item of which a test holds

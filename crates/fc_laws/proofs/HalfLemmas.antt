@@ -1,8 +1,7 @@
 -- What half of a count is over helper columns.
-use Rattle.std.proofs.Common.{◌*◌, ◌^◌, ◌∙◌, ◌∷◌, ◌≡◌, ◌≤◌, [], arith, inl, inr, length, List, suc}
-use Rattle.std.proofs.{Common.{sym, zero, ℕ}, lemmas.Bool.{cases_lt}}
-use Rattle.fc_board.proofs.ExpansionLemmas.{double_pow, half_else, half_when, pow_some}
-use Rattle.fc_board.specs.Moves.{half}
+use Rattle.std.proofs.Common.{◌*◌, ◌^◌, ◌∙◌, ◌∷◌, ◌≡◌, ◌≤◌, [], arith, inl, inr, length, List, suc, sym, zero, ℕ}
+use Rattle.std.proofs.lemmas.Bool.{cases_lt}
+use Rattle.fc_board.{proofs.ExpansionLemmas.{double_pow, half_else, half_when, pow_some}, specs.Moves.{half}}
 
 pub half-kind : (reach count : ℕ) (helpers : List ℕ) →
     (times : ℕ) × (times ≤ length helpers) × (half reach count helpers ≡ reach * 2 ^ times)

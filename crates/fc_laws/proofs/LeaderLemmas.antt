@@ -1,18 +1,14 @@
 -- The members that lead the groups, and that `unique` prints them.
-use Rattle.std.proofs.Common.{◌++◌, ◌∷◌, ◌≡◌, [], All, append-nil, append_assoc, Bool, cond, false}
-use Rattle.std.proofs.Common.{filter, if◌then◌else◌, List, map, refl, sym, take, true, true≢false}
-use Rattle.std.proofs.{Common.{ℕ}, lemmas.Grind.{flat_map-append}}
-use Rattle.std.proofs.lemmas.List.Elements.{All-head, All-tail, filter-append}
+use Rattle.std.proofs.Common.{◌++◌, ◌∷◌, ◌≡◌, [], All, append-nil, append_assoc, Bool, cond, false, filter}
+use Rattle.std.proofs.Common.{if◌then◌else◌, List, map, refl, sym, take, true, true≢false, ℕ}
+use Rattle.std.proofs.lemmas.{Grind.{flat_map-append}, List.Elements.{All-head, All-tail, filter-append}}
 use Rattle.std.specs.List.{flat_map}
 use Rattle.fc_board.specs.declared.rule.Variant.{Variant}
 use Rattle.fc_record.specs.Grammar.{Accepted, Reading, reading_of, Refused}
-use Rattle.fc_record.specs.Printing.{is_refused, printed, printed_by, refuses, show_lines}
-use Rattle.fc_record.specs.RecordTexts.{RecordText}
-use Rattle.fc_collect.proofs.GroupLemmas.{has_none, has_one, together}
-use Rattle.fc_collect.{proofs.PrintedRecordLemmas.{shown_once}, specs.Groups.{belong_together}}
-use Rattle.fc_collect.specs.Groups.{groups_of, if_accepted, leaders_after, Member, members_among}
-use Rattle.fc_collect.specs.{Groups.{unique_lines, unique_output}, inside.{member_of}}
-use Rattle.fc_collect.specs.Records.{outputs_after}
+use Rattle.fc_record.specs.{Printing.{is_refused, printed, printed_by, refuses, show_lines}, RecordTexts.{RecordText}}
+use Rattle.fc_collect.proofs.{GroupLemmas.{has_none, has_one, together}, PrintedRecordLemmas.{shown_once}}
+use Rattle.fc_collect.specs.Groups.{belong_together, groups_of, if_accepted, leaders_after, Member, members_among}
+use Rattle.fc_collect.specs.{Groups.{unique_lines, unique_output}, inside.{member_of}, Records.{outputs_after}}
 
 -- ---- leaders
 

@@ -1,20 +1,15 @@
 -- Listed moves come in the order of their piles.
-use Rattle.std.proofs.Common.{◌*◌, ◌++◌, ◌+◌, ◌-◌, ◌<◌, ◌∙◌, ◌∷◌, ◌≡◌, ◌≤◌, [], ap, ap₂, arith}
-use Rattle.std.proofs.Common.{Bool, cond, inl, inr, List, map, nat_lt, Some, subst, suc, sym, zero}
-use Rattle.std.proofs.{Common.{ℕ}, lemmas.{Bool.{cases_lt, le-ltb, lt-ltb}, List.{map-append}}}
-use Rattle.std.specs.{List.{filter, flat_map, Sorted.{IsStrictlyIncreasing}}, Option.{is_none}}
-use Rattle.std.specs.Prelude.{false, slice_index, true}
-use Rattle.fc_card.specs.{places}
-use Rattle.fc_board.specs.{Boards.{Board}, Games.{Game}, Moves.{move_between}}
-use Rattle.fc_board.specs.Steps.{refusal, run_refusal}
-use Rattle.fc_board.specs.declared.moves.Place.TheVariants.{Cell as ToCell, Column as ToColumn}
-use Rattle.fc_board.specs.declared.moves.Place.TheVariants.{Home}
+use Rattle.std.proofs.Common.{◌*◌, ◌++◌, ◌+◌, ◌-◌, ◌<◌, ◌∙◌, ◌∷◌, ◌≡◌, ◌≤◌, [], ap, ap₂, arith, Bool, cond, inl, inr}
+use Rattle.std.proofs.Common.{List, map, nat_lt, Some, subst, suc, sym, zero, ℕ}
+use Rattle.std.{proofs.lemmas.{Bool.{cases_lt, le-ltb, lt-ltb}, List.{map-append}}, specs.List.{filter, flat_map}}
+use Rattle.std.specs.{List.Sorted.{IsStrictlyIncreasing}, Option.{is_none}, Prelude.{false, slice_index, true}}
+use Rattle.{fc_card.specs.{places}, fc_laws.specs.Listings.{move_order, run_order, source_place, target_place}}
+use Rattle.fc_board.specs.{Boards.{Board}, Games.{Game}, Moves.{move_between}, Steps.{refusal, run_refusal}}
+use Rattle.fc_board.specs.declared.moves.Place.TheVariants.{Cell as ToCell, Column as ToColumn, Home}
 use Rattle.fc_board.specs.declared.moves.Source.TheVariants.{Cell as FromCell, Column as FromColumn}
 use Rattle.fc_board.specs.declared.run_move.RunMove.TheVariants.{Run}
-use Rattle.fc_bytes.{proofs.ChildrenLemmas.{source_more, tried_more}, specs.{legal_moves}}
-use Rattle.fc_bytes.specs.{legal_moves_from, legal_runs, legal_runs_between, legal_runs_from}
-use Rattle.fc_bytes.specs.{source_numbered, target_numbered}
-use Rattle.fc_laws.specs.Listings.{move_order, run_order, source_place, target_place}
+use Rattle.fc_bytes.{proofs.ChildrenLemmas.{source_more, tried_more}, specs.{legal_moves, legal_moves_from, legal_runs}}
+use Rattle.fc_bytes.specs.{legal_runs_between, legal_runs_from, source_numbered, target_numbered}
 
 -- ---- numbers that rise, each once, from the one bound to below the other
 

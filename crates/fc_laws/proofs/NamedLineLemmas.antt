@@ -1,7 +1,7 @@
 -- Lines that begin with a name, in any case, and a colon.
-use Rattle.std.proofs.Common.{◌++◌, ◌+◌, ◌<◌, ◌∙◌, ◌∷◌, ◌≡◌, [], All, ap, arith, Bool, cond, drop}
-use Rattle.std.proofs.Common.{false, inl, inr, length, length-append, List, not, refl, suc, sym}
-use Rattle.std.proofs.{Common.{take, true, ℕ}, lemmas.Bool.{Decides.{eqb_tells}, or_parts}}
+use Rattle.std.proofs.Common.{◌++◌, ◌+◌, ◌<◌, ◌∙◌, ◌∷◌, ◌≡◌, [], All, ap, arith, Bool, cond, drop, false, inl, inr}
+use Rattle.std.proofs.Common.{length, length-append, List, not, refl, suc, sym, take, true, ℕ}
+use Rattle.std.proofs.lemmas.Bool.{Decides.{eqb_tells}, or_parts}
 use Rattle.std.proofs.lemmas.List.{Elements.{All-cons, All-head, All-nil, All-tail}, take_at}
 use Rattle.std.specs.{Char.{to_ascii_lowercase}, List.{list_any, position_or_len}}
 use Rattle.std.specs.Str.{bytes_eq, str_eq_ignore_ascii_case, str_to_ascii_lowercase}

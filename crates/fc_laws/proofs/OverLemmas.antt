@@ -1,25 +1,20 @@
 -- The image of what a text lists may be printed and read again, and runs that are refused as over the capacity.
-use Rattle.std.proofs.Common.{◌++◌, ◌-◌, ◌<◌, ◌||◌, ◌↔◌, ◌∙◌, ◌∷◌, ◌≡◌, ◌≢◌, ◌≤◌, ◌⊎◌, [], ap}
-use Rattle.std.proofs.Common.{arith, Bool, eqb, false, inl, inr, leb, length, List, ltb, None, not}
-use Rattle.std.proofs.Common.{Option, refl, Some, subst, sym, true, ℕ}
+use Rattle.std.proofs.Common.{◌++◌, ◌-◌, ◌<◌, ◌||◌, ◌↔◌, ◌∙◌, ◌∷◌, ◌≡◌, ◌≢◌, ◌≤◌, ◌⊎◌, [], ap, arith, Bool, eqb, false}
+use Rattle.std.proofs.Common.{inl, inr, leb, length, List, ltb, None, not, Option, refl, Some, subst, sym, true, ℕ}
 use Rattle.std.proofs.lemmas.{Bool.{Decides.{nat_tests}, leb-true}, List.{length-map}}
 use Rattle.fc_card.specs.{rank_of}
-use Rattle.fc_board.proofs.CapacityLemmas.{first_stays_put}
-use Rattle.fc_board.proofs.ExactLemmas.{cut_out, exact, other_test}
+use Rattle.fc_board.proofs.{CapacityLemmas.{first_stays_put}, ExactLemmas.{cut_out, exact, other_test}}
 use Rattle.fc_board.proofs.{ImageLemmas.{images-Fit, run_images-Fit}, RunLemmas.{BuildsByRank}}
-use Rattle.fc_board.proofs.RunStepLemmas.{ends_in_run, first_is, more_test}
-use Rattle.fc_board.specs.{Boards.{Board, IsWellFormed}, Games.{Builds, Game, is_king}}
-use Rattle.fc_board.specs.laws.ListWords.{CanGoOver, images, IsRun, MovesPlay, run_images}
-use Rattle.fc_board.specs.{Moves.{RunFits}, Passages.{AreOrders, image, run_image}}
-use Rattle.fc_board.specs.Steps.{capacity, column_at, Confined, counted_by, fault_or, first_of_last}
-use Rattle.fc_board.specs.Steps.{last_card, last_cards, longest_run, matches_stated, moved_count}
-use Rattle.fc_board.specs.Steps.{onto, onto_card, run_moved, run_refusal}
-use Rattle.fc_board.specs.declared.fault.StepFault.{StepFault, TheVariants.{NoRun, NotBuilding}}
-use Rattle.fc_board.specs.declared.fault.StepFault.TheVariants.{OverCapacity, SamePile, WrongCount}
-use Rattle.fc_board.specs.declared.{moves.Move.{Move}, run_move.RunMove.{RunMove}}
-use Rattle.fc_board.specs.declared.run_move.RunMove.TheVariants.{Run}
-use Rattle.fc_text.proofs.ListedLemmas.{Listed-Fit, Listed-RunFit}
-use Rattle.fc_text.proofs.PrintLemmas.{print-Listed, print_runs-Listed}
+use Rattle.fc_board.{proofs.RunStepLemmas.{ends_in_run, first_is, more_test}, specs.Boards.{Board, IsWellFormed}}
+use Rattle.fc_board.specs.Games.{Builds, Game, is_king}
+use Rattle.fc_board.specs.{laws.ListWords.{CanGoOver, images, IsRun, MovesPlay, run_images}, Moves.{RunFits}}
+use Rattle.fc_board.specs.{Passages.{AreOrders, image, run_image}, Steps.{capacity, column_at, Confined, counted_by}}
+use Rattle.fc_board.specs.Steps.{fault_or, first_of_last, last_card, last_cards, longest_run, matches_stated}
+use Rattle.fc_board.specs.Steps.{moved_count, onto, onto_card, run_moved, run_refusal}
+use Rattle.fc_board.specs.declared.fault.StepFault.{StepFault}
+use Rattle.fc_board.specs.declared.fault.StepFault.TheVariants.{NoRun, NotBuilding, OverCapacity, SamePile, WrongCount}
+use Rattle.fc_board.specs.declared.{moves.Move.{Move}, run_move.RunMove.{RunMove, TheVariants.{Run}}}
+use Rattle.fc_text.proofs.{ListedLemmas.{Listed-Fit, Listed-RunFit}, PrintLemmas.{print-Listed, print_runs-Listed}}
 use Rattle.fc_text.specs.{Notation.{IsRunToken, IsToken, Listed}, reader.{print_moves, print_runs}}
 
 pub image-Listed : (game : Game) (text columns cells : List ℕ) (moves : List Move) → game.cells ≤ 8

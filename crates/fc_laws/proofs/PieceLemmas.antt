@@ -1,24 +1,20 @@
 -- A collection is read piece by piece, where each piece is handed the number and the place at which it is.
-use Rattle.std.proofs.Common.{◌++◌, ◌+◌, ◌-◌, ◌↔◌, ◌∙◌, ◌∷◌, ◌≡◌, ◌≤◌, [], All, ap, append-nil}
-use Rattle.std.proofs.Common.{append_assoc, ap₂, arith, Bool, cond, false, length, length-append}
-use Rattle.std.proofs.{Common.{List, map, refl, sym, true, ℕ}, lemmas.Grind.{flat_map-append}}
-use Rattle.std.proofs.lemmas.List.Elements.{All-append, All-cons, All-head, All-map, All-nil}
-use Rattle.std.proofs.lemmas.List.{Elements.{All-tail, All-weaker}, map-append}
-use Rattle.std.{proofs.lemmas.List.Sums.{sum_by-append}, specs.List.{count_by, flat_map}}
-use Rattle.fc_board.proofs.BoardLemmas.{All-left, All-right}
+use Rattle.std.proofs.Common.{◌++◌, ◌+◌, ◌-◌, ◌↔◌, ◌∙◌, ◌∷◌, ◌≡◌, ◌≤◌, [], All, ap, append-nil, append_assoc, ap₂}
+use Rattle.std.proofs.Common.{arith, Bool, cond, false, length, length-append, List, map, refl, sym, true, ℕ}
+use Rattle.std.proofs.lemmas.Grind.{flat_map-append}
+use Rattle.std.proofs.lemmas.List.Elements.{All-append, All-cons, All-head, All-map, All-nil, All-tail, All-weaker}
+use Rattle.std.{proofs.lemmas.List.{map-append, Sums.{sum_by-append}}, specs.List.{count_by, flat_map}}
+use Rattle.{fc_board.proofs.BoardLemmas.{All-left, All-right}, fc_collect.specs.declared.streams.limits.Limits.{Limits}}
 use Rattle.fc_record.specs.RecordTexts.{ends_line, header_mark, RecordText}
-use Rattle.fc_collect.{
-  proofs.JoiningLemmas.{begun-ends_from, cut-after, next_text-after as next_text-placed},
-  proofs.JoiningLemmas.{records_among-after},
-  proofs.PrintingLemmas.{next_number-records, records_among-append},
-  proofs.RecordLemmas.{begun-number, begun-place, cut-append, cut-induction, records_among-last},
-  specs.{Limits.{most_record_bytes}, Pieces.{IsPiece, outputs_of_pieces, placed_after}},
-  specs.{Promises.{IsSmall, IsWithinLimits}, Records.{begins_header, begun, begun_by, cut}},
-  specs.Records.{finished, finished_by, finished_from, finished_records, first_of, if_record},
-  specs.Records.{limits_after, longer, next_number, next_text, nothing, records_among},
-  specs.Records.{records_from, records_of},
-}
-use Rattle.fc_collect.specs.declared.streams.limits.Limits.{Limits}
+use Rattle.fc_collect.proofs.JoiningLemmas.{begun-ends_from, cut-after, next_text-after as next_text-placed}
+use Rattle.fc_collect.proofs.JoiningLemmas.{records_among-after}
+use Rattle.fc_collect.proofs.PrintingLemmas.{next_number-records, records_among-append}
+use Rattle.fc_collect.proofs.RecordLemmas.{begun-number, begun-place, cut-append, cut-induction, records_among-last}
+use Rattle.fc_collect.specs.{Limits.{most_record_bytes}, Pieces.{IsPiece, outputs_of_pieces, placed_after}}
+use Rattle.fc_collect.specs.{Promises.{IsSmall, IsWithinLimits}, Records.{begins_header, begun, begun_by, cut}}
+use Rattle.fc_collect.specs.Records.{finished, finished_by, finished_from, finished_records, first_of, if_record}
+use Rattle.fc_collect.specs.Records.{limits_after, longer, next_number, next_text, nothing, records_among, records_from}
+use Rattle.fc_collect.specs.Records.{records_of}
 
 module _ (limits : Limits) (x : List ℕ) (ended : ends_line x ≡ true) where
   abbrev last : RecordText

@@ -1,17 +1,15 @@
 -- What `same` prints for one more record, after what it printed for those before.
-use Rattle.std.proofs.Common.{◌++◌, ◌∷◌, ◌≡◌, [], append-nil, append_assoc, arith, codes, List}
-use Rattle.std.proofs.Common.{None, Option, refl, Some, ℕ}
+use Rattle.std.proofs.Common.{◌++◌, ◌∷◌, ◌≡◌, [], append-nil, append_assoc, arith, codes, List, None, Option, refl}
+use Rattle.std.proofs.Common.{Some, ℕ}
 use Rattle.fc_board.specs.{Boards.{IsWellFormed}, Games.{game_of}, Passages.{Carries, Passage}}
 use Rattle.{fc_board.specs.declared.rule.Variant.{Variant}, fc_text.specs.Bytes.{line_feed}}
 use Rattle.{fc_canon.specs.{Equivalent}, fc_record.specs.declared.record.RecordFault.{RecordFault}}
 use Rattle.fc_record.specs.Grammar.{Accepted, Contents, Heading, Reading, reading_of, Refused}
 use Rattle.fc_record.specs.Printing.{name_of, passage_words, printed, printed_by, refusal_line}
 use Rattle.fc_record.specs.RecordTexts.{RecordText}
-use Rattle.fc_collect.{
-  proofs.{AcceptanceLemmas.{Says-from_accepted}, MemberLemmas.{member-IsWellFormed}},
-  proofs.{PrintingLemmas.{outputs_after-append}, SameLemmas.{passage-carries, passage-none}},
-  specs.{Groups.{Member, members_among}, Runs.{passage_found, passage_to, same_lines, same_output}},
-}
+use Rattle.fc_collect.proofs.{AcceptanceLemmas.{Says-from_accepted}, MemberLemmas.{member-IsWellFormed}}
+use Rattle.fc_collect.proofs.{PrintingLemmas.{outputs_after-append}, SameLemmas.{passage-carries, passage-none}}
+use Rattle.fc_collect.specs.{Groups.{Member, members_among}, Runs.{passage_found, passage_to, same_lines, same_output}}
 
 module _ (variant : Variant) (records : List RecordText) (text : RecordText) where
   abbrev before : List ℕ

@@ -1,23 +1,19 @@
 -- The lines of a printed board side by side are ordered as the texts of the boards are.
-use Rattle.std.proofs.Common.{◌++◌, ◌-◌, ◌<◌, ◌==◌, ◌∙◌, ◌∷◌, ◌≡◌, ◌≤◌, ◌⊎◌, [], All, ap}
-use Rattle.std.proofs.Common.{arith, codes, get_or, if◌then◌else◌, inl, inr, leb, length}
-use Rattle.std.proofs.Common.{List, Option, refl, subst, suc, sym, take, true, ℕ}
+use Rattle.std.proofs.Common.{◌++◌, ◌-◌, ◌<◌, ◌==◌, ◌∙◌, ◌∷◌, ◌≡◌, ◌≤◌, ◌⊎◌, [], All, ap, arith, codes, get_or}
+use Rattle.std.proofs.Common.{if◌then◌else◌, inl, inr, leb, length, List, Option, refl, subst, suc, sym, take, true, ℕ}
 use Rattle.std.proofs.lemmas.Bool.{Decides.{leb_tells}, eqb-true, leb-true, ne_eqb}
 use Rattle.std.proofs.lemmas.Cmp.{nat_list_cmp_total, tied_itself}
 use Rattle.std.proofs.lemmas.List.Elements.{All-cons, All-head, All-nil, All-tail, All-weaker}
 use Rattle.std.proofs.lemmas.{List.Sums.{AllPass-from_list_all}, Map.Lookups.{exact_bytes}}
 use Rattle.std.specs.{Cmp.{Lexicographic.{slice_cmp}, nat_cmp_is}, declared.cmp.Ordering.{Ordering}}
-use Rattle.std.specs.declared.cmp.Ordering.TheVariants.{Equal, Greater, Less}
-use Rattle.std.specs.{List.{flat_map, list_all}, Ordering.{nat_cmp, ordering_then}}
+use Rattle.std.specs.{declared.cmp.Ordering.TheVariants.{Equal, Greater, Less}, List.{flat_map, list_all}}
+use Rattle.std.specs.Ordering.{nat_cmp, ordering_then}
 use Rattle.{fc_canon.proofs.KeyLemmas.{height_at}, fc_card.specs.{IsCard}}
-use Rattle.fc_board.{proofs.BoardLemmas.{in_cells, in_columns}, specs.Boards.{Board, IsWellFormed}}
-use Rattle.fc_board.specs.Games.{Game}
+use Rattle.fc_board.{proofs.BoardLemmas.{in_cells, in_columns}, specs.{Boards.{Board, IsWellFormed}, Games.{Game}}}
 use Rattle.fc_text.proofs.PrintedTextLemmas.{card_prints, cell_prints, heights_print, PrintsWord}
-use Rattle.fc_text.specs.{Bytes.{blank, colon, line_feed}, Printed.{card_word, cell_word}}
-use Rattle.fc_text.specs.Printed.{cells_line, column_line, foundations_line, height_word}
-use Rattle.fc_text.specs.Printed.{printed_suits, text_of}
-use Rattle.fc_record.{proofs.PrintedPartLemmas.{lines_of_board}, specs.RecordTexts.{ends_line}}
-use Rattle.fc_record.specs.Tables.{side_by_side}
+use Rattle.fc_text.specs.{Bytes.{blank, colon, line_feed}, Printed.{card_word, cell_word, cells_line, column_line}}
+use Rattle.fc_text.specs.Printed.{foundations_line, height_word, printed_suits, text_of}
+use Rattle.fc_record.{proofs.PrintedPartLemmas.{lines_of_board}, specs.{RecordTexts.{ends_line}, Tables.{side_by_side}}}
 
 -- ---- texts whose bytes are line feeds or printed, and whose blanks are followed by other bytes
 

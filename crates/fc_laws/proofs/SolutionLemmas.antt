@@ -1,31 +1,25 @@
 -- What the members of a group share: one variant, equivalent boards, and the first list that wins.
-use Rattle.std.proofs.Common.{◌++◌, ◌<◌, ◌==◌, ◌||◌, ◌↔◌, ◌∙◌, ◌∷◌, ◌≡◌, [], ap, arith, Bool, cond}
-use Rattle.std.proofs.Common.{Contains, false, filter, get_or, if◌then◌else◌, is_some, length, List}
-use Rattle.std.proofs.Common.{map, None, Option, refl, slice_get, Some, subst, suc, sym, true}
-use Rattle.std.proofs.{Common.{true≢false, zero, ℕ}, lemmas.Bool.{both_ways, eq-eqb, eqb-true}}
-use Rattle.std.proofs.lemmas.{List.{append-nil, Folds.{list_any_at}}, Option.{same_Some}}
-use Rattle.std.specs.List.{find, list_any}
-use Rattle.fc_board.proofs.MoveListLemmas.{list_wins-carried, list_won-exactly}
-use Rattle.fc_board.specs.Boards.{Board, IsWellFormed}
+use Rattle.std.proofs.Common.{◌++◌, ◌<◌, ◌==◌, ◌||◌, ◌↔◌, ◌∙◌, ◌∷◌, ◌≡◌, [], ap, arith, Bool, cond, Contains, false}
+use Rattle.std.proofs.Common.{filter, get_or, if◌then◌else◌, is_some, length, List, map, None, Option, refl, slice_get}
+use Rattle.std.proofs.Common.{Some, subst, suc, sym, true, true≢false, zero, ℕ}
+use Rattle.std.proofs.lemmas.{Bool.{both_ways, eq-eqb, eqb-true}, List.{append-nil, Folds.{list_any_at}}}
+use Rattle.std.{proofs.lemmas.Option.{same_Some}, specs.List.{find, list_any}}
+use Rattle.fc_board.{proofs.MoveListLemmas.{list_wins-carried, list_won-exactly}, specs.Boards.{Board, IsWellFormed}}
 use Rattle.fc_board.specs.Games.{Game, game_of, renamings_of, RuleLaws}
 use Rattle.fc_board.specs.laws.RenamingTests.{bakers_game_laws, eight_off_laws, freecell_laws}
-use Rattle.fc_board.specs.Moves.{list_image, MoveList}
-use Rattle.fc_board.specs.Passages.{inverse_passage, passage_product}
+use Rattle.fc_board.specs.{Moves.{list_image, MoveList}, Passages.{inverse_passage, passage_product}}
 use Rattle.fc_board.specs.Play.{list_verdict, OnlyLegal, Refused, Verdict, Wins, Won}
-use Rattle.fc_board.specs.declared.rule.Variant.TheVariants.{BakersGame, EightOff, FreeCell}
-use Rattle.fc_board.specs.declared.rule.Variant.{Variant}
+use Rattle.fc_board.specs.declared.rule.Variant.{TheVariants.{BakersGame, EightOff, FreeCell}, Variant}
 use Rattle.{fc_laws.proofs.CanonicalAgainLemmas.{image_can}, fc_text.specs.Printed.{text_of}}
 use Rattle.fc_canon.proofs.LeastTextLemmas.{chosen-between, chosen_passage-Chosen}
-use Rattle.fc_canon.proofs.SymmetryLemmas.{Contains-kept, kept-Contains}
-use Rattle.fc_canon.specs.{chosen_passage, Equivalent, IsFirst}
+use Rattle.fc_canon.{proofs.SymmetryLemmas.{Contains-kept, kept-Contains}, specs.{chosen_passage, Equivalent, IsFirst}}
 use Rattle.fc_record.specs.{Printing.{header_text, image_line, list_line}, Tables.{is_win}}
 use Rattle.fc_collect.proofs.GroupLemmas.{Apart, leaders-Apart, leaders-cover, together}
 use Rattle.fc_collect.proofs.GroupNameLemmas.{has_one-Contains, together-Equivalent}
-use Rattle.fc_collect.proofs.MemberLemmas.{CanPrint, member-Can, member-IsWellFormed}
-use Rattle.fc_collect.{proofs.MemberLemmas.{one_of_a_number}, specs.Groups.{belong_together}}
-use Rattle.fc_collect.specs.Groups.{groups_of, leaders_after, Member, member_lines, members_among}
-use Rattle.fc_collect.specs.Groups.{name_of_member, owner_among, passage_between, passage_of}
-use Rattle.fc_collect.specs.{Groups.{shared_line, solution_line, solution_of}, Records.{records_of}}
+use Rattle.fc_collect.proofs.MemberLemmas.{CanPrint, member-Can, member-IsWellFormed, one_of_a_number}
+use Rattle.fc_collect.specs.Groups.{belong_together, groups_of, leaders_after, Member, member_lines, members_among}
+use Rattle.fc_collect.specs.Groups.{name_of_member, owner_among, passage_between, passage_of, shared_line}
+use Rattle.fc_collect.specs.{Groups.{solution_line, solution_of}, Records.{records_of}}
 
 -- ---- places
 

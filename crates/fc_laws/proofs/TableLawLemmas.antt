@@ -1,35 +1,28 @@
 -- What the objects of a table's lines have as members, and that strings of JSON keep texts apart.
-use Rattle.std.proofs.Common.{◌++◌, ◌+◌, ◌<◌, ◌==◌, ◌||◌, ◌↔◌, ◌∙◌, ◌∷◌, ◌≡◌, ◌≢◌, ◌≤◌, [], All, ap}
-use Rattle.std.proofs.Common.{append_assoc, arith, Bool, codes, cond, Contains, drop, false, get_or}
-use Rattle.std.proofs.Common.{if◌then◌else◌, leb, length, List, map, refl, slice_get, slice_index}
-use Rattle.std.proofs.Common.{slice_index_or, Some, suc, sym, take, true, true≢false, zero, ℕ}
-use Rattle.std.proofs.lemmas.Bool.{and_parts, false_from_ne_true, leb-true, ne_eqb}
-use Rattle.std.proofs.lemmas.List.Elements.{All-append, All-cons, All-head, All-nil, All-tail}
-use Rattle.std.proofs.lemmas.List.{Elements.{All-weaker}, Splits.{slice_split_at, slice_split_none}}
-use Rattle.std.proofs.lemmas.{List.Sums.{AllPass-from_list_all}, Option.{same_Some}}
-use Rattle.std.{proofs.lemmas.Slice.Eq.{bytes_eq-Decides}, specs.Fmt.{decimal}}
+use Rattle.std.proofs.Common.{◌++◌, ◌+◌, ◌<◌, ◌==◌, ◌||◌, ◌↔◌, ◌∙◌, ◌∷◌, ◌≡◌, ◌≢◌, ◌≤◌, [], All, ap, append_assoc}
+use Rattle.std.proofs.Common.{arith, Bool, codes, cond, Contains, drop, false, get_or, if◌then◌else◌, leb, length, List}
+use Rattle.std.proofs.Common.{map, refl, slice_get, slice_index, slice_index_or, Some, suc, sym, take, true, true≢false}
+use Rattle.std.proofs.{Common.{zero, ℕ}, lemmas.Bool.{and_parts, false_from_ne_true, leb-true, ne_eqb}}
+use Rattle.std.proofs.lemmas.List.Elements.{All-append, All-cons, All-head, All-nil, All-tail, All-weaker}
+use Rattle.std.proofs.lemmas.List.{Splits.{slice_split_at, slice_split_none}, Sums.{AllPass-from_list_all}}
+use Rattle.std.{proofs.lemmas.{Option.{same_Some}, Slice.Eq.{bytes_eq-Decides}}, specs.Fmt.{decimal}}
 use Rattle.std.specs.List.{flat_map, join_with_byte, list_all, slice_split, zip}
 use Rattle.fc_card.specs.{suit_letters}
 use Rattle.fc_board.{proofs.CarriedLemmas.{carried-IsWellFormed}, specs.Boards.{Board}}
-use Rattle.fc_board.specs.{Games.{Game, game_of, variant_word}, Moves.{MoveList}}
-use Rattle.fc_board.specs.{Passages.{carried}, Play.{list_verdict, Wins}}
-use Rattle.fc_board.specs.declared.rule.Variant.TheVariants.{BakersGame, EightOff, FreeCell}
-use Rattle.fc_board.specs.declared.rule.Variant.{Variant}
-use Rattle.fc_text.specs.Bytes.{dash, IsLess, line_feed, tab}
-use Rattle.fc_text.specs.Notation.{cell_letters, column_digits}
-use Rattle.fc_record.proofs.HeadingLemmas.{bytes_of_name, decimal-high, heading_said, IsHeading}
-use Rattle.fc_record.proofs.HeadingLemmas.{IsInName, named, unnamed, without}
-use Rattle.fc_record.proofs.ObjectLemmas.{number_as_it_is}
-use Rattle.fc_record.specs.{Grammar.{begins_with, Contents, Heading}, Printing.{name_of}}
-use Rattle.fc_record.specs.{RecordTexts.{header_mark}, Tables.{column_names, first_win, is_win}}
-use Rattle.fc_record.specs.Tables.{json_object, json_string, json_values, number_or_null}
-use Rattle.fc_record.specs.Tables.{side_by_side, table_fields, table_line, table_object}
+use Rattle.fc_board.specs.{Games.{Game, game_of, variant_word}, Moves.{MoveList}, Passages.{carried}}
+use Rattle.fc_board.specs.Play.{list_verdict, Wins}
+use Rattle.fc_board.specs.declared.rule.Variant.{TheVariants.{BakersGame, EightOff, FreeCell}, Variant}
+use Rattle.fc_text.specs.{Bytes.{dash, IsLess, line_feed, tab}, Notation.{cell_letters, column_digits}}
+use Rattle.fc_record.proofs.HeadingLemmas.{bytes_of_name, decimal-high, heading_said, IsHeading, IsInName, named}
+use Rattle.fc_record.proofs.{HeadingLemmas.{unnamed, without}, ObjectLemmas.{number_as_it_is}}
+use Rattle.fc_record.specs.{Grammar.{begins_with, Contents, Heading}, Printing.{name_of}, RecordTexts.{header_mark}}
+use Rattle.fc_record.specs.Tables.{column_names, first_win, is_win, json_object, json_string, json_values}
+use Rattle.fc_record.specs.Tables.{number_or_null, side_by_side, table_fields, table_line, table_object}
 use Rattle.fc_collect.proofs.{HeaderSaysLemmas.{ok-from_HeaderSays}, KeyedLemmas.{chosen, text_is}}
 use Rattle.fc_collect.proofs.MemberLemmas.{member-IsWellFormed, member-said}
-use Rattle.fc_collect.specs.Groups.{belong_together, canonical_text, Member, members_among}
-use Rattle.fc_collect.specs.{Groups.{passage_of}, inside.{HasBoard}, Records.{records_of}}
-use Rattle.fc_laws.proofs.SideBySideLemmas.{IsBoardText, side_by_side-apart, side_by_side-cmp}
-use Rattle.fc_laws.proofs.SideBySideLemmas.{side_by_side-high}
+use Rattle.fc_collect.specs.Groups.{belong_together, canonical_text, Member, members_among, passage_of}
+use Rattle.fc_collect.specs.{inside.{HasBoard}, Records.{records_of}}
+use Rattle.fc_laws.proofs.SideBySideLemmas.{IsBoardText, side_by_side-apart, side_by_side-cmp, side_by_side-high}
 use Rattle.fc_laws.proofs.SolutionLemmas.{at-Contains, passes-Wins, Wins-passes}
 
 -- ---- members

@@ -1,20 +1,17 @@
 -- What a line of check says of a list is what the list does.
-use Rattle.std.proofs.Common.{◌++◌, ◌<◌, ◌==◌, ◌^◌, ◌↔◌, ◌∙◌, ◌∷◌, ◌≡◌, ◌≤◌, [], All, ap}
-use Rattle.std.proofs.Common.{append_assoc, ap₂, arith, codes, drop, if◌then◌else◌, length, List}
-use Rattle.std.proofs.{Common.{refl, slice_index, sym, ℕ}, lemmas.Fmt.{decimal_injective}}
-use Rattle.std.proofs.lemmas.List.{append_cancel_left, Elements.{All-head, All-tail}}
+use Rattle.std.proofs.Common.{◌++◌, ◌<◌, ◌==◌, ◌^◌, ◌↔◌, ◌∙◌, ◌∷◌, ◌≡◌, ◌≤◌, [], All, ap, append_assoc, ap₂, arith}
+use Rattle.std.proofs.Common.{codes, drop, if◌then◌else◌, length, List, refl, slice_index, sym, ℕ}
+use Rattle.std.proofs.lemmas.{Fmt.{decimal_injective}, List.{append_cancel_left, Elements.{All-head, All-tail}}}
 use Rattle.std.{proofs.lemmas.Option.{slice_get_within}, specs.Fmt.{decimal}}
-use Rattle.fc_board.proofs.MoveListLemmas.{list_allowed-exactly, list_legal_not_refused}
-use Rattle.fc_board.proofs.MoveListLemmas.{list_refused-exactly, list_won-exactly}
-use Rattle.fc_board.specs.{Boards.{Board}, Games.{Game}}
-use Rattle.fc_board.specs.{Moves.{ListFits, move_count, MoveList, OneCard, Runs}, Play.{Legal}}
-use Rattle.fc_board.specs.Play.{list_verdict, OnlyLegal, Plays, Refused, RefusedAt, Verdict, Wins}
-use Rattle.fc_board.specs.{Play.{Won}, Steps.{step_reason}}
+use Rattle.fc_board.proofs.MoveListLemmas.{list_allowed-exactly, list_legal_not_refused, list_refused-exactly}
+use Rattle.fc_board.{proofs.MoveListLemmas.{list_won-exactly}, specs.{Boards.{Board}, Games.{Game}}}
+use Rattle.fc_board.specs.Moves.{ListFits, move_count, MoveList, OneCard, Runs}
+use Rattle.fc_board.specs.Play.{Legal, list_verdict, OnlyLegal, Plays, Refused, RefusedAt, Verdict, Wins, Won}
+use Rattle.fc_board.specs.Steps.{step_reason}
 use Rattle.fc_board.specs.declared.fault.StepFault.{StepFault}
 use Rattle.fc_board.specs.declared.fault.StepFault.TheVariants as step
 use Rattle.fc_text.specs.Bytes.{blank, line_feed}
-use Rattle.fc_record.proofs.HeadingLemmas.{decimal-high}
-use Rattle.fc_record.specs.Printing.{verdict_line, verdict_words}
+use Rattle.fc_record.{proofs.HeadingLemmas.{decimal-high}, specs.Printing.{verdict_line, verdict_words}}
 
 -- ---- verdicts on lists in either form
 

@@ -1,33 +1,26 @@
 -- The lines of a record after its header: where the lists begin, and what they say one after another.
-use Rattle.std.proofs.Common.{◌++◌, ◌+◌, ◌==◌, ◌∙◌, ◌∷◌, ◌≡◌, ◌≤◌, [], All, ap, append_assoc, arith}
-use Rattle.std.proofs.Common.{Bool, cond, drop, Err, false, length, List, map, None, Ok, Option}
-use Rattle.std.proofs.Common.{refl, Result, Some, subst, sym, take, true, ℕ}
-use Rattle.std.{proofs.lemmas.List.Elements.{All-head, All-tail}, specs.List.{find, prefix_len}}
+use Rattle.std.proofs.Common.{◌++◌, ◌+◌, ◌==◌, ◌∙◌, ◌∷◌, ◌≡◌, ◌≤◌, [], All, ap, append_assoc, arith, Bool, cond, drop}
+use Rattle.std.proofs.Common.{Err, false, length, List, map, None, Ok, Option, refl, Result, Some, subst, sym, take}
+use Rattle.std.{proofs.{Common.{true, ℕ}, lemmas.List.Elements.{All-head, All-tail}}, specs.List.{find, prefix_len}}
 use Rattle.fc_board.specs.{Boards.{Board}, Games.{Game}, Moves.{MoveList}}
 use Rattle.fc_text.proofs.MovesReadLemmas.{read-BadTokenAt, read-Listed, read-TooManyAt}
-use Rattle.fc_text.proofs.NextLineLemmas.{piece_within}
-use Rattle.fc_text.proofs.{PlaceLemmas.{missing_at_end, others_within}, TokenLemmas.{Reads}}
-use Rattle.fc_text.{proofs.WordLemmas.{words-are_pieces}, specs.Bytes.{is_gap, number_sign}}
-use Rattle.fc_text.specs.{Faults.{first_fault}, Lines.{IsPieceOf, lines_from, moved, Piece}}
-use Rattle.fc_text.specs.{Lines.{trim_carriage_return, words_from}, Notation.{BadToken, BadTokenAt}}
-use Rattle.fc_text.specs.Notation.{Listed, listed_by, ListFault, separates_tokens, TooMany}
-use Rattle.fc_text.specs.Notation.{TooManyAt}
-use Rattle.fc_text.specs.Rows.{Comment, Content, is_empty, line_of, line_of_front, row_of}
+use Rattle.fc_text.proofs.{NextLineLemmas.{piece_within}, PlaceLemmas.{missing_at_end, others_within}}
+use Rattle.fc_text.{proofs.{TokenLemmas.{Reads}, WordLemmas.{words-are_pieces}}, specs.Bytes.{is_gap, number_sign}}
+use Rattle.fc_text.specs.Faults.{first_fault}
+use Rattle.fc_text.specs.Lines.{IsPieceOf, lines_from, moved, Piece, trim_carriage_return, words_from}
+use Rattle.fc_text.specs.Notation.{BadToken, BadTokenAt, Listed, listed_by, ListFault, separates_tokens, TooMany}
+use Rattle.fc_text.specs.{Notation.{TooManyAt}, Rows.{Comment, Content, is_empty, line_of, line_of_front, row_of}}
 use Rattle.fc_text.specs.Spelling.{board_of}
 use Rattle.fc_text.specs.declared.fault.MovesFault.{MovesFault}
-use Rattle.fc_record.specs.Grammar.{begins_with, Contents, contents_of, contents_with, fault_at}
-use Rattle.fc_record.specs.Grammar.{list_fault, list_mark, list_read, list_with, lists_of}
-use Rattle.fc_record.specs.Grammar.{lists_start, with_list}
+use Rattle.fc_record.specs.Grammar.{begins_with, Contents, contents_of, contents_with, fault_at, list_fault, list_mark}
+use Rattle.fc_record.specs.Grammar.{list_read, list_with, lists_of, lists_start, with_list}
 use Rattle.fc_record.specs.inside.{IfFaultOf, IsFirstFault, IsNoFurther, unread_for}
 use Rattle.fc_text.specs.declared.fault.MovesFault.TheVariants as list
 use Rattle.fc_text.specs.declared.fault.{BoardFault.{BoardFault}, BoardFaultKind.{BoardFaultKind}}
-use Rattle.fc_text.specs.declared.fault.BoardFaultKind.TheVariants.{BadCard, BadFoundation}
-use Rattle.fc_text.specs.declared.fault.BoardFaultKind.TheVariants.{MissingCard, RepeatedCard}
-use Rattle.fc_text.specs.declared.fault.BoardFaultKind.TheVariants.{RepeatedLine, TooManyCells}
-use Rattle.fc_text.specs.declared.fault.BoardFaultKind.TheVariants.{TooManyColumns}
+use Rattle.fc_text.specs.declared.fault.BoardFaultKind.TheVariants.{BadCard, BadFoundation, MissingCard, RepeatedCard}
+use Rattle.fc_text.specs.declared.fault.BoardFaultKind.TheVariants.{RepeatedLine, TooManyCells, TooManyColumns}
 use Rattle.fc_record.specs.declared.record.body.Unread.{TheVariants.{Fault, Memory}, Unread}
-use Rattle.fc_record.specs.declared.record.RecordFault.{RecordFault}
-use Rattle.fc_record.specs.declared.record.RecordFaultKind.TheVariants.{StrayLine}
+use Rattle.fc_record.specs.declared.record.{RecordFault.{RecordFault}, RecordFaultKind.TheVariants.{StrayLine}}
 
 -- ---- places are within the text
 

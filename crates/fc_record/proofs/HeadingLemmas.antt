@@ -1,31 +1,24 @@
 -- The header that is printed says what the record's header said, and the name that it is printed with.
-use Rattle.std.{
-  proofs.Common.{◌%◌, ◌&&◌, ◌++◌, ◌+◌, ◌-◌, ◌/◌, ◌<◌, ◌==◌, ◌^◌, ◌∙◌, ◌∷◌, ◌≡◌, ◌≤◌, [], All, ap},
-  proofs.Common.{append-nil, append_assoc, ap₂, arith, Bool, codes, cond, drop, Err, false, leb},
-  proofs.Common.{length, List, ltb, None, not, Ok, Option, refl, Result, Some, subst, suc, sym},
-  proofs.{Common.{take, true, zero, ℕ}, lemmas.Bool.{and_parts, Decides.{nat_tests}}},
-  proofs.lemmas.{Bool.{le-leb, leb-true, ne_eqb}, Fmt.{decimal_is_IsNumeral, length-decimal-le}},
-  proofs.lemmas.List.Elements.{All-append, All-cons, All-head, All-nil, All-tail, All-weaker},
-  proofs.lemmas.List.Sums.{AllPass-from_list_all, list_all-from_AllPass},
-  proofs.{lemmas.Str.Parse.{digit_from_value}, Math.Seq.{drop-append-add, take-append_seam}},
-  specs.{Fmt.{decimal, digit_glyph, digits, digits_onto}, List.{list_all, position_or_len}},
-  specs.Str.Parse.{AllDigits},
-}
+use Rattle.std.proofs.Common.{◌%◌, ◌&&◌, ◌++◌, ◌+◌, ◌-◌, ◌/◌, ◌<◌, ◌==◌, ◌^◌, ◌∙◌, ◌∷◌, ◌≡◌, ◌≤◌, [], All, ap}
+use Rattle.std.proofs.Common.{append-nil, append_assoc, ap₂, arith, Bool, codes, cond, drop, Err, false, leb, length}
+use Rattle.std.proofs.Common.{List, ltb, None, not, Ok, Option, refl, Result, Some, subst, suc, sym, take, true, zero}
+use Rattle.std.proofs.{Common.{ℕ}, lemmas.Bool.{and_parts, Decides.{nat_tests}, le-leb, leb-true, ne_eqb}}
+use Rattle.std.proofs.lemmas.Fmt.{decimal_is_IsNumeral, length-decimal-le}
+use Rattle.std.proofs.lemmas.List.Elements.{All-append, All-cons, All-head, All-nil, All-tail, All-weaker}
+use Rattle.std.proofs.lemmas.{List.Sums.{AllPass-from_list_all, list_all-from_AllPass}, Str.Parse.{digit_from_value}}
+use Rattle.std.proofs.Math.Seq.{drop-append-add, take-append_seam}
+use Rattle.std.specs.{Fmt.{decimal, digit_glyph, digits, digits_onto}, List.{list_all, position_or_len}}
+use Rattle.std.specs.Str.Parse.{AllDigits}
 use Rattle.fc_board.specs.Games.{game_of, variant_word}
-use Rattle.fc_board.specs.declared.rule.Variant.TheVariants.{BakersGame, EightOff, FreeCell}
-use Rattle.fc_board.specs.declared.rule.Variant.{Variant}
+use Rattle.fc_board.specs.declared.rule.Variant.{TheVariants.{BakersGame, EightOff, FreeCell}, Variant}
 use Rattle.fc_text.proofs.{LineLemmas.{InLine}, PrintedTextLemmas.{no_return}}
 use Rattle.fc_text.proofs.WordLemmas.{after_separator, EndsWord, first_word, words_from-AreWords}
-use Rattle.fc_text.specs.Bytes.{blank, is_gap, line_feed}
-use Rattle.fc_text.specs.Lines.{IsWord, Piece, trim_carriage_return, words_from}
-use Rattle.fc_record.specs.Grammar.{Accepted, after_header, begins_with, Contents, contents_of}
-use Rattle.fc_record.specs.Grammar.{fault_at, header_line, Heading, heading_by, heading_of}
-use Rattle.fc_record.specs.Grammar.{heading_of_words, is_line_feed, is_name, Reading, reading_by}
-use Rattle.fc_record.specs.Grammar.{reading_of, reading_with, Refused, variant_named, with_header}
-use Rattle.fc_record.specs.{Grammar.{without_header}, Printing.{header_text, name_of}}
-use Rattle.fc_record.specs.RecordTexts.{header_mark}
-use Rattle.fc_record.specs.declared.record.RecordFault.{RecordFault}
-use Rattle.fc_record.specs.declared.record.RecordFaultKind.TheVariants.{BadHeader}
+use Rattle.fc_text.specs.{Bytes.{blank, is_gap, line_feed}, Lines.{IsWord, Piece, trim_carriage_return, words_from}}
+use Rattle.fc_record.specs.Grammar.{Accepted, after_header, begins_with, Contents, contents_of, fault_at, header_line}
+use Rattle.fc_record.specs.Grammar.{Heading, heading_by, heading_of, heading_of_words, is_line_feed, is_name, Reading}
+use Rattle.fc_record.specs.Grammar.{reading_by, reading_of, reading_with, Refused, variant_named, with_header}
+use Rattle.fc_record.specs.{Grammar.{without_header}, Printing.{header_text, name_of}, RecordTexts.{header_mark}}
+use Rattle.fc_record.specs.declared.record.{RecordFault.{RecordFault}, RecordFaultKind.TheVariants.{BadHeader}}
 
 -- ---- names
 

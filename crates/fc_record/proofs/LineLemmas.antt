@@ -1,28 +1,23 @@
 -- A call that appends to what is printed says so as an `if`: what is there where it did not fail.
-use Rattle.std.proofs.Common.{◌++◌, ◌<◌, ◌∙◌, ◌∷◌, ◌≡◌, ◌≤◌, [], All, ap, append_assoc, ap₂, arith}
-use Rattle.std.proofs.Common.{Bool, codes, Err, false, if◌then◌else◌, length, List, map, nat_le, Ok}
-use Rattle.std.proofs.Common.{OnOk, refl, Result, slice_index, sym, true, ℕ}
-use Rattle.std.{proofs.lemmas.Result.{on_ok_weaker}, specs.Fmt.{decimal}}
+use Rattle.std.proofs.Common.{◌++◌, ◌<◌, ◌∙◌, ◌∷◌, ◌≡◌, ◌≤◌, [], All, ap, append_assoc, ap₂, arith, Bool, codes, Err}
+use Rattle.std.proofs.Common.{false, if◌then◌else◌, length, List, map, nat_le, Ok, OnOk, refl, Result, slice_index, sym}
+use Rattle.std.{proofs.{Common.{true, ℕ}, lemmas.Result.{on_ok_weaker}}, specs.Fmt.{decimal}}
 use Rattle.std.specs.{List.{flat_map, join_with_byte}, Result.{is_ok}}
 use Rattle.{fc_canon.specs.{chosen_passage, least_text}, fc_card.specs.{renaming_text}}
-use Rattle.fc_board.proofs.MoveListLemmas.{list_allowed-exactly, list_legal_not_refused}
-use Rattle.fc_board.proofs.MoveListLemmas.{list_refused-exactly, list_won-exactly}
-use Rattle.fc_board.proofs.{RunPlayLemmas.{list_expanded, token_after}, RunStepLemmas.{all_fit}}
-use Rattle.fc_board.specs.Boards.{Board, IsWellFormed}
-use Rattle.fc_board.specs.Games.{Game, game_of, renamings_of, RuleLaws, variant_word}
-use Rattle.fc_board.specs.laws.ListWords.{RunPlays}
-use Rattle.fc_board.specs.Moves.{Fits, ListFits, move_count, MoveList, OneCard, RunFits, Runs}
-use Rattle.fc_board.specs.{Passages.{Passage}, Play.{expansion_of, expansions, Legal, list_verdict}}
-use Rattle.fc_board.specs.{Play.{OnlyLegal, Refused, run_verdict, Verdict, Won}, Steps.{RunStep}}
-use Rattle.fc_board.specs.declared.{fault.StepFault.{StepFault}, moves.Move.{Move}}
-use Rattle.fc_board.specs.declared.run_move.RunMove.{RunMove, TheVariants.{One, Run}}
-use Rattle.fc_text.specs.Bytes.{blank, line_feed, tab}
-use Rattle.fc_text.specs.Notation.{cell_letters, column_digits, most_moves, print}
+use Rattle.fc_board.proofs.MoveListLemmas.{list_allowed-exactly, list_legal_not_refused, list_refused-exactly}
+use Rattle.fc_board.proofs.{MoveListLemmas.{list_won-exactly}, RunPlayLemmas.{list_expanded, token_after}}
+use Rattle.fc_board.{proofs.RunStepLemmas.{all_fit}, specs.Boards.{Board, IsWellFormed}}
+use Rattle.fc_board.specs.{Games.{Game, game_of, renamings_of, RuleLaws, variant_word}, laws.ListWords.{RunPlays}}
+use Rattle.fc_board.specs.{Moves.{Fits, ListFits, move_count, MoveList, OneCard, RunFits, Runs}, Passages.{Passage}}
+use Rattle.fc_board.specs.Play.{expansion_of, expansions, Legal, list_verdict, OnlyLegal, Refused, run_verdict, Verdict}
+use Rattle.fc_board.specs.{Play.{Won}, Steps.{RunStep}}
+use Rattle.fc_board.specs.declared.{fault.StepFault.{StepFault}, moves.Move.{Move}, run_move.RunMove.{RunMove}}
+use Rattle.fc_board.specs.declared.run_move.RunMove.TheVariants.{One, Run}
+use Rattle.fc_text.specs.{Bytes.{blank, line_feed, tab}, Notation.{cell_letters, column_digits, most_moves, print}}
 use Rattle.fc_text.specs.Printed.{text_of}
-use Rattle.fc_record.specs.{Grammar.{Contents, Heading}, inside.{IsExpansion, verdict_of}}
-use Rattle.fc_record.specs.Printing.{after_blank, canon_lines, comment_line, expanded_by}
-use Rattle.fc_record.specs.Printing.{expanded_line, heading_line, image_line, list_line, name_of}
-use Rattle.fc_record.specs.Printing.{one_card_moves, passage_line, show_lines, verdict_words}
+use Rattle.fc_record.specs.{Grammar.{Contents, Heading}, inside.{IsExpansion, verdict_of}, Printing.{after_blank}}
+use Rattle.fc_record.specs.Printing.{canon_lines, comment_line, expanded_by, expanded_line, heading_line, image_line}
+use Rattle.fc_record.specs.Printing.{list_line, name_of, one_card_moves, passage_line, show_lines, verdict_words}
 use Rattle.fc_record.specs.Tables.{first_win, side_by_side, table_line}
 
 -- what was appended is this text

@@ -1,31 +1,25 @@
 -- The object of a table's line: what was printed member by member is that object.
-use Rattle.std.proofs.Common.{◌&&◌, ◌++◌, ◌-◌, ◌==◌, ◌||◌, ◌∙◌, ◌∷◌, ◌≡◌, ◌≤◌, [], All, ap}
-use Rattle.std.proofs.Common.{append_assoc, ap₂, arith, Bool, codes, cond, drop, Err, false}
-use Rattle.std.proofs.Common.{if◌then◌else◌, length, List, map, None, not, Ok, OnOk, Option, refl}
-use Rattle.std.proofs.Common.{Result, slice_index, Some, subst, suc, sym, take, true, true≢false}
-use Rattle.std.proofs.{Common.{zero, ℕ}, lemmas.Bool.{and_parts, false_from_ne_true}}
-use Rattle.std.proofs.lemmas.List.{Elements.{All-head}, Folds.{list_all-append}}
-use Rattle.std.{proofs.lemmas.Slice.Eq.{bytes_eq-Decides}, specs.Cmp.Lexicographic.{slice_cmp}}
-use Rattle.std.specs.{Fmt.{decimal}, List.{flat_map, join_with_byte, list_all, zip}}
+use Rattle.std.proofs.Common.{◌&&◌, ◌++◌, ◌-◌, ◌==◌, ◌||◌, ◌∙◌, ◌∷◌, ◌≡◌, ◌≤◌, [], All, ap, append_assoc, ap₂, arith}
+use Rattle.std.proofs.Common.{Bool, codes, cond, drop, Err, false, if◌then◌else◌, length, List, map, None, not, Ok}
+use Rattle.std.proofs.Common.{OnOk, Option, refl, Result, slice_index, Some, subst, suc, sym, take, true, true≢false}
+use Rattle.std.proofs.{Common.{zero, ℕ}, lemmas.{Bool.{and_parts, false_from_ne_true}, List.Elements.{All-head}}}
+use Rattle.std.proofs.lemmas.{List.Folds.{list_all-append}, Slice.Eq.{bytes_eq-Decides}}
+use Rattle.std.specs.{Cmp.Lexicographic.{slice_cmp}, Fmt.{decimal}, List.{flat_map, join_with_byte, list_all, zip}}
 use Rattle.std.specs.{Ordering.{is_lt, nat_cmp}, Str.{bytes_eq}}
 use Rattle.fc_card.specs.{card_text, rank_letters, rank_of, renaming_text, suit_letters, suit_of}
 use Rattle.fc_board.specs.{Boards.{Board}, Games.{Game, game_of, renamings_of, variant_word}}
 use Rattle.fc_board.specs.Passages.{carried, Passage}
-use Rattle.fc_board.specs.declared.rule.Variant.TheVariants.{BakersGame, EightOff, FreeCell}
-use Rattle.fc_board.specs.declared.rule.Variant.{Variant}
-use Rattle.fc_text.specs.{Bytes.{blank, dash, line_feed}, Faults.{board_reason}}
-use Rattle.fc_text.specs.{Notation.{cell_letters, column_digits}, Printed.{card_word, cell_word}}
-use Rattle.fc_text.specs.Printed.{cells_line, column_line, foundations_line, height_letters}
+use Rattle.fc_board.specs.declared.rule.Variant.{TheVariants.{BakersGame, EightOff, FreeCell}, Variant}
+use Rattle.fc_text.specs.{Bytes.{blank, dash, line_feed}, Faults.{board_reason}, Notation.{cell_letters, column_digits}}
+use Rattle.fc_text.specs.Printed.{card_word, cell_word, cells_line, column_line, foundations_line, height_letters}
 use Rattle.fc_text.specs.Printed.{height_word, printed_suits, text_of}
-use Rattle.fc_text.specs.declared.fault.BoardFaultKind.{BoardFaultKind, TheVariants.{BadCard}}
-use Rattle.fc_text.specs.declared.fault.BoardFaultKind.TheVariants.{BadFoundation, MissingCard}
-use Rattle.fc_text.specs.declared.fault.BoardFaultKind.TheVariants.{RepeatedCard, RepeatedLine}
+use Rattle.fc_text.specs.declared.fault.BoardFaultKind.{BoardFaultKind, TheVariants.{BadCard, BadFoundation}}
+use Rattle.fc_text.specs.declared.fault.BoardFaultKind.TheVariants.{MissingCard, RepeatedCard, RepeatedLine}
 use Rattle.fc_text.specs.declared.fault.BoardFaultKind.TheVariants.{TooManyCells, TooManyColumns}
 use Rattle.fc_canon.specs.{chosen_passage, least_of, least_text, sorted_text, sorting_passage}
 use Rattle.fc_record.{proofs.HeadingLemmas.{decimal-high}, specs.Grammar.{Contents, Heading}}
-use Rattle.fc_record.specs.{Printing.{name_of, record_reason}, Tables.{column_names, first_win}}
-use Rattle.fc_record.specs.Tables.{json_object, json_string, number_or_null, side_by_side}
-use Rattle.fc_record.specs.Tables.{table_object}
+use Rattle.fc_record.specs.{Printing.{name_of, record_reason}, Tables.{column_names, first_win, json_object}}
+use Rattle.fc_record.specs.Tables.{json_string, number_or_null, side_by_side, table_object}
 use Rattle.fc_record.specs.declared.record.RecordFaultKind.{RecordFaultKind}
 use Rattle.fc_record.specs.declared.record.RecordFaultKind.TheVariants as kind
 

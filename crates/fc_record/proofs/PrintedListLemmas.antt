@@ -1,11 +1,9 @@
 -- The line of a list, as it is printed.
 use Rattle.std.proofs.Common.{◌++◌, ◌∷◌, ◌≡◌, ◌≤◌, [], All, ap, arith, false, List, map, ℕ}
-use Rattle.std.proofs.lemmas.List.Elements.{All-append, All-cons, All-head, All-nil, All-tail}
-use Rattle.std.proofs.lemmas.List.{Elements.{All-weaker}}
+use Rattle.std.proofs.lemmas.List.Elements.{All-append, All-cons, All-head, All-nil, All-tail, All-weaker}
 use Rattle.std.specs.List.{join_with_byte}
 use Rattle.fc_board.specs.{Games.{Game}, Moves.{Fits, ListFits, MoveList, OneCard, RunFits, Runs}}
-use Rattle.fc_text.proofs.{LineLemmas.{InLine}, RunTokenLemmas.{run_solid}}
-use Rattle.fc_text.proofs.{TokenLemmas.{token-IsSolid}}
+use Rattle.fc_text.proofs.{LineLemmas.{InLine}, RunTokenLemmas.{run_solid}, TokenLemmas.{token-IsSolid}}
 use Rattle.fc_text.specs.{Bytes.{blank}, Notation.{print, run_token, separates_tokens, token}}
 use Rattle.fc_record.specs.{Grammar.{list_mark}, Printing.{after_blank, marks_of}}
 

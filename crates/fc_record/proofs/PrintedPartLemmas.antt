@@ -1,30 +1,20 @@
 -- Where the first list begins: at the first mark, where that one begins a line.
-use Rattle.memchr.specs.Find.{is_byte, IsFirstByte}
-use Rattle.std.proofs.Common.{◌++◌, ◌+◌, ◌-◌, ◌<◌, ◌==◌, ◌∙◌, ◌∷◌, ◌≡◌, [], All, ap, append-nil}
-use Rattle.std.proofs.Common.{append_assoc, arith, drop, false, length, length-append, List, None}
-use Rattle.std.proofs.Common.{refl, Some, subst, sym, take, true, ℕ}
-use Rattle.std.proofs.Math.Seq.{take-append_seam}
-use Rattle.std.proofs.lemmas.Bool.{eqb-true, false_from_ne_true}
-use Rattle.std.proofs.lemmas.List.{drop_more, get_or-take, length-take-le, take-append-drop}
-use Rattle.std.proofs.lemmas.List.Elements.{All-from_get_or, All-head, All-tail, All-weaker}
-use Rattle.std.proofs.lemmas.List.Folds.{find-append}
-use Rattle.std.specs.List.{find, flat_map}
-use Rattle.std.specs.Option.{option_map, option_or, unwrap_or}
-use Rattle.fc_board.specs.{Boards.{Board, IsWellFormed}, Games.{Game}}
-use Rattle.fc_text.specs.{Bytes.{line_feed}, Lines.{in_line, IsPieceOf, lines_from, Piece}}
-use Rattle.fc_text.specs.Printed.{cells_line, column_line, foundations_line, text_of}
-use Rattle.fc_text.specs.Spelling.{Spells}
-use Rattle.fc_record.specs.Grammar.{begins_with, list_mark, lists_start}
+use Rattle.{fc_board.specs.{Boards.{Board, IsWellFormed}, Games.{Game}}, memchr.specs.Find.{is_byte, IsFirstByte}}
+use Rattle.std.proofs.Common.{◌++◌, ◌+◌, ◌-◌, ◌<◌, ◌==◌, ◌∙◌, ◌∷◌, ◌≡◌, [], All, ap, append-nil, append_assoc, arith}
+use Rattle.std.proofs.Common.{drop, false, length, length-append, List, None, refl, Some, subst, sym, take, true, ℕ}
+use Rattle.std.proofs.lemmas.{Bool.{eqb-true, false_from_ne_true}, List.{drop_more}}
+use Rattle.std.proofs.lemmas.List.{Elements.{All-from_get_or, All-head, All-tail, All-weaker}, Folds.{find-append}}
+use Rattle.std.proofs.{lemmas.List.{get_or-take, length-take-le, take-append-drop}, Math.Seq.{take-append_seam}}
+use Rattle.std.specs.{List.{find, flat_map}, Option.{option_map, option_or, unwrap_or}}
+use Rattle.fc_text.proofs.LineLemmas.{in_line-first, InLine, lines_are_pieces, lines_from-moved, lines_join}
+use Rattle.fc_text.proofs.PrintedTextLemmas.{bytes_in_lines, cells_bytes, column_bytes, heights_bytes}
+use Rattle.fc_text.{proofs.SpellingLemmas.{spelled}, specs.Bytes.{line_feed}}
+use Rattle.fc_text.specs.Lines.{in_line, IsPieceOf, lines_from, Piece}
+use Rattle.fc_text.specs.{Printed.{cells_line, column_line, foundations_line, text_of}, Spelling.{Spells}}
+use Rattle.fc_record.proofs.{ContentsLemmas.{at_place, begins_list, first_list-later}, TextLineLemmas.{AreLines}}
+use Rattle.fc_record.proofs.TextLineLemmas.{AreLines-append, AreLines-flat_map, AreLines-line, last_byte, lines_after}
+use Rattle.fc_record.specs.{Grammar.{begins_with, list_mark, lists_start}, inside.{ends_board}}
 use Rattle.fc_record.specs.RecordTexts.{ends_line, header_mark}
-use Rattle.fc_text.proofs.LineLemmas.{in_line-first, InLine, lines_are_pieces, lines_from-moved}
-use Rattle.fc_text.proofs.LineLemmas.{lines_join}
-use Rattle.fc_text.proofs.PrintedTextLemmas.{bytes_in_lines, cells_bytes, column_bytes}
-use Rattle.fc_text.proofs.PrintedTextLemmas.{heights_bytes}
-use Rattle.fc_text.proofs.SpellingLemmas.{spelled}
-use Rattle.fc_record.proofs.ContentsLemmas.{at_place, begins_list, first_list-later}
-use Rattle.fc_record.proofs.TextLineLemmas.{AreLines, AreLines-append, AreLines-flat_map}
-use Rattle.fc_record.proofs.TextLineLemmas.{AreLines-line, last_byte, lines_after}
-use Rattle.fc_record.specs.inside.{ends_board}
 
 abbrev pub Unmarked : ℕ → Type 0
 Unmarked byte = (byte == list_mark) ≡ false

@@ -1,18 +1,13 @@
 -- A text with two blanks in place of each line feed, line by line.
-use Rattle.memchr.specs.Find.{is_byte, IsFirstByte, Nowhere, Passes}
-use Rattle.std.proofs.Common.{◌++◌, ◌+◌, ◌-◌, ◌<◌, ◌==◌, ◌∙◌, ◌∷◌, ◌≡◌, ◌≤◌, [], All, ap}
-use Rattle.std.proofs.Common.{append_assoc, ap₂, arith, drop, Err, false, get_or, if◌then◌else◌}
-use Rattle.std.proofs.Common.{length, length-append, List, None, Ok, OnOk, refl, Result, Some}
-use Rattle.std.proofs.Common.{subst, suc, sym, take, true, zero, ℕ}
+use Rattle.{fc_record.specs.RecordTexts.{ends_line}, memchr.specs.Find.{is_byte, IsFirstByte, Nowhere, Passes}}
+use Rattle.std.proofs.Common.{◌++◌, ◌+◌, ◌-◌, ◌<◌, ◌==◌, ◌∙◌, ◌∷◌, ◌≡◌, ◌≤◌, [], All, ap, append_assoc, ap₂, arith}
+use Rattle.std.proofs.Common.{drop, Err, false, get_or, if◌then◌else◌, length, length-append, List, None, Ok, OnOk}
+use Rattle.std.proofs.Common.{refl, Result, Some, subst, suc, sym, take, true, zero, ℕ}
 use Rattle.std.proofs.lemmas.Bool.{eqb-true, false_from_ne_true}
-use Rattle.std.proofs.lemmas.List.{take_more}
-use Rattle.std.proofs.lemmas.List.Elements.{All-append, All-cons, All-head, All-nil, All-tail}
-use Rattle.std.specs.List.{flat_map}
-use Rattle.std.specs.Result.{is_ok}
-use Rattle.fc_text.proofs.LineLemmas.{first_line, InLine, lines_joined}
+use Rattle.std.proofs.lemmas.List.{Elements.{All-append, All-cons, All-head, All-nil, All-tail}, take_more}
+use Rattle.std.specs.{List.{flat_map}, Result.{is_ok}}
+use Rattle.fc_text.proofs.{LeavingLemmas.{rest_of}, LineLemmas.{first_line, InLine, lines_joined}}
 use Rattle.fc_text.specs.{Bytes.{blank, line_feed}, Lines.{lines_from, Piece}}
-use Rattle.fc_record.specs.RecordTexts.{ends_line}
-use Rattle.fc_text.proofs.LeavingLemmas.{rest_of}
 
 abbrev pub apart : List ℕ → List ℕ
 apart text = flat_map (λ byte. if byte == line_feed then blank ∷ blank ∷ [] else byte ∷ []) text

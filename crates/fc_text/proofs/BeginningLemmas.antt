@@ -1,25 +1,16 @@
 -- Printed piles at the front of a text: they are the only ones that it begins with.
-use Rattle.std.proofs.Common.{◌*◌, ◌++◌, ◌+◌, ◌<◌, ◌==◌, ◌∙◌, ◌∷◌, ◌≡◌, ◌≤◌, [], All, ap}
-use Rattle.std.proofs.Common.{append_assoc, ap₂, arith, drop, get_or, length, length-append, List}
-use Rattle.std.proofs.Common.{None, Option, position, refl, slice_index, Some, sym, take}
-use Rattle.std.proofs.Common.{take-append-drop, true, ℕ}
-use Rattle.std.proofs.lemmas.Bool.{agree_below, agree_below_at}
-use Rattle.std.proofs.lemmas.Grind.{flat_map-append}
-use Rattle.std.proofs.lemmas.List.{drop_all, drop_more, take_all}
-use Rattle.std.proofs.lemmas.List.Elements.{All-get_or, All-head, All-tail}
-use Rattle.std.proofs.lemmas.Option.{same_Some}
+use Rattle.std.proofs.Common.{◌*◌, ◌++◌, ◌+◌, ◌<◌, ◌==◌, ◌∙◌, ◌∷◌, ◌≡◌, ◌≤◌, [], All, ap, append_assoc, ap₂, arith}
+use Rattle.std.proofs.Common.{drop, get_or, length, length-append, List, None, Option, position, refl, slice_index}
+use Rattle.std.proofs.{Common.{Some, sym, take, take-append-drop, true, ℕ}, lemmas.Bool.{agree_below, agree_below_at}}
+use Rattle.std.proofs.lemmas.{Grind.{flat_map-append}, List.{drop_all, drop_more}}
+use Rattle.std.proofs.lemmas.{List.{Elements.{All-get_or, All-head, All-tail}, take_all}, Option.{same_Some}}
 use Rattle.std.specs.List.{flat_map}
-use Rattle.fc_card.proofs.Letters.{answers, answers-true, same_card_text}
-use Rattle.fc_card.specs.{card_text, IsCard}
-use Rattle.fc_board.proofs.BoardLemmas.{in_cells, in_columns}
-use Rattle.fc_board.specs.{Boards.{Board, IsHeight, IsWellFormed}, Games.{Game}}
-use Rattle.fc_text.specs.{Bytes.{blank, colon, line_feed}, Printed.{card_word, cell_word}}
-use Rattle.fc_text.specs.Printed.{cells_line, column_line, foundations_line, height_letter}
-use Rattle.fc_text.specs.Printed.{height_letters, text_of}
-use Rattle.fc_board.specs.inside.{size_of}
-use Rattle.fc_board.specs.laws.ListWords.{IsCell}
-use Rattle.fc_text.proofs.ConcatenationLemmas.{no_dash}
-use Rattle.fc_text.proofs.TextLemmas.{length-card_words}
+use Rattle.fc_card.{proofs.Letters.{answers, answers-true, same_card_text}, specs.{card_text, IsCard}}
+use Rattle.fc_board.{proofs.BoardLemmas.{in_cells, in_columns}, specs.Boards.{Board, IsHeight, IsWellFormed}}
+use Rattle.fc_board.specs.{Games.{Game}, inside.{size_of}, laws.ListWords.{IsCell}}
+use Rattle.fc_text.proofs.{ConcatenationLemmas.{no_dash}, TextLemmas.{length-card_words}}
+use Rattle.fc_text.specs.{Bytes.{blank, colon, line_feed}, Printed.{card_word, cell_word, cells_line, column_line}}
+use Rattle.fc_text.specs.Printed.{foundations_line, height_letter, height_letters, text_of}
 
 -- the lines of a board before other text
 pub text_before : (board : Board) (rest : List ℕ)

@@ -1,25 +1,17 @@
 -- The rows of lines, line by line from the front: what the last line gives follows from those before it.
-use Rattle.std.proofs.Common.{◌++◌, ◌+◌, ◌<◌, ◌∙◌, ◌∷◌, ◌≡◌, ◌≤◌, ◌⊎◌, [], All, ap, append-nil}
-use Rattle.std.proofs.Common.{append_assoc, arith, Bool, cond, drop, false, inl, inr, length}
-use Rattle.std.proofs.Common.{List, ltb, map, not, refl, Some, subst, suc, sym, true, zero, ℕ}
-use Rattle.std.proofs.lemmas.Bool.Decides.{nat_tests}
-use Rattle.std.proofs.lemmas.List.{map-append}
-use Rattle.std.proofs.lemmas.List.Elements.{All-cons}
-use Rattle.std.specs.List.{list_any, prefix_len}
+use Rattle.std.proofs.Common.{◌++◌, ◌+◌, ◌<◌, ◌∙◌, ◌∷◌, ◌≡◌, ◌≤◌, ◌⊎◌, [], All, ap, append-nil, append_assoc, arith}
+use Rattle.std.proofs.Common.{Bool, cond, drop, false, inl, inr, length, List, ltb, map, not, refl, Some, subst, suc}
+use Rattle.std.proofs.{Common.{sym, true, zero, ℕ}, lemmas.{Bool.Decides.{nat_tests}, List.Elements.{All-cons}}}
+use Rattle.std.{proofs.lemmas.List.{map-append}, specs.List.{list_any, prefix_len}}
 use Rattle.fc_board.specs.{Boards.{Board}, Games.{Game}}
-use Rattle.fc_text.specs.{Bytes.{line_feed, number_sign}, Lines.{lines_from, Piece}, Rows.{Blank}}
-use Rattle.fc_text.specs.Rows.{column_row, columns_left, Comment, Content, is_empty, Line, line_of}
-use Rattle.fc_text.specs.Rows.{Row, rows_of}
-use Rattle.fc_text.specs.declared.board.reader.Section.{Section}
-use Rattle.fc_text.specs.declared.board.reader.Section.TheVariants.{Column, Foundations, Freecells}
-use Rattle.fc_text.specs.{Rows.{rows_of_lines, rows_within}, Spelling.{AreRows, blank_after_all}}
-use Rattle.fc_text.specs.Spelling.{blank_before_all, card_spelled, cell_spelled, comment}
-use Rattle.fc_text.specs.Spelling.{empty_column, foundation_spelled, held, is_section, lines_of}
-use Rattle.fc_text.specs.Spelling.{none, OneByOne, Spells, words_of}
-use Rattle.fc_text.proofs.LineLemmas.{first_line, InLine, lines_joined}
-use Rattle.fc_text.proofs.RowLemmas.{length-kept}
-use Rattle.fc_text.proofs.TakingLemmas.{held_first, ltb_tells}
-use Rattle.fc_text.specs.reader.{rows_of_line}
+use Rattle.fc_text.proofs.{LineLemmas.{first_line, InLine, lines_joined}, RowLemmas.{length-kept}}
+use Rattle.fc_text.{proofs.TakingLemmas.{held_first, ltb_tells}, specs.Bytes.{line_feed, number_sign}}
+use Rattle.fc_text.specs.{Lines.{lines_from, Piece}, reader.{rows_of_line}, Rows.{Blank, column_row, columns_left}}
+use Rattle.fc_text.specs.Rows.{Comment, Content, is_empty, Line, line_of, Row, rows_of, rows_of_lines, rows_within}
+use Rattle.fc_text.specs.Spelling.{AreRows, blank_after_all, blank_before_all, card_spelled, cell_spelled, comment}
+use Rattle.fc_text.specs.Spelling.{empty_column, foundation_spelled, held, is_section, lines_of, none, OneByOne, Spells}
+use Rattle.fc_text.specs.Spelling.{words_of}
+use Rattle.fc_text.specs.declared.board.reader.Section.{Section, TheVariants.{Column, Foundations, Freecells}}
 
 abbrev holds : Line → Bool
 holds line = not (is_empty line)

@@ -1,16 +1,12 @@
 -- The parts of a board that is printed.
-use Rattle.std.proofs.Common.{◌%◌, ◌*◌, ◌+◌, ◌-◌, ◌/◌, ◌<◌, ◌∙◌, ◌∷◌, ◌≡◌, ◌≤◌, [], All, ap, arith}
-use Rattle.std.proofs.Common.{cond, get_or, inl, inr, length, List, map, refl, replicate, set}
-use Rattle.std.proofs.Common.{slice_index, suc, sym, zero, ℕ}
-use Rattle.std.proofs.lemmas.Bool.{cases_eq, ne_eqb}
-use Rattle.std.proofs.lemmas.Grind.{get_or-set_at, get_or_default_zero}
-use Rattle.std.proofs.lemmas.List.{get_or-map, get_or-set_other, get_or_default, length-set}
-use Rattle.std.proofs.lemmas.List.{same_lists}
+use Rattle.std.proofs.Common.{◌%◌, ◌*◌, ◌+◌, ◌-◌, ◌/◌, ◌<◌, ◌∙◌, ◌∷◌, ◌≡◌, ◌≤◌, [], All, ap, arith, cond, get_or, inl}
+use Rattle.std.proofs.Common.{inr, length, List, map, refl, replicate, set, slice_index, suc, sym, zero, ℕ}
+use Rattle.std.proofs.lemmas.{Bool.{cases_eq, ne_eqb}, Grind.{get_or-set_at, get_or_default_zero}}
 use Rattle.std.proofs.lemmas.List.FromFn.{get_or-map-range_with_len, length-map-range_with_len}
-use Rattle.fc_card.specs.{IsCard, IsCode, IsRenaming, places, renamed_card, renamed_code}
-use Rattle.fc_card.specs.laws.RenamingLaws.{renamed_card-identity, renamed_card-IsCard}
-use Rattle.fc_board.specs.Passages.{renamed_column}
-use Rattle.fc_text.specs.writer.{AreNumbers}
+use Rattle.std.proofs.lemmas.List.{get_or-map, get_or-set_other, get_or_default, length-set, same_lists}
+use Rattle.fc_card.specs.{IsCard, IsCode, IsRenaming, laws.RenamingLaws.{renamed_card-identity, renamed_card-IsCard}}
+use Rattle.fc_card.specs.{places, renamed_card, renamed_code}
+use Rattle.{fc_board.specs.Passages.{renamed_column}, fc_text.specs.writer.{AreNumbers}}
 
 -- a list is its items one by one
 pub all_items : {U : Type 0} (items : List U) (none : U) → items ≡ map (λ place. get_or items place none) (places

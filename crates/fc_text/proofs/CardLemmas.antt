@@ -1,25 +1,18 @@
 -- Lemmas on the cards that a word names: each is there once.
-use Rattle.std.proofs.Common.{◌&&◌, ◌+◌, ◌-◌, ◌<◌, ◌==◌, ◌||◌, ◌∙◌, ◌∷◌, ◌≡◌, ◌≢◌, ◌≤◌, ◌⊎◌, []}
-use Rattle.std.proofs.Common.{All, ap, append-nil, ap₂, arith, Bool, codes, cond, drop, eqb, false}
-use Rattle.std.proofs.Common.{inl, inr, length, List, map, nat_le, None, Option, refl, Some, subst}
-use Rattle.std.proofs.Common.{suc, sym, take, true, zero, ℕ}
-use Rattle.std.proofs.lemmas.Bool.{and_from, cases_eq, eq-eqb, le-leb, ne_eqb}
-use Rattle.std.proofs.lemmas.Bool.Decides.{leb_tells}
-use Rattle.std.proofs.lemmas.List.Elements.{All-cons, All-nil}
-use Rattle.std.proofs.lemmas.List.Quantifiers.{position-Some}
-use Rattle.std.proofs.lemmas.Option.{same_Some}
-use Rattle.std.specs.List.{flat_map, list_any, range_with_len}
-use Rattle.std.specs.Option.{option_and_then, option_map, option_to_list}
+use Rattle.std.proofs.Common.{◌&&◌, ◌+◌, ◌-◌, ◌<◌, ◌==◌, ◌||◌, ◌∙◌, ◌∷◌, ◌≡◌, ◌≢◌, ◌≤◌, ◌⊎◌, [], All, ap, append-nil}
+use Rattle.std.proofs.Common.{ap₂, arith, Bool, codes, cond, drop, eqb, false, inl, inr, length, List, map, nat_le}
+use Rattle.std.proofs.Common.{None, Option, refl, Some, subst, suc, sym, take, true, zero, ℕ}
+use Rattle.std.proofs.lemmas.Bool.{and_from, cases_eq, Decides.{leb_tells}, eq-eqb, le-leb, ne_eqb}
+use Rattle.std.proofs.lemmas.{List.{Elements.{All-cons, All-nil}, Quantifiers.{position-Some}}, Option.{same_Some}}
+use Rattle.std.specs.{List.{flat_map, list_any, range_with_len}, Option.{option_and_then, option_map, option_to_list}}
 use Rattle.std.specs.Str.{bytes_eq}
-use Rattle.fc_card.specs.{card_of, is_up_to, IsCard, rank_letters, rank_of, suit_letters, suit_of}
+use Rattle.fc_card.specs.{card_of, count_of, is_up_to, IsCard, rank_letters, rank_of, suit_letters, suit_of}
 use Rattle.fc_board.proofs.BoardLemmas.{count_of-cons}
-use Rattle.fc_card.specs.{count_of}
-use Rattle.fc_text.specs.Faults.{cards_at_home, cards_of_word, suits_of_word}
-use Rattle.fc_text.specs.Spelling.{card_spelled, foundation_spelled, height_spelled, is_empty_mark}
-use Rattle.fc_text.specs.declared.board.reader.Section.{Section}
-use Rattle.fc_text.specs.declared.board.reader.Section.TheVariants.{Column, Foundations, Freecells}
+use Rattle.fc_text.specs.{Faults.{cards_at_home, cards_of_word, suits_of_word}, Spelling.{card_spelled}}
+use Rattle.fc_text.specs.Spelling.{foundation_spelled, height_spelled, is_empty_mark, letter_spelled, rank_spelled}
+use Rattle.fc_text.specs.Spelling.{suit_spelled}
+use Rattle.fc_text.specs.declared.board.reader.Section.{Section, TheVariants.{Column, Foundations, Freecells}}
 use Rattle.fc_text.specs.declared.board.spelling.Foundation.{Foundation}
-use Rattle.fc_text.specs.Spelling.{letter_spelled, rank_spelled, suit_spelled}
 
 -- ---- one number before others
 

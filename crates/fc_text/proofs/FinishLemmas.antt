@@ -1,14 +1,13 @@
 -- Lemmas on columns that lie end to end while they are read: a column begun, a card more, and the columns that are not begun.
-use Rattle.std.proofs.Common.{◌++◌, ◌+◌, ◌-◌, ◌<◌, ◌∙◌, ◌∷◌, ◌≡◌, ◌≤◌, [], All, ap, arith, drop}
-use Rattle.std.proofs.Common.{drop-drop, get_or, length, length-append, List, map, None, Option}
-use Rattle.std.proofs.Common.{refl, replicate, set, slice_range, Some, subst, suc, sym, take, zero}
-use Rattle.std.proofs.{Common.{ℕ}, lemmas.List.{drop-set-add}}
-use Rattle.std.proofs.lemmas.List.Elements.{All-drop, All-head, All-tail}
-use Rattle.std.{proofs.lemmas.List.{length-take-le, map-id, take-set-le}, specs.Option.{IsNone}}
+use Rattle.std.proofs.Common.{◌++◌, ◌+◌, ◌-◌, ◌<◌, ◌∙◌, ◌∷◌, ◌≡◌, ◌≤◌, [], All, ap, arith, drop, drop-drop, get_or}
+use Rattle.std.proofs.Common.{length, length-append, List, map, None, Option, refl, replicate, set, slice_range, Some}
+use Rattle.std.proofs.{Common.{subst, suc, sym, take, zero, ℕ}, lemmas.List.{drop-set-add}}
+use Rattle.std.proofs.lemmas.List.{Elements.{All-drop, All-head, All-tail}, length-take-le, map-id, take-set-le}
+use Rattle.std.specs.Option.{IsNone}
 use Rattle.fc_board.{proofs.ColumnsLemmas.{length-columns_from}, specs.Games.{Game}}
 use Rattle.fc_board.specs.inside.{AreBounds, AscendTo, board_of_laid, columns_between, columns_from}
-use Rattle.fc_text.{proofs.PieceLemmas.{longer_range}, specs.reader.{add_to_last, board_known}}
-use Rattle.fc_text.specs.reader.{bounds_known, ends_known, IsKept, known_height, known_of}
+use Rattle.fc_text.proofs.PieceLemmas.{longer_range}
+use Rattle.fc_text.specs.reader.{add_to_last, board_known, bounds_known, ends_known, IsKept, known_height, known_of}
 use Rattle.fc_text.specs.Spelling.{padded_with}
 use Rattle.fc_text.specs.declared.board.reader.Kept.{Kept}
 

@@ -1,17 +1,13 @@
 -- A line's first word of a card, two letters or `10` and a letter, and what follows it.
-use Rattle.std.proofs.Common.{◌++◌, ◌+◌, ◌-◌, ◌||◌, ◌∙◌, ◌∷◌, ◌≡◌, ◌≢◌, ◌≤◌, ◌⊎◌, [], All, ap, ap₂}
-use Rattle.std.proofs.Common.{arith, drop, eqb, false, get_or, inl, inr, length, length-append}
-use Rattle.std.proofs.Common.{List, None, Option, refl, Some, subst, suc, sym, take, true, ℕ}
-use Rattle.std.proofs.Math.Seq.{take-length}
-use Rattle.std.proofs.lemmas.Bool.Decides.{eqb_tells}
-use Rattle.std.proofs.lemmas.List.Elements.{All-cons, All-nil, All-tail}
+use Rattle.std.proofs.Common.{◌++◌, ◌+◌, ◌-◌, ◌||◌, ◌∙◌, ◌∷◌, ◌≡◌, ◌≢◌, ◌≤◌, ◌⊎◌, [], All, ap, ap₂, arith, drop, eqb}
+use Rattle.std.proofs.Common.{false, get_or, inl, inr, length, length-append, List, None, Option, refl, Some, subst}
+use Rattle.std.proofs.{Common.{suc, sym, take, true, ℕ}, lemmas.Bool.Decides.{eqb_tells}}
+use Rattle.std.proofs.{lemmas.List.Elements.{All-cons, All-nil, All-tail}, Math.Seq.{take-length}}
 use Rattle.std.specs.Option.{option_and_then, option_map}
 use Rattle.fc_card.specs.{card_of}
-use Rattle.fc_text.proofs.WordLemmas.{first_word}
-use Rattle.fc_text.specs.{Bytes.{blank, is_gap}, Lines.{words_from}}
+use Rattle.fc_text.{proofs.{TakingLemmas.{word_after_gap}, WordLemmas.{first_word}}, specs.Bytes.{blank, is_gap}}
+use Rattle.fc_text.specs.{Lines.{words_from}, reader.{AfterBlank, BeginsWithCard}}
 use Rattle.fc_text.specs.Spelling.{card_spelled, rank_spelled, suit_spelled}
-use Rattle.fc_text.proofs.TakingLemmas.{word_after_gap}
-use Rattle.fc_text.specs.reader.{AfterBlank, BeginsWithCard}
 
 abbrev Gapless : List ℕ → Type 0
 Gapless bytes = All (λ byte. is_gap byte ≡ false) bytes

@@ -1,18 +1,12 @@
 -- The front of a line, which says what the line holds.
-use Rattle.std.proofs.Common.{◌&&◌, ◌+◌, ◌<◌, ◌||◌, ◌∙◌, ◌∷◌, ◌≡◌, ◌≢◌, ◌≤◌, [], ap, arith}
-use Rattle.std.proofs.Common.{Bool, cond, drop, eqb, false, get_or, length, List, not, refl}
-use Rattle.std.proofs.Common.{suc, take, true, ℕ}
-use Rattle.std.proofs.lemmas.Bool.Decides.{nat_tests}
-use Rattle.std.proofs.lemmas.List.Folds.{list_any_at}
-use Rattle.std.proofs.lemmas.List.Sums.{passes_at_first}
-use Rattle.std.specs.Char.{to_ascii_lowercase}
-use Rattle.std.specs.List.{before_first, list_any, position_or_len}
+use Rattle.std.proofs.Common.{◌&&◌, ◌+◌, ◌<◌, ◌||◌, ◌∙◌, ◌∷◌, ◌≡◌, ◌≢◌, ◌≤◌, [], ap, arith, Bool, cond, drop, eqb}
+use Rattle.std.proofs.Common.{false, get_or, length, List, not, refl, suc, take, true, ℕ}
+use Rattle.std.proofs.lemmas.{Bool.Decides.{nat_tests}, List.{Folds.{list_any_at}, Sums.{passes_at_first}}}
+use Rattle.std.specs.{Char.{to_ascii_lowercase}, List.{before_first, list_any, position_or_len}}
 use Rattle.std.specs.Str.{str_eq_ignore_ascii_case}
-use Rattle.fc_text.specs.{Bytes.{is_gap}, Lines.{words_from}, Rows.{cells_names, column_row}}
-use Rattle.fc_text.specs.Rows.{heights_names, is_colon, is_named, named_row, Row, row_of}
-use Rattle.fc_text.specs.declared.board.reader.Section.{Section}
-use Rattle.fc_text.specs.declared.board.reader.Section.TheVariants.{Column, Foundations, Freecells}
-use Rattle.fc_text.specs.reader.{begins_head, IsHead}
+use Rattle.fc_text.specs.{Bytes.{is_gap}, Lines.{words_from}, reader.{begins_head, IsHead}}
+use Rattle.fc_text.specs.Rows.{cells_names, column_row, heights_names, is_colon, is_named, named_row, Row, row_of}
+use Rattle.fc_text.specs.declared.board.reader.Section.{Section, TheVariants.{Column, Foundations, Freecells}}
 
 -- ---- names
 

@@ -1,26 +1,21 @@
 -- Lemmas on what a reader keeps: its fields stay as they are to be when a line or a word is taken.
-use Rattle.std.{
-  proofs.Common.{◌++◌, ◌+◌, ◌<◌, ◌||◌, ◌∙◌, ◌∷◌, ◌≡◌, ◌≤◌, [], All, ap, append-nil, arith, Bool},
-  proofs.Common.{cond, count_by, drop, drop-drop, eqb, Err, false, get_or, inl, inr, length, List},
-  proofs.Common.{None, Ok, Option, refl, Result, set, Some, suc, sym, take, true, zero, ℕ},
-  proofs.lemmas.{Bool.{cases_eq, eq-eqb, le-leb, lt-leb}, List.{drop-set-lt, Elements.{All-drop}}},
-  proofs.lemmas.List.{get_or-set_other, length-set, length-take-le},
-  proofs.lemmas.List.{Sums.{count_by-le-length, sum_by-cons, sum_by-set}, take_more_set},
-  specs.{List.{list_any}, Option.{IsNone, option_to_list}},
-}
+use Rattle.std.proofs.Common.{◌++◌, ◌+◌, ◌<◌, ◌||◌, ◌∙◌, ◌∷◌, ◌≡◌, ◌≤◌, [], All, ap, append-nil, arith, Bool, cond}
+use Rattle.std.proofs.Common.{count_by, drop, drop-drop, eqb, Err, false, get_or, inl, inr, length, List, None, Ok}
+use Rattle.std.proofs.Common.{Option, refl, Result, set, Some, suc, sym, take, true, zero, ℕ}
+use Rattle.std.proofs.lemmas.{Bool.{cases_eq, eq-eqb, le-leb, lt-leb}, List.{drop-set-lt, Elements.{All-drop}}}
+use Rattle.std.proofs.lemmas.List.{get_or-set_other, length-set, length-take-le}
+use Rattle.std.proofs.lemmas.List.{Sums.{count_by-le-length, sum_by-cons, sum_by-set}, take_more_set}
+use Rattle.std.specs.{List.{list_any}, Option.{IsNone, option_to_list}}
 use Rattle.fc_board.specs.{Games.{Game}, inside.{AreBounds, columns_between}}
-use Rattle.fc_text.proofs.FinishLemmas.{AreBounds-begun, AreBounds-card, columns_between-begun}
-use Rattle.fc_text.proofs.FinishLemmas.{columns_from-card, length-columns_between}
-use Rattle.fc_text.proofs.SeeingLemmas.{also_seen_at, length-also_seen, length-seen_of}
-use Rattle.fc_text.{proofs.SoundLemmas.{below_to}, specs.Faults.{cards_at_home}}
-use Rattle.fc_text.specs.reader.{add_to_last, after_part, also_seen, bounds_known, bounds_of}
-use Rattle.fc_text.specs.reader.{is_named_suit, is_seen, IsKept, known_of, known_part_fault, Lays}
-use Rattle.fc_text.specs.reader.{seen_of, Sees}
+use Rattle.fc_text.proofs.FinishLemmas.{AreBounds-begun, AreBounds-card, columns_between-begun, columns_from-card}
+use Rattle.fc_text.proofs.FinishLemmas.{length-columns_between}
+use Rattle.fc_text.proofs.{SeeingLemmas.{also_seen_at, length-also_seen, length-seen_of}, SoundLemmas.{below_to}}
+use Rattle.fc_text.specs.{Faults.{cards_at_home}, reader.{add_to_last, after_part, also_seen, bounds_known, bounds_of}}
+use Rattle.fc_text.specs.reader.{is_named_suit, is_seen, IsKept, known_of, known_part_fault, Lays, seen_of, Sees}
 use Rattle.fc_text.specs.Spelling.{card_spelled, cell_spelled, foundation_spelled}
 use Rattle.fc_text.specs.declared.board.reader.{Kept.{Kept}, Section.{Section}}
 use Rattle.fc_text.specs.declared.board.reader.Section.TheVariants.{Column, Foundations, Freecells}
-use Rattle.fc_text.specs.declared.board.spelling.Foundation.{Foundation}
-use Rattle.fc_text.specs.declared.fault.BoardFaultKind.{BoardFaultKind}
+use Rattle.fc_text.specs.declared.{board.spelling.Foundation.{Foundation}, fault.BoardFaultKind.{BoardFaultKind}}
 use Rattle.fc_text.specs.declared.fault.BoardFaultKind.TheVariants.{RepeatedCard, TooManyColumns}
 
 -- ---- cards that were seen

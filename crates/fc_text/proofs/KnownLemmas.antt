@@ -1,40 +1,27 @@
 -- What a reader keeps of the items is enough: the tests on it are those on the items.
-use Rattle.std.proofs.Common.{◌&&◌, ◌++◌, ◌+◌, ◌<◌, ◌||◌, ◌∙◌, ◌∷◌, ◌≡◌, ◌≤◌, [], All, ap}
-use Rattle.std.proofs.Common.{append-nil, append_assoc, arith, Bool, cond, eqb, false, get_or, inl}
-use Rattle.std.proofs.Common.{inr, leb, length, length-append, List, map, None, not, Option, refl}
-use Rattle.std.proofs.Common.{set, Some, suc, sym, true, ℕ}
-use Rattle.std.proofs.lemmas.Bool.{cases_eq, eq-eqb, le-leb, lt-leb, ne_eqb}
-use Rattle.std.proofs.lemmas.List.{get_or-replicate, get_or-set_other, get_or-set_same, length-set}
-use Rattle.std.proofs.lemmas.List.{map-append}
-use Rattle.std.proofs.lemmas.List.Elements.{All-head, All-tail}
+use Rattle.std.proofs.Common.{◌&&◌, ◌++◌, ◌+◌, ◌<◌, ◌||◌, ◌∙◌, ◌∷◌, ◌≡◌, ◌≤◌, [], All, ap, append-nil, append_assoc}
+use Rattle.std.proofs.Common.{arith, Bool, cond, eqb, false, get_or, inl, inr, leb, length, length-append, List, map}
+use Rattle.std.proofs.Common.{None, not, Option, refl, set, Some, suc, sym, true, ℕ}
+use Rattle.std.proofs.lemmas.{Bool.{cases_eq, eq-eqb, le-leb, lt-leb, ne_eqb}, List.Elements.{All-head, All-tail}}
 use Rattle.std.proofs.lemmas.List.Folds.{list_any-append}
-use Rattle.std.proofs.lemmas.List.Sums.{sum_by-cons}
-use Rattle.std.specs.List.{flat_map, list_any}
+use Rattle.std.proofs.lemmas.List.{get_or-replicate, get_or-set_other, get_or-set_same, length-set, map-append}
+use Rattle.std.{proofs.lemmas.List.Sums.{sum_by-cons}, specs.List.{flat_map, list_any}}
 use Rattle.std.specs.Option.{is_some, option_map, option_or, option_to_list}
-use Rattle.fc_card.specs.{IsCard}
-use Rattle.{fc_board.specs.Games.{Game}, fc_card.specs.{count_of}}
-use Rattle.fc_text.specs.Faults.{bad_word, cards_of_item, cards_of_word, count_of_lines}
-use Rattle.fc_text.specs.Faults.{count_of_words, fault_of_line, fault_of_part, first_faulty}
-use Rattle.fc_text.specs.Faults.{has_form, is_past_cells, is_repeated, Item, suits_of_item}
-use Rattle.fc_text.specs.Faults.{suits_of_word}
-use Rattle.fc_text.specs.Spelling.{card_spelled, cell_spelled, foundation_spelled}
-use Rattle.fc_text.specs.declared.board.reader.Section.{Section}
-use Rattle.fc_text.specs.declared.board.reader.Section.TheVariants.{Column, Foundations, Freecells}
-use Rattle.fc_text.specs.declared.board.spelling.Foundation.{Foundation}
-use Rattle.fc_text.specs.Spelling.{height_in, is_section}
-use Rattle.fc_text.proofs.CardLemmas.{among_counted, cards_held, count_first}
-use Rattle.fc_text.proofs.CardLemmas.{foundation_spelled-IsFoundation, IsFoundation}
-use Rattle.fc_text.proofs.SeeingLemmas.{also_seen_at}
-use Rattle.fc_text.proofs.SoundLemmas.{is_formed, item_sound, Sound}
-use Rattle.fc_text.specs.reader.{add_to_last, after_item, after_items, cells_after, columns_after}
-use Rattle.fc_text.specs.reader.{first_known_fault, heights_after, is_full, is_line_of}
-use Rattle.fc_text.specs.reader.{is_named_suit, is_seen, known_height, known_line_fault}
-use Rattle.fc_text.specs.reader.{known_part_fault, Known, renames_suit, seen_after, nothing_known}
-use Rattle.fc_text.specs.reader.{with_card, with_foundation}
-use Rattle.fc_text.specs.declared.fault.BoardFault.{BoardFault}
+use Rattle.{fc_board.specs.Games.{Game}, fc_card.specs.{count_of, IsCard}}
+use Rattle.fc_text.proofs.CardLemmas.{among_counted, cards_held, count_first, foundation_spelled-IsFoundation}
+use Rattle.fc_text.proofs.{CardLemmas.{IsFoundation}, SeeingLemmas.{also_seen_at}}
+use Rattle.fc_text.{proofs.SoundLemmas.{is_formed, item_sound, Sound}, specs.Faults.{bad_word, cards_of_item}}
+use Rattle.fc_text.specs.Faults.{cards_of_word, count_of_lines, count_of_words, fault_of_line, fault_of_part}
+use Rattle.fc_text.specs.Faults.{first_faulty, has_form, is_past_cells, is_repeated, Item, suits_of_item, suits_of_word}
+use Rattle.fc_text.specs.reader.{add_to_last, after_item, after_items, cells_after, columns_after, first_known_fault}
+use Rattle.fc_text.specs.reader.{heights_after, is_full, is_line_of, is_named_suit, is_seen, Known, known_height}
+use Rattle.fc_text.specs.reader.{known_line_fault, known_part_fault, nothing_known, renames_suit, seen_after, with_card}
+use Rattle.fc_text.specs.reader.{with_foundation}
+use Rattle.fc_text.specs.Spelling.{card_spelled, cell_spelled, foundation_spelled, height_in, is_section}
+use Rattle.fc_text.specs.declared.board.reader.Section.{Section, TheVariants.{Column, Foundations, Freecells}}
+use Rattle.fc_text.specs.declared.{board.spelling.Foundation.{Foundation}, fault.BoardFault.{BoardFault}}
 use Rattle.fc_text.specs.declared.fault.BoardFaultKind.{BoardFaultKind}
-use Rattle.fc_text.specs.declared.fault.BoardFaultKind.TheVariants.{BadFoundation, RepeatedCard}
-use Rattle.fc_text.specs.declared.fault.BoardFaultKind.TheVariants.{TooManyCells}
+use Rattle.fc_text.specs.declared.fault.BoardFaultKind.TheVariants.{BadFoundation, RepeatedCard, TooManyCells}
 
 -- ---- what the items say of the foundations, the cells and the columns
 

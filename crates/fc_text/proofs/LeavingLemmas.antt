@@ -1,22 +1,16 @@
 -- The loops of a reader: what is left of the items of a text after a line, and of a line after a word.
-use Rattle.std.proofs.Common.{◌++◌, ◌+◌, ◌-◌, ◌<◌, ◌∙◌, ◌∷◌, ◌≡◌, ◌≤◌, [], ap, arith, drop, Err}
-use Rattle.std.proofs.Common.{false, get_or, length, List, map, None, not, Ok, Result, Some, subst}
-use Rattle.std.proofs.Common.{sym, take, ℕ}
-use Rattle.std.proofs.Math.ListN.{drop_of_length-le}
-use Rattle.std.proofs.Math.Seq.{take-length}
-use Rattle.std.proofs.lemmas.Grind.{flat_map-append}
-use Rattle.std.proofs.lemmas.List.{length-drop, length-take}
-use Rattle.std.specs.List.{flat_map, prefix_len}
+use Rattle.std.proofs.Common.{◌++◌, ◌+◌, ◌-◌, ◌<◌, ◌∙◌, ◌∷◌, ◌≡◌, ◌≤◌, [], ap, arith, drop, Err, false, get_or, length}
+use Rattle.std.proofs.Common.{List, map, None, not, Ok, Result, Some, subst, sym, take, ℕ}
+use Rattle.std.proofs.lemmas.{Grind.{flat_map-append}, List.{length-drop, length-take}}
+use Rattle.std.{proofs.Math.{ListN.{drop_of_length-le}, Seq.{take-length}}, specs.List.{flat_map, prefix_len}}
 use Rattle.std.specs.Option.{option_or}
 use Rattle.fc_board.specs.Games.{Game}
-use Rattle.fc_text.specs.{Bytes.{is_gap}, Faults.{Item, items_of_row}, Lines.{Piece, words_from}}
-use Rattle.fc_text.specs.{declared.board.reader.Section.{Section}, Rows.{line_of, row_of}}
-use Rattle.fc_text.proofs.KnownLemmas.{after-append}
-use Rattle.fc_text.proofs.TakingLemmas.{fault-append, rows_first, word_at, WordAt}
-use Rattle.fc_text.specs.reader.{after_items, first_known_fault, has_room, is_begun, IsHead}
-use Rattle.fc_text.specs.reader.{items_left, items_of_line, items_of_words, Leaves, LeavesWords}
-use Rattle.fc_text.specs.reader.{Known, rows_left, rows_of_line, TakesItems}
-use Rattle.fc_text.specs.declared.fault.BoardFault.{BoardFault}
+use Rattle.fc_text.proofs.{KnownLemmas.{after-append}, TakingLemmas.{fault-append, rows_first, word_at, WordAt}}
+use Rattle.fc_text.specs.{Bytes.{is_gap}, Faults.{Item, items_of_row}, Lines.{Piece, words_from}, reader.{after_items}}
+use Rattle.fc_text.specs.reader.{first_known_fault, has_room, is_begun, IsHead, items_left, items_of_line}
+use Rattle.fc_text.specs.reader.{items_of_words, Known, Leaves, LeavesWords, rows_left, rows_of_line, TakesItems}
+use Rattle.fc_text.specs.Rows.{line_of, row_of}
+use Rattle.fc_text.specs.declared.{board.reader.Section.{Section}, fault.BoardFault.{BoardFault}}
 
 -- ---- some items, and those that are left
 

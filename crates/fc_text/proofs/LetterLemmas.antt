@@ -1,19 +1,13 @@
 -- The first byte that a search finds, as the place that a count gives.
-use Rattle.memchr.specs.Find.{IsFirstByte}
-use Rattle.std.proofs.Common.{◌*◌, ◌+◌, ◌/◌, ◌<◌, ◌==◌, ◌∙◌, ◌∷◌, ◌≡◌, ◌≤◌, [], ap, ap₂, arith}
-use Rattle.std.proofs.Common.{Bool, eqb, get_or, IsSome, leb, length, List, map, None, Option}
-use Rattle.std.proofs.Common.{position, refl, Some, subst, sym, true, ℕ}
-use Rattle.std.proofs.lemmas.Bool.{agree_below, agree_below_at, eqb-true, false_from_ne_true}
-use Rattle.std.proofs.lemmas.Bool.{leb-true}
-use Rattle.std.proofs.lemmas.List.{get_or-map}
-use Rattle.std.proofs.lemmas.List.FromFn.{get_or-range_with_len, length-range_with_len}
-use Rattle.std.proofs.lemmas.List.Sums.{position_or_len_is}
-use Rattle.std.specs.List.{position_or_len, range_with_len}
+use Rattle.{fc_text.specs.reader.{number_or, rank_part, suit_part}, memchr.specs.Find.{IsFirstByte}}
+use Rattle.std.proofs.Common.{◌*◌, ◌+◌, ◌/◌, ◌<◌, ◌==◌, ◌∙◌, ◌∷◌, ◌≡◌, ◌≤◌, [], ap, ap₂, arith, Bool, eqb, get_or}
+use Rattle.std.proofs.Common.{IsSome, leb, length, List, map, None, Option, position, refl, Some, subst, sym, true, ℕ}
+use Rattle.std.proofs.lemmas.Bool.{agree_below, agree_below_at, eqb-true, false_from_ne_true, leb-true}
+use Rattle.std.proofs.lemmas.List.{FromFn.{get_or-range_with_len, length-range_with_len}, get_or-map}
+use Rattle.std.{proofs.lemmas.List.Sums.{position_or_len_is}, specs.List.{position_or_len, range_with_len}}
 use Rattle.std.specs.Option.{IfSome, option_and_then, option_map, SomeIff}
 use Rattle.fc_card.proofs.Letters.{letters_of_card_named, suit_named}
-use Rattle.fc_card.specs.{card_of, card_text, IsCard, rank_letter, rank_letters, rank_of}
-use Rattle.fc_card.specs.{suit_letter, suit_of}
-use Rattle.fc_text.specs.reader.{number_or, rank_part, suit_part}
+use Rattle.fc_card.specs.{card_of, card_text, IsCard, rank_letter, rank_letters, rank_of, suit_letter, suit_of}
 
 module _ (test : ℕ → Bool) (bytes : List ℕ) where
   pub first_byte-none : IsFirstByte test bytes None → position_or_len test bytes ≡ length bytes

@@ -1,16 +1,12 @@
 -- The lines of a text give it back, follow one another in it, and hold no line feeds; a line that a line feed ends comes first. The end
 -- of a line without a carriage return.
-use Rattle.std.proofs.Common.{◌++◌, ◌+◌, ◌∙◌, ◌∷◌, ◌≡◌, ◌≢◌, ◌⊎◌, [], All, ap, append_assoc, ap₂}
-use Rattle.std.proofs.Common.{arith, Bool, cond, eqb, false, inl, inr, length, length-append, List}
-use Rattle.std.proofs.Common.{map, refl, subst, suc, sym, true, ℕ}
-use Rattle.std.proofs.lemmas.Bool.{cases_eq, ne_eqb}
-use Rattle.std.proofs.lemmas.Bool.Decides.{eqb_tells}
+use Rattle.std.proofs.Common.{◌++◌, ◌+◌, ◌∙◌, ◌∷◌, ◌≡◌, ◌≢◌, ◌⊎◌, [], All, ap, append_assoc, ap₂, arith, Bool, cond}
+use Rattle.std.proofs.Common.{eqb, false, inl, inr, length, length-append, List, map, refl, subst, suc, sym, true, ℕ}
+use Rattle.std.proofs.lemmas.Bool.{cases_eq, Decides.{eqb_tells}, ne_eqb}
 use Rattle.std.proofs.lemmas.List.Elements.{All-cons, All-head, All-nil, All-tail, All-weaker}
-use Rattle.fc_text.proofs.PieceLemmas.{front, front_piece, later_piece, not_nothing, same_after}
-use Rattle.fc_text.proofs.PieceLemmas.{StartAt}
-use Rattle.fc_text.proofs.WordLemmas.{same_run}
-use Rattle.fc_text.specs.{Bytes.{carriage_return, line_feed}, Lines.{in_line, IsPieceOf}}
-use Rattle.fc_text.specs.Lines.{lines_from, moved, Piece, trim_carriage_return, with_line_feeds}
+use Rattle.fc_text.proofs.PieceLemmas.{front, front_piece, later_piece, not_nothing, same_after, StartAt}
+use Rattle.fc_text.{proofs.WordLemmas.{same_run}, specs.Bytes.{carriage_return, line_feed}}
+use Rattle.fc_text.specs.Lines.{in_line, IsPieceOf, lines_from, moved, Piece, trim_carriage_return, with_line_feeds}
 
 -- a byte of a line
 abbrev pub InLine : ℕ → Type 0

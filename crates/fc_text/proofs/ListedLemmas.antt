@@ -1,19 +1,13 @@
 -- Each text is one of three: it lists moves, and then one list, or it has a bad token at one place, or it has too many words from one place on.
-use Rattle.std.proofs.Common.{◌++◌, ◌<◌, ◌∙◌, ◌∷◌, ◌≡◌, ◌≤◌, ◌⊎◌, [], All, ap, ap₂, arith, inl, inr}
-use Rattle.std.proofs.Common.{length, length-append, List, map, None, Option, refl, Some, subst}
-use Rattle.std.proofs.Common.{suc, sym, zero, ℕ}
-use Rattle.std.proofs.lemmas.List.{length-map}
-use Rattle.std.proofs.lemmas.List.Elements.{All-cons, All-head, All-nil, All-tail}
-use Rattle.std.proofs.lemmas.Slice.Zip.{AllZip-long}
-use Rattle.std.specs.List.{AllZip}
+use Rattle.std.proofs.Common.{◌++◌, ◌<◌, ◌∙◌, ◌∷◌, ◌≡◌, ◌≤◌, ◌⊎◌, [], All, ap, ap₂, arith, inl, inr, length}
+use Rattle.std.proofs.Common.{length-append, List, map, None, Option, refl, Some, subst, suc, sym, zero, ℕ}
+use Rattle.std.proofs.lemmas.List.{Elements.{All-cons, All-head, All-nil, All-tail}, length-map}
+use Rattle.std.{proofs.lemmas.Slice.Zip.{AllZip-long}, specs.List.{AllZip}}
 use Rattle.fc_board.specs.{Games.{Game}, Moves.{Fits, RunFits}}
-use Rattle.fc_text.specs.{Lines.{IsWord, Piece, words, words_from}, Notation.{BadTokenAt, HasToken}}
-use Rattle.fc_text.specs.Notation.{IsRunToken, IsToken, Listed, most_moves, separates_tokens}
-use Rattle.fc_text.specs.Notation.{TooManyAt}
-use Rattle.fc_board.specs.declared.moves.Move.{Move}
-use Rattle.fc_board.specs.declared.run_move.RunMove.{RunMove}
-use Rattle.fc_text.proofs.TokenLemmas.{one_move, Reads}
-use Rattle.fc_text.proofs.WordLemmas.{words_from-AreWords}
+use Rattle.fc_board.specs.declared.{moves.Move.{Move}, run_move.RunMove.{RunMove}}
+use Rattle.fc_text.proofs.{TokenLemmas.{one_move, Reads}, WordLemmas.{words_from-AreWords}}
+use Rattle.fc_text.specs.{Lines.{IsWord, Piece, words, words_from}, Notation.{BadTokenAt, HasToken, IsRunToken}}
+use Rattle.fc_text.specs.Notation.{IsToken, Listed, most_moves, separates_tokens, TooManyAt}
 
 -- ---- two lists place by place
 module _ {X A B : Type 0} (f : X → A) (R : A → B → Type 0) where

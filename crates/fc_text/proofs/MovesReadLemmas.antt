@@ -1,23 +1,15 @@
 -- What is read of a text of moves is the moves that it lists, its bad token or its first word too many.
-use Rattle.std.proofs.Common.{◌++◌, ◌<◌, ◌↔◌, ◌∙◌, ◌∷◌, ◌≡◌, ◌≤◌, ◌⊎◌, [], All, ap, ap₂, arith}
-use Rattle.std.proofs.Common.{cond, Err, inl, inr, length, List, map, None, Ok, Option, refl}
-use Rattle.std.proofs.Common.{Result, slice_get, Some, subst, suc, sym, take, zero, ℕ}
-use Rattle.std.proofs.lemmas.List.{take_all}
-use Rattle.std.proofs.lemmas.List.Elements.{All-head, All-tail, All-weaker}
-use Rattle.std.proofs.lemmas.Option.{slice_get_past}
-use Rattle.std.specs.List.{AllZip, cons_option, filter_map, find}
+use Rattle.std.proofs.Common.{◌++◌, ◌<◌, ◌↔◌, ◌∙◌, ◌∷◌, ◌≡◌, ◌≤◌, ◌⊎◌, [], All, ap, ap₂, arith, cond, Err, inl, inr}
+use Rattle.std.proofs.Common.{length, List, map, None, Ok, Option, refl, Result, slice_get, Some, subst, suc, sym, take}
+use Rattle.std.proofs.{Common.{zero, ℕ}, lemmas.List.{Elements.{All-head, All-tail, All-weaker}, take_all}}
+use Rattle.std.{proofs.lemmas.Option.{slice_get_past}, specs.List.{AllZip, cons_option, filter_map, find}}
 use Rattle.std.specs.Option.{is_none}
-use Rattle.fc_board.specs.Games.{Game}
-use Rattle.fc_text.specs.{Lines.{Piece, words_from}, Notation.{BadToken, BadTokenAt}}
-use Rattle.fc_text.specs.Notation.{fault_or_moves, HasToken, IsRunToken, IsToken, Listed, listed_by}
+use Rattle.fc_board.specs.{declared.{moves.Move.{Move}, run_move.RunMove.{RunMove}}, Games.{Game}}
+use Rattle.fc_text.proofs.{ListedLemmas.{each_from_zip, items_as_words, one_of_three}, RunTokenLemmas.{runs-Reads}}
+use Rattle.fc_text.{proofs.TokenLemmas.{moves-Reads, Reads}, specs.{Lines.{Piece, words_from}, Notation.{BadToken}}}
+use Rattle.fc_text.specs.Notation.{BadTokenAt, fault_or_moves, HasToken, IsRunToken, IsToken, Listed, listed_by}
 use Rattle.fc_text.specs.Notation.{ListFault, most_moves, separates_tokens, TooMany, TooManyAt}
-use Rattle.fc_board.specs.declared.moves.Move.{Move}
-use Rattle.fc_board.specs.declared.run_move.RunMove.{RunMove}
-use Rattle.fc_text.proofs.RunTokenLemmas.{runs-Reads}
-use Rattle.fc_text.proofs.TokenLemmas.{moves-Reads, Reads}
-use Rattle.fc_text.specs.reader.{move_named, run_named}
-use Rattle.fc_text.proofs.ListedLemmas.{each_from_zip, items_as_words, one_of_three}
-use Rattle.fc_text.specs.Readings.{moves_read, runs_read}
+use Rattle.fc_text.specs.{reader.{move_named, run_named}, Readings.{moves_read, runs_read}}
 
 -- ---- what names nothing, among the first of a list
 module _ {X Y : Type 0} (name : X → Option Y) where

@@ -1,13 +1,9 @@
 -- The first line of what is left of a text, and what follows it.
-use Rattle.std.proofs.Common.{◌++◌, ◌+◌, ◌-◌, ◌<◌, ◌∙◌, ◌∷◌, ◌≡◌, ◌≤◌, ◌⊎◌, [], All, ap, ap₂, arith}
-use Rattle.std.proofs.Common.{Bool, cond, drop, drop-drop, eqb, false, get_or, inl, inr, length}
-use Rattle.std.proofs.Common.{length-append, List, min, not, refl, subst, suc, sym, take, true, ℕ}
-use Rattle.std.proofs.Math.ListN.{drop_of_length-le}
-use Rattle.std.proofs.Math.Seq.{take-length}
-use Rattle.std.proofs.lemmas.Bool.Decides.{leb_tells}
-use Rattle.std.proofs.lemmas.List.{drop_more, length-drop}
-use Rattle.std.proofs.lemmas.List.Elements.{All-head}
-use Rattle.std.specs.List.{position_or_len}
+use Rattle.std.proofs.Common.{◌++◌, ◌+◌, ◌-◌, ◌<◌, ◌∙◌, ◌∷◌, ◌≡◌, ◌≤◌, ◌⊎◌, [], All, ap, ap₂, arith, Bool, cond, drop}
+use Rattle.std.proofs.Common.{drop-drop, eqb, false, get_or, inl, inr, length, length-append, List, min, not, refl}
+use Rattle.std.proofs.{Common.{subst, suc, sym, take, true, ℕ}, lemmas.{Bool.Decides.{leb_tells}, List.{drop_more}}}
+use Rattle.std.proofs.{lemmas.List.{Elements.{All-head}, length-drop}, Math.ListN.{drop_of_length-le}}
+use Rattle.std.{proofs.Math.Seq.{take-length}, specs.List.{position_or_len}}
 use Rattle.fc_text.specs.Lines.{in_line, IsPieceOf, lines_from, Piece}
 
 -- ---- the first line

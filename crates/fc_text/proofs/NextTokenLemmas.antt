@@ -1,11 +1,8 @@
 -- The first word of what is left of a text, and what follows it; and where each word is.
-use Rattle.std.proofs.Common.{◌++◌, ◌+◌, ◌-◌, ◌<◌, ◌∙◌, ◌∷◌, ◌≡◌, ◌≤◌, [], All, ap, ap₂, arith}
-use Rattle.std.proofs.Common.{Bool, cond, drop, drop-drop, false, length, List, map, min, not, refl}
-use Rattle.std.proofs.Common.{subst, suc, sym, take, true, ℕ}
-use Rattle.std.proofs.lemmas.List.{drop_at, length-take, take-append-drop, take_at}
-use Rattle.std.proofs.lemmas.List.Elements.{All-cons, All-map, All-nil, All-weaker}
-use Rattle.std.proofs.lemmas.List.Sums.{prefix_len-le-length}
-use Rattle.std.specs.List.{prefix_len}
+use Rattle.std.proofs.Common.{◌++◌, ◌+◌, ◌-◌, ◌<◌, ◌∙◌, ◌∷◌, ◌≡◌, ◌≤◌, [], All, ap, ap₂, arith, Bool, cond, drop}
+use Rattle.std.proofs.Common.{drop-drop, false, length, List, map, min, not, refl, subst, suc, sym, take, true, ℕ}
+use Rattle.std.proofs.lemmas.List.{drop_at, Elements.{All-cons, All-map, All-nil, All-weaker}, length-take}
+use Rattle.std.{proofs.lemmas.List.{Sums.{prefix_len-le-length}, take-append-drop, take_at}, specs.List.{prefix_len}}
 use Rattle.fc_text.proofs.WordLemmas.{after_separator, EndsWord, first_word, words-are_pieces}
 use Rattle.fc_text.specs.Lines.{IsAtSpan, IsPieceOf, Piece, with_end, words_from}
 

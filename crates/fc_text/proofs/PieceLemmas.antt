@@ -1,13 +1,9 @@
 -- Items that are read one after another into places that were empty.
-use Rattle.std.proofs.Common.{◌++◌, ◌+◌, ◌-◌, ◌<◌, ◌∙◌, ◌∷◌, ◌≡◌, ◌≢◌, ◌≤◌, [], All, ap, append-nil}
-use Rattle.std.proofs.Common.{append_assoc, ap₂, arith, drop, drop-drop, length, length-append}
-use Rattle.std.proofs.Common.{List, refl, set, slice_range, slice_set, subst, sym, take, ℕ}
-use Rattle.std.proofs.Math.Seq.{drop-append_seam, take-append_seam}
-use Rattle.std.proofs.lemmas.Grind.{flat_map-append}
-use Rattle.std.proofs.lemmas.List.{drop-set-add, drop-set-lt, length-drop, length-take-le}
-use Rattle.std.proofs.lemmas.List.{take-append-drop, take_more_set}
-use Rattle.std.proofs.lemmas.List.Elements.{All-drop}
-use Rattle.std.specs.List.{flat_map}
+use Rattle.std.proofs.Common.{◌++◌, ◌+◌, ◌-◌, ◌<◌, ◌∙◌, ◌∷◌, ◌≡◌, ◌≢◌, ◌≤◌, [], All, ap, append-nil, append_assoc, ap₂}
+use Rattle.std.proofs.Common.{arith, drop, drop-drop, length, length-append, List, refl, set, slice_range, slice_set}
+use Rattle.std.proofs.{Common.{subst, sym, take, ℕ}, lemmas.{Grind.{flat_map-append}, List.{drop-set-add, drop-set-lt}}}
+use Rattle.std.proofs.lemmas.List.{Elements.{All-drop}, length-drop, length-take-le, take-append-drop, take_more_set}
+use Rattle.std.{proofs.Math.Seq.{drop-append_seam, take-append_seam}, specs.List.{flat_map}}
 use Rattle.fc_text.specs.Lines.{IsPieceOf, Piece}
 
 module _ {X : Type 0} (xs : List X) (at : ℕ) (x : X) where

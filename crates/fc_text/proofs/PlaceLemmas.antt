@@ -1,39 +1,27 @@
 -- Where the faults of a text are: at a name, a line or a word, which begin within the text, or for a missing card at its end.
-use Rattle.std.proofs.Common.{◌++◌, ◌+◌, ◌-◌, ◌<◌, ◌∙◌, ◌∷◌, ◌≡◌, ◌≢◌, ◌≤◌, ◌⊎◌, [], All, ap}
-use Rattle.std.proofs.Common.{append-nil, append_assoc, arith, Bool, cond, drop, eqb, false, inl}
-use Rattle.std.proofs.Common.{inr, leb, length, length-append, List, map, None, not, Option, refl}
-use Rattle.std.proofs.Common.{Some, subst, suc, sym, true, zero, ℕ}
+use Rattle.std.proofs.Common.{◌++◌, ◌+◌, ◌-◌, ◌<◌, ◌∙◌, ◌∷◌, ◌≡◌, ◌≢◌, ◌≤◌, ◌⊎◌, [], All, ap, append-nil, append_assoc}
+use Rattle.std.proofs.Common.{arith, Bool, cond, drop, eqb, false, inl, inr, leb, length, length-append, List, map}
+use Rattle.std.proofs.Common.{None, not, Option, refl, Some, subst, suc, sym, true, zero, ℕ}
 use Rattle.std.proofs.lemmas.Bool.Decides.{nat_tests}
-use Rattle.std.proofs.lemmas.List.{length-drop}
-use Rattle.std.proofs.lemmas.List.Elements.{All-drop, All-head, All-map, All-tail, All-weaker}
-use Rattle.std.proofs.lemmas.List.Sums.{prefix_len-le-length}
-use Rattle.std.proofs.lemmas.Option.{same_Some}
-use Rattle.std.specs.List.{after_first, flat_map, position_or_len, prefix_len}
-use Rattle.std.specs.Option.{option_map, option_or}
+use Rattle.std.proofs.lemmas.List.{Elements.{All-drop, All-head, All-map, All-tail, All-weaker}, length-drop}
+use Rattle.std.proofs.lemmas.{List.Sums.{prefix_len-le-length}, Option.{same_Some}}
+use Rattle.std.specs.{List.{after_first, flat_map, position_or_len, prefix_len}, Option.{option_map, option_or}}
 use Rattle.fc_board.specs.Games.{Game}
-use Rattle.fc_text.specs.{Bytes.{is_gap, number_sign}, Faults.{bad_word, cards_of_item}}
-use Rattle.fc_text.specs.Faults.{cards_of_word, count_of_lines, fault_of_item, fault_of_line}
-use Rattle.fc_text.specs.Faults.{fault_of_part, first_fault, first_faulty, has_form, is_past_cells}
-use Rattle.fc_text.specs.Faults.{is_repeated, Item, items_of, items_of_row, lowest_missing}
-use Rattle.fc_text.specs.{Faults.{missing_card, suits_of_item, suits_of_word}, Lines.{IsPieceOf}}
-use Rattle.fc_text.specs.Lines.{IsWord, lines_from, Piece, trim_carriage_return, words_from}
-use Rattle.fc_text.specs.Rows.{Blank, cells_names, column_row, columns_left, Comment, Content}
-use Rattle.fc_text.specs.Rows.{heights_names, is_colon, is_empty, rows_within}
+use Rattle.fc_text.proofs.{LineLemmas.{lines_are_pieces}, NextLineLemmas.{piece_within}}
+use Rattle.fc_text.proofs.{RowLemmas.{items_of_words, no_lines}, SoundLemmas.{line_item, lines-append, lines-one}}
+use Rattle.fc_text.proofs.{TakingLemmas.{held_first}, WordLemmas.{words_from-AreWords}}
+use Rattle.fc_text.specs.{Bytes.{is_gap, number_sign}, Faults.{bad_word, cards_of_item, cards_of_word, count_of_lines}}
+use Rattle.fc_text.specs.Faults.{fault_of_item, fault_of_line, fault_of_part, first_fault, first_faulty, has_form}
+use Rattle.fc_text.specs.Faults.{is_past_cells, is_repeated, Item, items_of, items_of_row, lowest_missing, missing_card}
+use Rattle.fc_text.specs.Faults.{suits_of_item, suits_of_word}
+use Rattle.fc_text.specs.{Lines.{IsPieceOf, IsWord, lines_from, Piece, trim_carriage_return, words_from}, Rows.{Blank}}
+use Rattle.fc_text.specs.Rows.{cells_names, column_row, columns_left, Comment, Content, heights_names, is_colon}
+use Rattle.fc_text.specs.Rows.{is_empty, is_named, Line, line_of, line_of_front, named_row, Row, row_of, rows_within}
 use Rattle.fc_text.specs.Spelling.{is_section}
-use Rattle.fc_text.specs.declared.board.reader.Section.{Section}
-use Rattle.fc_text.specs.declared.board.reader.Section.TheVariants.{Column, Foundations, Freecells}
-use Rattle.fc_text.specs.Rows.{is_named, Line, line_of, line_of_front, named_row, Row, row_of}
-use Rattle.fc_text.proofs.LineLemmas.{lines_are_pieces}
-use Rattle.fc_text.proofs.NextLineLemmas.{piece_within}
-use Rattle.fc_text.proofs.WordLemmas.{words_from-AreWords}
-use Rattle.fc_text.proofs.RowLemmas.{items_of_words, no_lines}
-use Rattle.fc_text.proofs.SoundLemmas.{line_item, lines-append, lines-one}
-use Rattle.fc_text.proofs.TakingLemmas.{held_first}
-use Rattle.fc_text.specs.declared.fault.BoardFault.{BoardFault}
-use Rattle.fc_text.specs.declared.fault.BoardFaultKind.{BoardFaultKind}
-use Rattle.fc_text.specs.declared.fault.BoardFaultKind.TheVariants.{BadFoundation, MissingCard}
-use Rattle.fc_text.specs.declared.fault.BoardFaultKind.TheVariants.{RepeatedCard, RepeatedLine}
-use Rattle.fc_text.specs.declared.fault.BoardFaultKind.TheVariants.{TooManyCells, TooManyColumns}
+use Rattle.fc_text.specs.declared.board.reader.Section.{Section, TheVariants.{Column, Foundations, Freecells}}
+use Rattle.fc_text.specs.declared.fault.{BoardFault.{BoardFault}, BoardFaultKind.{BoardFaultKind}}
+use Rattle.fc_text.specs.declared.fault.BoardFaultKind.TheVariants.{BadFoundation, MissingCard, RepeatedCard}
+use Rattle.fc_text.specs.declared.fault.BoardFaultKind.TheVariants.{RepeatedLine, TooManyCells, TooManyColumns}
 
 -- ---- what begins before the end of a text
 

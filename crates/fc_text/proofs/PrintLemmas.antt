@@ -1,24 +1,16 @@
 -- Lists as they are printed: one token after another, at the end of what was printed.
-use Rattle.std.proofs.Common.{◌*◌, ◌++◌, ◌+◌, ◌-◌, ◌<◌, ◌∙◌, ◌∷◌, ◌≡◌, ◌≤◌, [], All, ap, append-nil}
-use Rattle.std.proofs.Common.{append_assoc, arith, get_or, length, length-append, length-take, List}
-use Rattle.std.proofs.Common.{map, refl, subst, suc, sym, take, zero, ℕ}
-use Rattle.std.proofs.lemmas.List.{take_more}
-use Rattle.std.proofs.lemmas.List.Elements.{All-head, All-tail}
-use Rattle.std.proofs.lemmas.List.Sums.{sum_by-cons}
+use Rattle.std.proofs.Common.{◌*◌, ◌++◌, ◌+◌, ◌-◌, ◌<◌, ◌∙◌, ◌∷◌, ◌≡◌, ◌≤◌, [], All, ap, append-nil, append_assoc}
+use Rattle.std.proofs.Common.{arith, get_or, length, length-append, length-take, List, map, refl, subst, suc, sym, take}
+use Rattle.std.proofs.{Common.{zero, ℕ}, lemmas.List.{Elements.{All-head, All-tail}, Sums.{sum_by-cons}, take_more}}
 use Rattle.std.specs.List.{AllZip, join_with_byte, sum_by}
-use Rattle.fc_board.proofs.BoardLemmas.{All-left}
-use Rattle.fc_board.specs.{Games.{Game}, Moves.{Fits, RunFits}}
-use Rattle.fc_text.specs.{Bytes.{blank}, Lines.{Piece, words, words_from}, Notation.{HasToken}}
-use Rattle.fc_text.specs.Notation.{IsRunToken, IsToken, Listed, most_moves, run_token}
-use Rattle.fc_text.specs.Notation.{separates_tokens, token, TooManyAt}
-use Rattle.fc_board.specs.declared.moves.Move.{Move}
-use Rattle.fc_board.specs.declared.run_move.RunMove.{RunMove}
-use Rattle.fc_text.proofs.RunTokenLemmas.{one_run, run_token-IsRunToken}
-use Rattle.fc_text.proofs.RunTokenLemmas.{run_solid}
-use Rattle.fc_text.proofs.TokenLemmas.{IsSolid, one_move, token-IsSolid, token-IsToken}
-use Rattle.fc_text.proofs.WordLemmas.{EndsWord, first_word}
-use Rattle.fc_text.specs.reader.{print_moves, print_runs}
+use Rattle.fc_board.{proofs.BoardLemmas.{All-left}, specs.{Games.{Game}, Moves.{Fits, RunFits}}}
+use Rattle.fc_board.specs.declared.{moves.Move.{Move}, run_move.RunMove.{RunMove}}
 use Rattle.fc_text.proofs.ListedLemmas.{each_from_zip, one_zip}
+use Rattle.fc_text.proofs.RunTokenLemmas.{one_run, run_solid, run_token-IsRunToken}
+use Rattle.fc_text.proofs.TokenLemmas.{IsSolid, one_move, token-IsSolid, token-IsToken}
+use Rattle.fc_text.{proofs.WordLemmas.{EndsWord, first_word}, specs.{Bytes.{blank}, Lines.{Piece, words, words_from}}}
+use Rattle.fc_text.specs.Notation.{HasToken, IsRunToken, IsToken, Listed, most_moves, run_token, separates_tokens}
+use Rattle.fc_text.specs.{Notation.{token, TooManyAt}, reader.{print_moves, print_runs}}
 
 module _ {Item : Type 0} (token_of : Item → List ℕ) where
   abbrev printed : List Item → List ℕ

@@ -1,37 +1,26 @@
 -- The printed text of a board spells it: its lines, their words, and what these spell.
-use Rattle.std.proofs.Common.{◌&&◌, ◌++◌, ◌+◌, ◌-◌, ◌<◌, ◌∙◌, ◌∷◌, ◌≡◌, ◌≤◌, [], All, ap}
-use Rattle.std.proofs.Common.{append-nil, append_assoc, arith, Bool, codes, cond, drop, eqb, false}
-use Rattle.std.proofs.Common.{get_or, inl, inr, leb, length, List, map, None, Option, refl}
-use Rattle.std.proofs.Common.{replicate, slice_index, Some, subst, suc, sym, true, zero, ℕ}
-use Rattle.std.proofs.lemmas.Bool.{agree_below, agree_below_at, and_parts, ne_eqb, or_from}
-use Rattle.std.proofs.lemmas.Bool.Decides.{leb_tells, nat_tests}
-use Rattle.std.proofs.lemmas.List.{get_or_past}
-use Rattle.std.proofs.lemmas.List.Elements.{All-append, All-cons, All-get_or, All-head, All-nil}
-use Rattle.std.proofs.lemmas.List.Elements.{All-tail, All-weaker}
-use Rattle.std.proofs.lemmas.List.Sums.{AllPass-from_list_all}
-use Rattle.std.proofs.lemmas.Option.{same_Some}
-use Rattle.std.specs.List.{flat_map, list_all, prefix_len}
-use Rattle.std.specs.Option.{option_map}
+use Rattle.std.proofs.Common.{◌&&◌, ◌++◌, ◌+◌, ◌-◌, ◌<◌, ◌∙◌, ◌∷◌, ◌≡◌, ◌≤◌, [], All, ap, append-nil, append_assoc}
+use Rattle.std.proofs.Common.{arith, Bool, codes, cond, drop, eqb, false, get_or, inl, inr, leb, length, List, map}
+use Rattle.std.proofs.Common.{None, Option, refl, replicate, slice_index, Some, subst, suc, sym, true, zero, ℕ}
+use Rattle.std.proofs.lemmas.Bool.{agree_below, agree_below_at, and_parts, Decides.{leb_tells, nat_tests}}
+use Rattle.std.proofs.lemmas.Bool.{ne_eqb, or_from}
+use Rattle.std.proofs.lemmas.List.Elements.{All-append, All-cons, All-get_or, All-head, All-nil, All-tail, All-weaker}
+use Rattle.std.proofs.lemmas.{List.{get_or_past, Sums.{AllPass-from_list_all}}, Option.{same_Some}}
+use Rattle.std.specs.{List.{flat_map, list_all, prefix_len}, Option.{option_map}}
 use Rattle.fc_card.proofs.Letters.{answers, answers-true}
 use Rattle.fc_card.specs.{card_text, IsCard, rank_letter, rank_of, suit_letter, suit_of}
 use Rattle.fc_board.proofs.BoardLemmas.{count_of-cons, in_cells, in_columns}
-use Rattle.fc_board.specs.{Boards.{Board, IsHeight, IsWellFormed}, Games.{Game}}
-use Rattle.fc_text.specs.Bytes.{blank, colon, dash, is_gap, line_feed}
-use Rattle.fc_text.specs.{Lines.{lines_from, trim_carriage_return, words_from}, Printed.{card_word}}
-use Rattle.fc_text.specs.Printed.{cell_word, cells_line, column_line, foundations_line}
-use Rattle.fc_text.specs.Printed.{height_letter, height_word, printed_suits, text_of}
-use Rattle.fc_text.specs.Rows.{columns_left, Content, is_empty, Line, line_of, line_of_front, Row}
-use Rattle.fc_text.specs.Rows.{rows_of, rows_within}
-use Rattle.fc_text.specs.Spelling.{card_spelled, cell_spelled, count_of_suit}
-use Rattle.fc_text.specs.declared.board.reader.Section.{Section}
-use Rattle.fc_text.specs.declared.board.reader.Section.TheVariants.{Column, Foundations, Freecells}
+use Rattle.fc_board.specs.{Boards.{Board, IsHeight, IsWellFormed}, Games.{Game}, laws.ListWords.{IsCell}}
+use Rattle.fc_text.proofs.{LineLemmas.{first_line, InLine}, SpelledLemmas.{count_of_suits}}
+use Rattle.fc_text.{proofs.WordLemmas.{EndsWord, first_word}, specs.Bytes.{blank, colon, dash, is_gap, line_feed}}
+use Rattle.fc_text.specs.{Lines.{lines_from, trim_carriage_return, words_from}, Printed.{card_word, cell_word}}
+use Rattle.fc_text.specs.Printed.{cells_line, column_line, foundations_line, height_letter, height_word, printed_suits}
+use Rattle.fc_text.specs.Printed.{text_of}
+use Rattle.fc_text.specs.Rows.{columns_left, Content, is_empty, Line, line_of, line_of_front, Row, rows_of, rows_within}
+use Rattle.fc_text.specs.Spelling.{card_spelled, cell_spelled, count_of_suit, foundation_spelled, height_spelled}
+use Rattle.fc_text.specs.Spelling.{is_empty_mark, lines_of, padded_with, Spells, words_of}
+use Rattle.fc_text.specs.declared.board.reader.Section.{Section, TheVariants.{Column, Foundations, Freecells}}
 use Rattle.fc_text.specs.declared.board.spelling.Foundation.{Foundation}
-use Rattle.fc_text.specs.Spelling.{foundation_spelled, height_spelled, is_empty_mark, lines_of}
-use Rattle.fc_text.specs.Spelling.{padded_with, Spells, words_of}
-use Rattle.fc_board.specs.laws.ListWords.{IsCell}
-use Rattle.fc_text.proofs.LineLemmas.{first_line, InLine}
-use Rattle.fc_text.proofs.WordLemmas.{EndsWord, first_word}
-use Rattle.fc_text.proofs.SpelledLemmas.{count_of_suits}
 
 -- ---- bytes of printed text: no control characters, and within words no blanks
 

@@ -1,12 +1,12 @@
 -- Lists as they are read: word by word from the front.
-use Rattle.std.proofs.Common.{◌++◌, ◌+◌, ◌-◌, ◌∙◌, ◌∷◌, ◌≡◌, ◌≤◌, [], All, ap, append-nil, arith}
-use Rattle.std.proofs.Common.{drop, drop-drop, Err, false, get_or, IfErr, IfSome, is_none, length}
-use Rattle.std.proofs.Common.{length-append, List, map, None, Ok, Option, refl, Result, Some, subst}
-use Rattle.std.proofs.{Common.{sym, take, ℕ}, lemmas.List.{append_assoc, length-drop, length-map}}
-use Rattle.std.{proofs.lemmas.Slice.Zip.{AllZip-long}, specs.List.{AllZip}}
+use Rattle.std.proofs.Common.{◌++◌, ◌+◌, ◌-◌, ◌∙◌, ◌∷◌, ◌≡◌, ◌≤◌, [], All, ap, append-nil, arith, drop, drop-drop, Err}
+use Rattle.std.proofs.Common.{false, get_or, IfErr, IfSome, is_none, length, length-append, List, map, None, Ok, Option}
+use Rattle.std.proofs.Common.{refl, Result, Some, subst, sym, take, ℕ}
+use Rattle.std.proofs.lemmas.{List.{append_assoc, length-drop, length-map}, Slice.Zip.{AllZip-long}}
+use Rattle.std.specs.List.{AllZip}
 use Rattle.fc_text.proofs.{ListedLemmas.{each_from_zip}, WordLemmas.{after_separator, first_word}}
-use Rattle.fc_text.specs.{Bytes.{blank}, Lines.{Piece, with_end, words_from}, Notation.{BadTokenAt}}
-use Rattle.fc_text.specs.Notation.{HasToken, Listed, most_moves, separates_tokens, TooManyAt}
+use Rattle.fc_text.specs.{Bytes.{blank}, Lines.{Piece, with_end, words_from}}
+use Rattle.fc_text.specs.Notation.{BadTokenAt, HasToken, Listed, most_moves, separates_tokens, TooManyAt}
 use Rattle.fc_text.specs.reader.{BeginsWithPair, BeginsWithToken, IsInOnePiece, IsReadTo, ReadSoFar}
 
 abbrev pieces : List (Piece × ℕ) → List Piece

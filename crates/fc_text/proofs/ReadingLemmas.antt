@@ -1,41 +1,28 @@
 -- A text has no fault exactly where it spells a board, which is then the one that its words give.
-use Rattle.std.proofs.Common.{◌+◌, ◌-◌, ◌<◌, ◌∙◌, ◌∷◌, ◌≡◌, ◌≤◌, ◌⊎◌, [], All, ap, append-nil}
-use Rattle.std.proofs.Common.{arith, Bool, cond, eqb, false, get_or, inl, inr, leb, length}
-use Rattle.std.proofs.Common.{length-append, List, map, None, not, Option, refl, replicate, Some}
-use Rattle.std.proofs.Common.{subst, sym, true, ℕ}
-use Rattle.std.proofs.lemmas.Bool.{not-false, true_from_ne_false}
-use Rattle.std.proofs.lemmas.Bool.Decides.{leb_tells}
-use Rattle.std.proofs.lemmas.List.{length-map, length-replicate}
-use Rattle.std.proofs.lemmas.List.Elements.{All-append, All-cons, All-from_get_or, All-get_or}
-use Rattle.std.proofs.lemmas.List.Elements.{All-head, All-map, All-nil, All-tail}
-use Rattle.std.proofs.lemmas.List.FromFn.{get_or-range_with_len, length-range_with_len}
-use Rattle.std.specs.List.{find, flat_map, list_any, range_with_len}
-use Rattle.std.specs.Option.{option_map, option_or, option_to_list}
-use Rattle.fc_card.specs.{IsCard, rank_of, suit_of}
+use Rattle.std.proofs.Common.{◌+◌, ◌-◌, ◌<◌, ◌∙◌, ◌∷◌, ◌≡◌, ◌≤◌, ◌⊎◌, [], All, ap, append-nil, arith, Bool, cond, eqb}
+use Rattle.std.proofs.Common.{false, get_or, inl, inr, leb, length, length-append, List, map, None, not, Option, refl}
+use Rattle.std.proofs.{Common.{replicate, Some, subst, sym, true, ℕ}, lemmas.Bool.Decides.{leb_tells}}
+use Rattle.std.proofs.lemmas.{Bool.{not-false, true_from_ne_false}, List.Elements.{All-append, All-cons}}
+use Rattle.std.proofs.lemmas.List.Elements.{All-from_get_or, All-get_or, All-head, All-map, All-nil, All-tail}
+use Rattle.std.proofs.lemmas.List.{FromFn.{get_or-range_with_len, length-range_with_len}, length-map, length-replicate}
+use Rattle.std.specs.{List.{find, flat_map, list_any, range_with_len}, Option.{option_map, option_or, option_to_list}}
+use Rattle.fc_card.specs.{count_of, IsCard, rank_of, suit_of}
 use Rattle.fc_board.proofs.BoardLemmas.{count_of-append, parts_same}
-use Rattle.fc_card.specs.{count_of}
-use Rattle.fc_board.specs.Boards.{Board, cards_in_play, count_of_places, is_home, IsHeight}
-use Rattle.fc_board.specs.{Boards.{IsWellFormed}, Games.{Game}}
-use Rattle.fc_text.specs.Faults.{cards_at_home, cards_of_item, cards_of_word, first_fault}
-use Rattle.fc_text.specs.Faults.{first_faulty, Item, items_of, items_of_row, lowest_missing}
-use Rattle.fc_text.specs.{Faults.{missing_card, suits_of_item, suits_of_word}, Lines.{Piece}}
-use Rattle.fc_text.specs.Rows.{Row, rows_of}
-use Rattle.fc_text.specs.Spelling.{all_spelled, board_of, cell_spelled, count_of_suit}
-use Rattle.fc_text.specs.declared.board.reader.Section.{Section}
-use Rattle.fc_text.specs.declared.board.reader.Section.TheVariants.{Column, Foundations, Freecells}
+use Rattle.fc_board.specs.Boards.{Board, cards_in_play, count_of_places, is_home, IsHeight, IsWellFormed}
+use Rattle.fc_board.specs.Games.{Game}
+use Rattle.fc_text.proofs.{CardLemmas.{cards_held, count_first}, RowLemmas.{count_lines, count_numbers, count_words}}
+use Rattle.fc_text.proofs.{RowLemmas.{formed_from, forms_of, in_section, WordsFormed}, SoundLemmas.{absent}}
+use Rattle.fc_text.proofs.SoundLemmas.{faultless-from_Sound, none_from, present, Sound, Sound-from_faultless, Sound-nil}
+use Rattle.fc_text.proofs.SpelledLemmas.{cards_spelled, count_home, count_of_suits, empty_cells, empty_columns}
+use Rattle.fc_text.proofs.SpelledLemmas.{flat_spelled, height_at, height_of-bound, line_cards, lines_all, lines_cards}
+use Rattle.fc_text.proofs.SpelledLemmas.{lines_one_by_one, one_by_one, OneByOne-all, spelled-AreFoundations}
+use Rattle.fc_text.{proofs.SpelledLemmas.{suits_spelled}, specs.Faults.{cards_at_home, cards_of_item, cards_of_word}}
+use Rattle.fc_text.specs.Faults.{first_fault, first_faulty, Item, items_of, items_of_row, lowest_missing, missing_card}
+use Rattle.fc_text.specs.{Faults.{suits_of_item, suits_of_word}, Lines.{Piece}, Rows.{Row, rows_of}}
+use Rattle.fc_text.specs.Spelling.{all_spelled, board_of, cell_spelled, count_of_suit, foundation_spelled, height_in}
+use Rattle.fc_text.specs.Spelling.{heights_of, lines_of, OneByOne, padded_with, Spells, words_of}
+use Rattle.fc_text.specs.declared.board.reader.Section.{Section, TheVariants.{Column, Foundations, Freecells}}
 use Rattle.fc_text.specs.declared.board.spelling.Foundation.{Foundation}
-use Rattle.fc_text.specs.Spelling.{foundation_spelled, height_in, heights_of, lines_of, OneByOne}
-use Rattle.fc_text.specs.Spelling.{padded_with, Spells, words_of}
-use Rattle.fc_text.proofs.CardLemmas.{cards_held, count_first}
-use Rattle.fc_text.proofs.RowLemmas.{count_lines, count_numbers, count_words, formed_from, forms_of}
-use Rattle.fc_text.proofs.RowLemmas.{in_section, WordsFormed}
-use Rattle.fc_text.proofs.SoundLemmas.{absent, faultless-from_Sound, none_from, present, Sound}
-use Rattle.fc_text.proofs.SoundLemmas.{Sound-from_faultless, Sound-nil}
-use Rattle.fc_text.proofs.SpelledLemmas.{cards_spelled, count_home, count_of_suits, empty_cells}
-use Rattle.fc_text.proofs.SpelledLemmas.{empty_columns, flat_spelled, height_at, height_of-bound}
-use Rattle.fc_text.proofs.SpelledLemmas.{line_cards, lines_all, lines_cards, lines_one_by_one}
-use Rattle.fc_text.proofs.SpelledLemmas.{one_by_one, OneByOne-all, spelled-AreFoundations}
-use Rattle.fc_text.proofs.SpelledLemmas.{suits_spelled}
 
 -- ---- what the words of a text give, by its rows
 

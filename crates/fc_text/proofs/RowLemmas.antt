@@ -1,20 +1,15 @@
 -- What holds of the items of a text, by its rows: the lines, the words and the cards of each section.
-use Rattle.std.proofs.Common.{◌++◌, ◌+◌, ◌∙◌, ◌∷◌, ◌≡◌, [], All, ap, append-nil, arith, Bool, cond}
-use Rattle.std.proofs.Common.{false, length, length-append, List, map, refl, Some, subst, sym, true}
-use Rattle.std.proofs.Common.{ℕ}
+use Rattle.std.proofs.Common.{◌++◌, ◌+◌, ◌∙◌, ◌∷◌, ◌≡◌, [], All, ap, append-nil, arith, Bool, cond, false, length}
+use Rattle.std.proofs.Common.{length-append, List, map, refl, Some, subst, sym, true, ℕ}
 use Rattle.std.proofs.lemmas.List.Concat.{flat_map-append}
-use Rattle.std.proofs.lemmas.List.Elements.{All-append, All-cons, All-head, All-nil, All-tail}
-use Rattle.std.specs.List.{flat_map}
+use Rattle.std.{proofs.lemmas.List.Elements.{All-append, All-cons, All-head, All-nil, All-tail}, specs.List.{flat_map}}
 use Rattle.std.specs.Option.{option_to_list}
-use Rattle.fc_board.proofs.BoardLemmas.{All-left, All-right, count_of-append}
-use Rattle.fc_card.specs.{count_of}
-use Rattle.fc_text.specs.Faults.{count_of_lines, count_of_words, has_form, Item, items_of_row}
-use Rattle.fc_text.specs.{Lines.{Piece}, Rows.{Row}}
-use Rattle.fc_text.specs.declared.board.reader.Section.{Section}
-use Rattle.fc_text.specs.declared.board.reader.Section.TheVariants.{Column, Foundations, Freecells}
-use Rattle.fc_text.specs.Spelling.{is_section, lines_of, words_of}
-use Rattle.fc_text.proofs.SoundLemmas.{is_formed, line_item, lines-append, lines-none, lines-one}
-use Rattle.fc_text.proofs.SoundLemmas.{word_item, words-append, words-none, words-one}
+use Rattle.{fc_board.proofs.BoardLemmas.{All-left, All-right, count_of-append}, fc_card.specs.{count_of}}
+use Rattle.fc_text.proofs.SoundLemmas.{is_formed, line_item, lines-append, lines-none, lines-one, word_item}
+use Rattle.fc_text.proofs.SoundLemmas.{words-append, words-none, words-one}
+use Rattle.fc_text.specs.{Faults.{count_of_lines, count_of_words, has_form, Item, items_of_row}, Lines.{Piece}}
+use Rattle.fc_text.specs.{Rows.{Row}, Spelling.{is_section, lines_of, words_of}}
+use Rattle.fc_text.specs.declared.board.reader.Section.{Section, TheVariants.{Column, Foundations, Freecells}}
 
 -- ---- lines
 

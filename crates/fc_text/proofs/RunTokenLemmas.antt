@@ -1,37 +1,24 @@
 -- Tokens of moves of several cards, read back: a word names at most one such move of a game.
-use Rattle.std.proofs.Common.{◌&&◌, ◌++◌, ◌+◌, ◌<◌, ◌==◌, ◌∙◌, ◌∷◌, ◌≡◌, ◌≤◌, [], ap, ap₂, arith}
-use Rattle.std.proofs.Common.{Bool, cond, false, IfSome, IsFalse, length, List, map, nat_le, None}
-use Rattle.std.proofs.Common.{not, Option, refl, slice_index, Some, subst, suc, sym, take, true}
-use Rattle.std.proofs.Common.{zero, ℕ}
-use Rattle.std.proofs.lemmas.Bool.{agree_below, agree_below_at, and_parts, eqb-true, leb-true}
-use Rattle.std.proofs.lemmas.Bool.{not-true}
-use Rattle.std.proofs.lemmas.List.{length-map, map-append}
-use Rattle.std.proofs.lemmas.List.Elements.{All-cons, All-head, All-nil, All-tail}
-use Rattle.std.proofs.lemmas.Option.{cond_some, option_and_then_some, same_Some}
-use Rattle.std.specs.Char.{to_ascii_lowercase}
-use Rattle.std.specs.List.{AllZip, join_with_byte}
-use Rattle.std.specs.Option.{option_and_then, option_map}
-use Rattle.std.specs.Str.{str_to_ascii_lowercase}
+use Rattle.std.proofs.Common.{◌&&◌, ◌++◌, ◌+◌, ◌<◌, ◌==◌, ◌∙◌, ◌∷◌, ◌≡◌, ◌≤◌, [], ap, ap₂, arith, Bool, cond, false}
+use Rattle.std.proofs.Common.{IfSome, IsFalse, length, List, map, nat_le, None, not, Option, refl, slice_index, Some}
+use Rattle.std.proofs.Common.{subst, suc, sym, take, true, zero, ℕ}
+use Rattle.std.proofs.lemmas.Bool.{agree_below, agree_below_at, and_parts, eqb-true, leb-true, not-true}
+use Rattle.std.proofs.lemmas.List.{Elements.{All-cons, All-head, All-nil, All-tail}, length-map, map-append}
+use Rattle.std.{proofs.lemmas.Option.{cond_some, option_and_then_some, same_Some}, specs.Char.{to_ascii_lowercase}}
+use Rattle.std.specs.{List.{AllZip, join_with_byte}, Option.{option_and_then, option_map}, Str.{str_to_ascii_lowercase}}
 use Rattle.fc_card.proofs.Letters.{answers, answers-true}
-use Rattle.fc_board.proofs.ListCarried.{mapped_some}
-use Rattle.fc_board.specs.{Games.{Game}, Moves.{both_columns, is_column_to_column, move_between}}
-use Rattle.fc_board.specs.Moves.{PlaceFits, RunFits, SourceFits}
-use Rattle.fc_text.specs.{Bytes.{blank}, Lines.{words}, Notation.{column_digits, count_letter}}
-use Rattle.fc_text.specs.Notation.{count_suffix, hexadecimal_digits, IsRunToken, IsToken, Listed}
-use Rattle.fc_text.specs.Notation.{run_token, separates_tokens, token}
-use Rattle.fc_board.specs.declared.moves.Move.{Move}
-use Rattle.fc_board.specs.declared.moves.Place.{Place}
-use Rattle.fc_board.specs.declared.moves.Place.TheVariants.{Cell as ToCell, Column as ToColumn}
-use Rattle.fc_board.specs.declared.moves.Place.TheVariants.{Home}
-use Rattle.fc_board.specs.declared.moves.Source.{Source}
+use Rattle.fc_board.{proofs.ListCarried.{mapped_some}, specs.Games.{Game}}
+use Rattle.fc_board.specs.Moves.{both_columns, is_column_to_column, move_between, PlaceFits, RunFits, SourceFits}
+use Rattle.fc_board.specs.declared.moves.{Move.{Move}, Place.{Place}}
+use Rattle.fc_board.specs.declared.moves.{Place.TheVariants.{Cell as ToCell, Column as ToColumn, Home}, Source.{Source}}
 use Rattle.fc_board.specs.declared.moves.Source.TheVariants.{Cell as FromCell, Column as FromColumn}
-use Rattle.fc_board.specs.declared.run_move.RunMove.{RunMove}
-use Rattle.fc_board.specs.declared.run_move.RunMove.TheVariants.{One, Run}
-use Rattle.fc_text.proofs.TokenLemmas.{IsSolid, letter_there, lettered_fits, lower_token}
-use Rattle.fc_text.proofs.TokenLemmas.{piece_in_either_case, Reads, token-IsSolid, token_read}
-use Rattle.fc_text.specs.reader.{as_run, count_named, index_among, IsInOnePiece, move_named}
-use Rattle.fc_text.specs.reader.{move_of_two, print_moves, print_runs, run_between, run_named}
-use Rattle.fc_text.specs.reader.{run_of_word, with_count}
+use Rattle.fc_board.specs.declared.run_move.RunMove.{RunMove, TheVariants.{One, Run}}
+use Rattle.fc_text.proofs.TokenLemmas.{IsSolid, letter_there, lettered_fits, lower_token, piece_in_either_case, Reads}
+use Rattle.fc_text.{proofs.TokenLemmas.{token-IsSolid, token_read}, specs.{Bytes.{blank}, Lines.{words}}}
+use Rattle.fc_text.specs.Notation.{column_digits, count_letter, count_suffix, hexadecimal_digits, IsRunToken, IsToken}
+use Rattle.fc_text.specs.{Notation.{Listed, run_token, separates_tokens, token}, reader.{as_run, count_named}}
+use Rattle.fc_text.specs.reader.{index_among, IsInOnePiece, move_named, move_of_two, print_moves, print_runs}
+use Rattle.fc_text.specs.reader.{run_between, run_named, run_of_word, with_count}
 
 -- ---- numbers of cards
 abbrev column_digit : ℕ → ℕ

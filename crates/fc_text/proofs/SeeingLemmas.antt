@@ -1,19 +1,13 @@
 -- Lemmas on the cards that were seen: a set of cards says for each whether it was counted.
-use Rattle.std.proofs.Common.{◌+◌, ◌<◌, ◌==◌, ◌||◌, ◌∙◌, ◌∷◌, ◌≡◌, ◌≤◌, [], All, ap, ap₂, arith}
-use Rattle.std.proofs.Common.{Bool, cond, false, get_or, inl, inr, length, List, MatchOption, min}
-use Rattle.std.proofs.Common.{nat_le, None, Option, refl, replicate, slice_index, Some, subst, sym}
-use Rattle.std.proofs.Common.{true, ℕ}
-use Rattle.std.proofs.lemmas.Bool.{both_ways, cases_Bool, cases_eq, le-leb, lt-leb, ne_eqb}
-use Rattle.std.proofs.lemmas.Bool.Decides.{leb_tells, nat_tests}
-use Rattle.std.proofs.lemmas.List.{get_or-replicate, length-replicate}
+use Rattle.std.proofs.Common.{◌+◌, ◌<◌, ◌==◌, ◌||◌, ◌∙◌, ◌∷◌, ◌≡◌, ◌≤◌, [], All, ap, ap₂, arith, Bool, cond, false}
+use Rattle.std.proofs.Common.{get_or, inl, inr, length, List, MatchOption, min, nat_le, None, Option, refl, replicate}
+use Rattle.std.proofs.{Common.{slice_index, Some, subst, sym, true, ℕ}, lemmas.Bool.{both_ways, cases_Bool, cases_eq}}
+use Rattle.std.proofs.lemmas.Bool.{Decides.{leb_tells, nat_tests}, le-leb, lt-leb, ne_eqb}
 use Rattle.std.proofs.lemmas.List.Elements.{All-head, All-tail}
-use Rattle.std.proofs.lemmas.List.FromFn.{fill_by_all, get_or-map-range_with_len}
-use Rattle.std.proofs.lemmas.List.FromFn.{length-map-range_with_len}
-use Rattle.std.specs.List.{list_any}
-use Rattle.fc_card.specs.{AreCountsOf, count_of, Counts, CountsNoneUpTo, CountsUpTo, is_up_to}
-use Rattle.fc_card.specs.{IsCard, IsLowest, NoCard}
-use Rattle.fc_text.proofs.CardLemmas.{among_counted, cards_at_home-IsCard, cards_from, count_first}
-use Rattle.fc_text.proofs.CardLemmas.{count_home}
+use Rattle.std.proofs.lemmas.List.FromFn.{fill_by_all, get_or-map-range_with_len, length-map-range_with_len}
+use Rattle.std.{proofs.lemmas.List.{get_or-replicate, length-replicate}, specs.List.{list_any}}
+use Rattle.fc_card.specs.{AreCountsOf, count_of, Counts, CountsNoneUpTo, CountsUpTo, is_up_to, IsCard, IsLowest, NoCard}
+use Rattle.fc_text.proofs.CardLemmas.{among_counted, cards_at_home-IsCard, cards_from, count_first, count_home}
 use Rattle.fc_text.specs.reader.{also_seen, is_seen, seen_of}
 
 -- ---- for each card, whether it was seen

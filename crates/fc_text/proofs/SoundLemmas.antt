@@ -1,26 +1,18 @@
 -- No item of a list is at fault exactly where the list as a whole is sound: each line and each word within its bound, each form good, each suit and each card named once.
-use Rattle.std.proofs.Common.{◌&&◌, ◌++◌, ◌+◌, ◌||◌, ◌∙◌, ◌∷◌, ◌≡◌, ◌≤◌, [], All, ap, append-nil}
-use Rattle.std.proofs.Common.{append_assoc, arith, Bool, cond, eqb, false, inl, inr, leb, List}
-use Rattle.std.proofs.Common.{None, not, Option, refl, Some, subst, sym, true, ℕ}
-use Rattle.std.proofs.lemmas.Bool.{both_ways, cases_eq, eq-eqb, false_from_ne_true, le-leb}
-use Rattle.std.proofs.lemmas.Bool.{leb-true, not-false, or_parts}
-use Rattle.std.proofs.lemmas.Bool.Decides.{nat_tests}
+use Rattle.std.proofs.Common.{◌&&◌, ◌++◌, ◌+◌, ◌||◌, ◌∙◌, ◌∷◌, ◌≡◌, ◌≤◌, [], All, ap, append-nil, append_assoc, arith}
+use Rattle.std.proofs.Common.{Bool, cond, eqb, false, inl, inr, leb, List, None, not, Option, refl, Some, subst, sym}
+use Rattle.std.proofs.{Common.{true, ℕ}, lemmas.Bool.{both_ways, cases_eq, Decides.{nat_tests}}}
+use Rattle.std.proofs.lemmas.Bool.{eq-eqb, false_from_ne_true, le-leb, leb-true, not-false, or_parts}
 use Rattle.std.proofs.lemmas.List.Concat.{flat_map-append}
-use Rattle.std.proofs.lemmas.List.Elements.{All-append, All-cons, All-head, All-nil, All-tail}
-use Rattle.std.proofs.lemmas.List.Sums.{sum_by-append}
-use Rattle.std.specs.List.{flat_map, list_any}
-use Rattle.std.specs.Option.{is_some, option_map, option_or}
-use Rattle.fc_card.specs.{IsCard}
-use Rattle.fc_board.proofs.BoardLemmas.{All-left, All-right, count_of-append, count_of-cons}
-use Rattle.{fc_board.specs.Games.{Game}, fc_card.specs.{count_of}}
-use Rattle.fc_text.specs.Faults.{cards_of_item, cards_of_word, count_of_lines, count_of_words}
-use Rattle.fc_text.specs.Faults.{fault_of_line, fault_of_part, fault_of_word, first_faulty}
-use Rattle.fc_text.specs.Faults.{has_form, is_past_cells, is_repeated, Item, suits_of_item}
-use Rattle.fc_text.specs.Faults.{suits_of_word}
-use Rattle.fc_text.specs.declared.board.reader.Section.{Section}
-use Rattle.fc_text.specs.declared.board.reader.Section.TheVariants.{Column, Foundations, Freecells}
-use Rattle.fc_text.specs.Spelling.{is_section}
-use Rattle.fc_text.proofs.CardLemmas.{among_counted, cards_held, suits_held}
+use Rattle.std.proofs.lemmas.List.{Elements.{All-append, All-cons, All-head, All-nil, All-tail}, Sums.{sum_by-append}}
+use Rattle.std.specs.{List.{flat_map, list_any}, Option.{is_some, option_map, option_or}}
+use Rattle.fc_card.specs.{count_of, IsCard}
+use Rattle.fc_board.{proofs.BoardLemmas.{All-left, All-right, count_of-append, count_of-cons}, specs.Games.{Game}}
+use Rattle.fc_text.{proofs.CardLemmas.{among_counted, cards_held, suits_held}, specs.Faults.{cards_of_item}}
+use Rattle.fc_text.specs.Faults.{cards_of_word, count_of_lines, count_of_words, fault_of_line, fault_of_part}
+use Rattle.fc_text.specs.Faults.{fault_of_word, first_faulty, has_form, is_past_cells, is_repeated, Item, suits_of_item}
+use Rattle.fc_text.specs.{Faults.{suits_of_word}, Spelling.{is_section}}
+use Rattle.fc_text.specs.declared.board.reader.Section.{Section, TheVariants.{Column, Foundations, Freecells}}
 
 -- ---- numbers that are in a list
 

@@ -1,25 +1,16 @@
 -- What the words of a text spell, one by one, and how often each card is on the board that they give.
-use Rattle.std.proofs.Common.{◌++◌, ◌+◌, ◌<◌, ◌∙◌, ◌∷◌, ◌≡◌, ◌≢◌, ◌≤◌, ◌⊎◌, [], All, ap, append-nil}
-use Rattle.std.proofs.Common.{arith, Bool, cond, drop, eqb, false, get_or, inl, inr, leb, List, map}
-use Rattle.std.proofs.Common.{None, Option, refl, replicate, Some, suc, sym, true, zero, ℕ}
-use Rattle.std.proofs.lemmas.Bool.{cases_eq, eq-eqb, ne_eqb}
-use Rattle.std.proofs.lemmas.Bool.Decides.{leb_tells}
+use Rattle.std.proofs.Common.{◌++◌, ◌+◌, ◌<◌, ◌∙◌, ◌∷◌, ◌≡◌, ◌≢◌, ◌≤◌, ◌⊎◌, [], All, ap, append-nil, arith, Bool, cond}
+use Rattle.std.proofs.Common.{drop, eqb, false, get_or, inl, inr, leb, List, map, None, Option, refl, replicate, Some}
+use Rattle.std.proofs.{Common.{suc, sym, true, zero, ℕ}, lemmas.Bool.{cases_eq, Decides.{leb_tells}, eq-eqb, ne_eqb}}
 use Rattle.std.proofs.lemmas.List.Concat.{flat_map-append}
-use Rattle.std.proofs.lemmas.List.Elements.{All-append, All-cons, All-head, All-nil, All-tail}
-use Rattle.std.proofs.lemmas.List.Sums.{sum_by-cons}
-use Rattle.std.specs.List.{cons_option, flat_map}
-use Rattle.std.specs.Option.{is_some, option_to_list}
-use Rattle.fc_card.specs.{rank_of, suit_of}
+use Rattle.std.proofs.lemmas.List.{Elements.{All-append, All-cons, All-head, All-nil, All-tail}, Sums.{sum_by-cons}}
+use Rattle.std.specs.{List.{cons_option, flat_map}, Option.{is_some, option_to_list}}
+use Rattle.fc_card.specs.{count_of, rank_of, suit_of}
 use Rattle.fc_board.proofs.BoardLemmas.{All-left, All-right, count_of-append, count_of-cons}
-use Rattle.fc_card.specs.{count_of}
-use Rattle.fc_text.specs.{Faults.{cards_at_home, suits_of_word}, Lines.{Piece}}
-use Rattle.fc_text.specs.{Rows.{Row}, Spelling.{all_spelled, card_spelled, count_of_suit}}
-use Rattle.fc_text.specs.Spelling.{foundation_spelled, height_in}
-use Rattle.fc_text.specs.declared.board.reader.Section.TheVariants.{Foundations}
-use Rattle.fc_text.specs.declared.board.spelling.Foundation.{Foundation}
-use Rattle.fc_text.specs.Spelling.{heights_of, OneByOne}
-use Rattle.fc_text.proofs.CardLemmas.{foundation_spelled-IsFoundation, IsFoundation, none_from_run}
-use Rattle.fc_text.proofs.CardLemmas.{one_of_run}
+use Rattle.fc_text.proofs.CardLemmas.{foundation_spelled-IsFoundation, IsFoundation, none_from_run, one_of_run}
+use Rattle.fc_text.specs.{Faults.{cards_at_home, suits_of_word}, Lines.{Piece}, Rows.{Row}, Spelling.{all_spelled}}
+use Rattle.fc_text.specs.Spelling.{card_spelled, count_of_suit, foundation_spelled, height_in, heights_of, OneByOne}
+use Rattle.fc_text.specs.declared.board.{reader.Section.TheVariants.{Foundations}, spelling.Foundation.{Foundation}}
 
 -- ---- words that spell items one by one
 

@@ -1,9 +1,8 @@
 -- The printed text of a board spells it, and no other.
 use Rattle.std.proofs.Common.{◌∙◌, ◌≡◌, List, subst, sym, ℕ}
 use Rattle.fc_board.specs.{Boards.{Board, IsWellFormed}, Games.{Game}}
-use Rattle.fc_text.specs.{Printed.{text_of}, Spelling.{Spells}}
-use Rattle.fc_text.proofs.PrintedTextLemmas.{text_spells}
-use Rattle.fc_text.proofs.ReadingLemmas.{Spells-board_of}
+use Rattle.fc_text.{proofs.{PrintedTextLemmas.{text_spells}, ReadingLemmas.{Spells-board_of}}, specs.Printed.{text_of}}
+use Rattle.fc_text.specs.Spelling.{Spells}
 
 -- a text that is printed of a well-formed board spells it
 pub spelled : (game : Game) (board : Board) (text : List ℕ) → IsWellFormed game board → text ≡ text_of board → Spells game text board

@@ -1,28 +1,18 @@
 -- Items that are taken one list after another, line by line and word by word.
-use Rattle.std.proofs.Common.{◌&&◌, ◌++◌, ◌+◌, ◌-◌, ◌<◌, ◌||◌, ◌∙◌, ◌∷◌, ◌≡◌, ◌≤◌, ◌⊎◌, [], All, ap}
-use Rattle.std.proofs.Common.{append-nil, arith, Bool, cond, drop, drop-drop, false, get_or, inl}
-use Rattle.std.proofs.Common.{inr, leb, length, length-append, List, ltb, map, min, None, not}
-use Rattle.std.proofs.Common.{Option, refl, Some, suc, sym, take, true, zero, ℕ}
-use Rattle.std.proofs.lemmas.Bool.{both_ways}
-use Rattle.std.proofs.lemmas.Bool.Decides.{leb_tells, nat_tests}
-use Rattle.std.proofs.lemmas.List.{drop_more, length-drop, length-take, take-append-drop}
-use Rattle.std.proofs.lemmas.List.Elements.{All-cons, All-nil}
-use Rattle.std.proofs.lemmas.List.Sums.{prefix_len-le-length}
-use Rattle.std.specs.List.{flat_map, prefix_len}
-use Rattle.std.specs.Option.{option_or}
+use Rattle.std.proofs.Common.{◌&&◌, ◌++◌, ◌+◌, ◌-◌, ◌<◌, ◌||◌, ◌∙◌, ◌∷◌, ◌≡◌, ◌≤◌, ◌⊎◌, [], All, ap, append-nil, arith}
+use Rattle.std.proofs.Common.{Bool, cond, drop, drop-drop, false, get_or, inl, inr, leb, length, length-append, List}
+use Rattle.std.proofs.Common.{ltb, map, min, None, not, Option, refl, Some, suc, sym, take, true, zero, ℕ}
+use Rattle.std.proofs.lemmas.{Bool.{both_ways, Decides.{leb_tells, nat_tests}}, List.{drop_more}}
+use Rattle.std.proofs.lemmas.List.{Elements.{All-cons, All-nil}, length-drop, length-take, Sums.{prefix_len-le-length}}
+use Rattle.std.{proofs.lemmas.List.{take-append-drop}, specs.{List.{flat_map, prefix_len}, Option.{option_or}}}
 use Rattle.fc_board.specs.Games.{Game}
-use Rattle.fc_text.specs.{Bytes.{is_gap}, Faults.{Item, items_of_row}}
-use Rattle.fc_text.specs.{Lines.{lines_from, Piece, words_from}, Rows.{Blank, column_row}}
-use Rattle.fc_text.specs.Rows.{columns_left, Comment, Content, is_empty, Line, line_of, Row}
-use Rattle.fc_text.specs.Rows.{rows_of, rows_within}
-use Rattle.fc_text.specs.declared.board.reader.Section.{Section}
-use Rattle.fc_text.specs.declared.board.reader.Section.TheVariants.{Column, Foundations, Freecells}
-use Rattle.fc_text.specs.Spelling.{card_spelled}
-use Rattle.fc_text.proofs.WordLemmas.{EndsWord, first_word}
-use Rattle.fc_text.proofs.KnownLemmas.{length-with_card}
-use Rattle.fc_text.specs.reader.{after_item, after_items, after_part, first_known_fault, has_room}
-use Rattle.fc_text.specs.reader.{is_begun, items_of_words, known_fault, Known, rows_after}
-use Rattle.fc_text.specs.reader.{rows_left, rows_of_line, nothing_known}
+use Rattle.fc_text.{proofs.{KnownLemmas.{length-with_card}, WordLemmas.{EndsWord, first_word}}, specs.Bytes.{is_gap}}
+use Rattle.fc_text.specs.{Faults.{Item, items_of_row}, Lines.{lines_from, Piece, words_from}, reader.{after_item}}
+use Rattle.fc_text.specs.reader.{after_items, after_part, first_known_fault, has_room, is_begun, items_of_words, Known}
+use Rattle.fc_text.specs.{reader.{known_fault, nothing_known, rows_after, rows_left, rows_of_line}, Rows.{Blank}}
+use Rattle.fc_text.specs.Rows.{column_row, columns_left, Comment, Content, is_empty, Line, line_of, Row, rows_of}
+use Rattle.fc_text.specs.{Rows.{rows_within}, Spelling.{card_spelled}}
+use Rattle.fc_text.specs.declared.board.reader.Section.{Section, TheVariants.{Column, Foundations, Freecells}}
 
 -- ---- one list of items after another
 

@@ -1,30 +1,20 @@
 -- The letters of sources and targets, read back: a word names at most one move of a game.
-use Rattle.std.proofs.Common.{◌%◌, ◌*◌, ◌+◌, ◌/◌, ◌<◌, ◌==◌, ◌||◌, ◌↔◌, ◌∙◌, ◌∷◌, ◌≡◌, ◌≤◌, [], All}
-use Rattle.std.proofs.Common.{ap, ap₂, arith, Bool, cond, false, get_or-take, IfSome, inl, inr}
-use Rattle.std.proofs.Common.{length, length-take, List, ltb, None, not, Option, refl, slice_index}
-use Rattle.std.proofs.Common.{Some, subst, suc, sym, take, true, zero, ℕ}
-use Rattle.std.proofs.lemmas.Bool.{agree_below, agree_below_at, both_ways, eqb-true, lt-ltb}
-use Rattle.std.proofs.lemmas.Bool.{not-true, or_cases}
-use Rattle.std.proofs.lemmas.List.Elements.{All-cons, All-head, All-nil, All-tail}
-use Rattle.std.proofs.lemmas.List.Quantifiers.{position-Some}
-use Rattle.std.proofs.lemmas.Option.{option_and_then_some, same_Some}
-use Rattle.std.specs.Char.{to_ascii_lowercase}
-use Rattle.std.specs.Option.{option_and_then, option_map, option_or}
-use Rattle.std.specs.Str.{str_to_ascii_lowercase}
+use Rattle.std.proofs.Common.{◌%◌, ◌*◌, ◌+◌, ◌/◌, ◌<◌, ◌==◌, ◌||◌, ◌↔◌, ◌∙◌, ◌∷◌, ◌≡◌, ◌≤◌, [], All, ap, ap₂, arith}
+use Rattle.std.proofs.Common.{Bool, cond, false, get_or-take, IfSome, inl, inr, length, length-take, List, ltb, None}
+use Rattle.std.proofs.Common.{not, Option, refl, slice_index, Some, subst, suc, sym, take, true, zero, ℕ}
+use Rattle.std.proofs.lemmas.Bool.{agree_below, agree_below_at, both_ways, eqb-true, lt-ltb, not-true, or_cases}
+use Rattle.std.proofs.lemmas.List.{Elements.{All-cons, All-head, All-nil, All-tail}, Quantifiers.{position-Some}}
+use Rattle.std.{proofs.lemmas.Option.{option_and_then_some, same_Some}, specs.Char.{to_ascii_lowercase}}
+use Rattle.std.specs.{Option.{option_and_then, option_map, option_or}, Str.{str_to_ascii_lowercase}}
 use Rattle.fc_card.proofs.Letters.{answers, answers-true}
-use Rattle.fc_board.proofs.ListCarried.{mapped_some}
-use Rattle.fc_board.specs.{Games.{Game}, Moves.{Fits, move_between, PlaceFits, SourceFits}}
-use Rattle.fc_text.specs.{Bytes.{blank, carriage_return, line_feed, tab}, Notation.{cell_letters}}
-use Rattle.fc_text.specs.Notation.{column_digits, home_letter, IsToken, separates_tokens}
-use Rattle.fc_text.specs.Notation.{source_character, target_character, token}
-use Rattle.fc_board.specs.declared.moves.Move.{Move}
-use Rattle.fc_board.specs.declared.moves.Place.{Place}
-use Rattle.fc_board.specs.declared.moves.Place.TheVariants.{Cell as ToCell, Column as ToColumn}
-use Rattle.fc_board.specs.declared.moves.Place.TheVariants.{Home}
-use Rattle.fc_board.specs.declared.moves.Source.{Source}
+use Rattle.fc_board.{proofs.ListCarried.{mapped_some}, specs.Games.{Game}}
+use Rattle.fc_board.specs.Moves.{Fits, move_between, PlaceFits, SourceFits}
+use Rattle.fc_board.specs.declared.moves.{Move.{Move}, Place.{Place}}
+use Rattle.fc_board.specs.declared.moves.{Place.TheVariants.{Cell as ToCell, Column as ToColumn, Home}, Source.{Source}}
 use Rattle.fc_board.specs.declared.moves.Source.TheVariants.{Cell as FromCell, Column as FromColumn}
-use Rattle.fc_text.specs.reader.{index_among, IsInOnePiece, move_named, move_of_two, source_named}
-use Rattle.fc_text.specs.reader.{target_named}
+use Rattle.fc_text.specs.{Bytes.{blank, carriage_return, line_feed, tab}, Notation.{cell_letters, column_digits}}
+use Rattle.fc_text.specs.Notation.{home_letter, IsToken, separates_tokens, source_character, target_character, token}
+use Rattle.fc_text.specs.reader.{index_among, IsInOnePiece, move_named, move_of_two, source_named, target_named}
 
 -- ---- the letters in tables
 abbrev column_digit : ℕ → ℕ

@@ -1,42 +1,27 @@
 -- Once a whole text is read, what is known is the board that its words give, and what its deck misses is the last fault.
-use Rattle.std.proofs.Common.{◌++◌, ◌<◌, ◌∙◌, ◌∷◌, ◌≡◌, [], ap, append-nil, append_assoc, arith}
-use Rattle.std.proofs.Common.{Bool, cond, eqb, false, get_or, inl, inr, length, List, map, None}
-use Rattle.std.proofs.Common.{not, Option, refl, Some, subst, sym, true, ℕ}
-use Rattle.std.proofs.lemmas.Bool.{cases_Bool}
-use Rattle.std.proofs.lemmas.List.Concat.{flat_map-append}
-use Rattle.std.proofs.lemmas.List.Elements.{filter_map-append}
-use Rattle.std.proofs.lemmas.List.Folds.{find_at}
-use Rattle.std.proofs.lemmas.List.FromFn.{get_or-range_with_len, length-range_with_len}
-use Rattle.std.proofs.lemmas.List.Sums.{position_or_len_is}
-use Rattle.std.proofs.lemmas.Option.{slice_get-get_or}
-use Rattle.std.specs.List.{cons_option, flat_map, list_any, position_or_len, range_with_len}
-use Rattle.std.specs.List.{slice_get}
+use Rattle.std.proofs.Common.{◌++◌, ◌<◌, ◌∙◌, ◌∷◌, ◌≡◌, [], ap, append-nil, append_assoc, arith, Bool, cond, eqb, false}
+use Rattle.std.proofs.Common.{get_or, inl, inr, length, List, map, None, not, Option, refl, Some, subst, sym, true, ℕ}
+use Rattle.std.proofs.lemmas.{Bool.{cases_Bool}, List.{Concat.{flat_map-append}, Elements.{filter_map-append}}}
+use Rattle.std.proofs.lemmas.List.{Folds.{find_at}, FromFn.{get_or-range_with_len, length-range_with_len}}
+use Rattle.std.proofs.lemmas.{List.Sums.{position_or_len_is}, Option.{slice_get-get_or}}
+use Rattle.std.specs.List.{cons_option, flat_map, list_any, position_or_len, range_with_len, slice_get}
 use Rattle.std.specs.Option.{option_map, option_or, option_to_list}
-use Rattle.fc_card.specs.{IsLowest, NoCard, suit_of}
-use Rattle.fc_board.proofs.BoardLemmas.{parts_same}
-use Rattle.fc_card.specs.{count_of}
-use Rattle.fc_board.specs.{Boards.{Board, count_of_places, HasEachCardOnce}, Games.{Game}}
-use Rattle.fc_text.specs.Faults.{cards_of_item, first_fault, Item, items_of, items_of_row}
-use Rattle.fc_text.specs.{Faults.{lowest_missing, missing_card}, Lines.{lines_from, Piece}}
-use Rattle.fc_text.specs.Rows.{line_of, Row, rows_of}
-use Rattle.fc_text.specs.Spelling.{all_spelled, board_of, card_spelled, cell_spelled}
-use Rattle.fc_text.specs.declared.board.reader.Section.{Section}
-use Rattle.fc_text.specs.declared.board.reader.Section.TheVariants.{Column, Foundations, Freecells}
-use Rattle.fc_text.specs.declared.board.spelling.Foundation.{Foundation}
-use Rattle.fc_text.specs.Spelling.{foundation_spelled, height_in, heights_of, is_section, lines_of}
-use Rattle.fc_text.specs.Spelling.{padded_with, Spells, words_of}
-use Rattle.fc_text.proofs.KeptLemmas.{add-append}
-use Rattle.fc_text.proofs.KnownLemmas.{cells_known, cells_of_word, columns_from, columns_known}
-use Rattle.fc_text.proofs.KnownLemmas.{foundations_of_word, heights_known, length-heights}
-use Rattle.fc_text.proofs.KnownLemmas.{same_first_fault, seen_known}
-use Rattle.fc_text.proofs.ReadingLemmas.{all_present, count_of_board, Spells-from_faultless}
-use Rattle.fc_text.proofs.ReadingLemmas.{suits_once}
-use Rattle.fc_text.proofs.RowLemmas.{words_of-cons}
-use Rattle.fc_text.proofs.SoundLemmas.{present, Sound, Sound-from_faultless, Sound-nil}
-use Rattle.fc_text.proofs.SpelledLemmas.{line_cards}
-use Rattle.fc_text.specs.reader.{after_items, board_known, first_known_fault, is_seen, items_left}
-use Rattle.fc_text.specs.reader.{items_of_words, known_height, Known, nothing_known, with_card}
-use Rattle.fc_text.specs.declared.fault.BoardFault.{BoardFault}
+use Rattle.fc_card.specs.{count_of, IsLowest, NoCard, suit_of}
+use Rattle.fc_board.{proofs.BoardLemmas.{parts_same}, specs.Boards.{Board, count_of_places, HasEachCardOnce}}
+use Rattle.fc_board.specs.Games.{Game}
+use Rattle.fc_text.{
+  proofs.{KeptLemmas.{add-append}, KnownLemmas.{cells_known, cells_of_word, columns_from, columns_known}},
+  proofs.KnownLemmas.{foundations_of_word, heights_known, length-heights, same_first_fault, seen_known},
+  proofs.{ReadingLemmas.{all_present, count_of_board, Spells-from_faultless, suits_once}, RowLemmas.{words_of-cons}},
+  proofs.{SoundLemmas.{present, Sound, Sound-from_faultless, Sound-nil}, SpelledLemmas.{line_cards}},
+  specs.Faults.{cards_of_item, first_fault, Item, items_of, items_of_row, lowest_missing, missing_card},
+  specs.{Lines.{lines_from, Piece}, reader.{after_items, board_known, first_known_fault, is_seen, items_left}},
+  specs.{reader.{items_of_words, Known, known_height, nothing_known, with_card}, Rows.{line_of, Row, rows_of}},
+  specs.Spelling.{all_spelled, board_of, card_spelled, cell_spelled, foundation_spelled, height_in, heights_of},
+  specs.Spelling.{is_section, lines_of, padded_with, Spells, words_of},
+}
+use Rattle.fc_text.specs.declared.board.reader.Section.{Section, TheVariants.{Column, Foundations, Freecells}}
+use Rattle.fc_text.specs.declared.{board.spelling.Foundation.{Foundation}, fault.BoardFault.{BoardFault}}
 use Rattle.fc_text.specs.declared.fault.BoardFaultKind.TheVariants.{MissingCard}
 
 -- ---- the foundations and the cells that the items name are those that the words of their lines spell

@@ -1,14 +1,10 @@
 -- The words that are found byte by byte are all words of the text, and no other list has all of them in order; and the words of texts that begin with one.
-use Rattle.std.proofs.Common.{◌++◌, ◌+◌, ◌<◌, ◌∙◌, ◌∷◌, ◌≡◌, ◌≢◌, ◌≤◌, ◌⊎◌, [], All, ap, ap₂, arith}
-use Rattle.std.proofs.Common.{Bool, cond, false, inl, inr, length, length-append, List, map, refl}
-use Rattle.std.proofs.Common.{subst, suc, sym, true, zero, ℕ}
+use Rattle.std.proofs.Common.{◌++◌, ◌+◌, ◌<◌, ◌∙◌, ◌∷◌, ◌≡◌, ◌≢◌, ◌≤◌, ◌⊎◌, [], All, ap, ap₂, arith, Bool, cond, false}
+use Rattle.std.proofs.Common.{inl, inr, length, length-append, List, map, refl, subst, suc, sym, true, zero, ℕ}
 use Rattle.std.proofs.lemmas.Bool.{both_ways, cases_Bool, cases_eq, eq-eqb, ne_eqb}
-use Rattle.std.proofs.lemmas.List.Elements.{All-cons, All-contains, All-head, All-nil, All-tail}
-use Rattle.std.proofs.lemmas.List.Elements.{All-weaker}
-use Rattle.std.proofs.lemmas.List.Kept.{AllPairs-cons}
-use Rattle.std.specs.List.{AllPairs, Contains}
-use Rattle.fc_text.proofs.PieceLemmas.{front, front_piece, later_piece, not_nothing, of_no_length}
-use Rattle.fc_text.proofs.PieceLemmas.{same_after, StartAt}
+use Rattle.std.proofs.lemmas.List.Elements.{All-cons, All-contains, All-head, All-nil, All-tail, All-weaker}
+use Rattle.std.{proofs.lemmas.List.Kept.{AllPairs-cons}, specs.List.{AllPairs, Contains}}
+use Rattle.fc_text.proofs.PieceLemmas.{front, front_piece, later_piece, not_nothing, of_no_length, same_after, StartAt}
 use Rattle.fc_text.specs.Lines.{AreWords, in_word, IsPieceOf, IsWord, moved, Piece, words_from}
 
 -- ---- lists in order

@@ -1,19 +1,13 @@
 -- Lemmas on texts that a loop prints, one element of a list after another.
-use Rattle.std.proofs.Common.{◌*◌, ◌++◌, ◌+◌, ◌<◌, ◌∙◌, ◌∷◌, ◌≡◌, ◌≤◌, [], ap, append-nil}
-use Rattle.std.proofs.Common.{append_assoc, ap₂, arith, Bool, drop, get_or, length, length-append}
-use Rattle.std.proofs.Common.{List, None, Option, Some, sym, take, ℕ}
-use Rattle.std.proofs.Math.ListN.{drop_of_length-le}
-use Rattle.std.proofs.Math.Seq.{take-append-add}
-use Rattle.std.proofs.lemmas.List.{drop_more, flat_map_more, length-take-le, take-take, take_all}
-use Rattle.std.proofs.lemmas.List.{take_more}
-use Rattle.std.specs.List.{flat_map}
-use Rattle.std.specs.Option.{option_to_list}
-use Rattle.std.specs.Prelude.{codes}
-use Rattle.fc_board.proofs.BoardLemmas.{columns_together}
-use Rattle.fc_board.specs.{Boards.{Board, IsWellFormed}, Games.{Game, RuleLaws}}
-use Rattle.fc_text.specs.{Bytes.{blank, line_feed}, Printed.{card_word, cell_word, cells_line}}
-use Rattle.fc_text.specs.Printed.{column_line, foundations_line, text_of}
-use Rattle.fc_text.proofs.TextLemmas.{length-by_piles, length-column_line}
+use Rattle.std.proofs.Common.{◌*◌, ◌++◌, ◌+◌, ◌<◌, ◌∙◌, ◌∷◌, ◌≡◌, ◌≤◌, [], ap, append-nil, append_assoc, ap₂, arith}
+use Rattle.std.proofs.Common.{Bool, drop, get_or, length, length-append, List, None, Option, Some, sym, take, ℕ}
+use Rattle.std.proofs.lemmas.List.{drop_more, flat_map_more, length-take-le, take-take, take_all, take_more}
+use Rattle.std.{proofs.Math.{ListN.{drop_of_length-le}, Seq.{take-append-add}}, specs.List.{flat_map}}
+use Rattle.std.specs.{Option.{option_to_list}, Prelude.{codes}}
+use Rattle.fc_board.{proofs.BoardLemmas.{columns_together}, specs.Boards.{Board, IsWellFormed}}
+use Rattle.fc_board.specs.Games.{Game, RuleLaws}
+use Rattle.fc_text.{proofs.TextLemmas.{length-by_piles, length-column_line}, specs.Bytes.{blank, line_feed}}
+use Rattle.fc_text.specs.Printed.{card_word, cell_word, cells_line, column_line, foundations_line, text_of}
 use Rattle.fc_text.specs.writer.{IsPrintable}
 
 -- what is printed next fits into the whole

@@ -1,6 +1,4 @@
-use Rattle.std.proofs.Common.{◌≡◌, take}
-use Rattle.std.specs.List.{count_by}
-use Rattle.std.specs.Prelude.{is_none}
+use Rattle.std.{proofs.Common.{◌≡◌, take}, specs.{List.{count_by}, Prelude.{is_none}}}
 use Rattle.fc_board.proofs.board.count_empty_cells.Given as goal
 
 abbrev pub invariant-loop-cell : goal.invariant-loop-cell

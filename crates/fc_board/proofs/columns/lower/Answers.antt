@@ -1,5 +1,4 @@
-use Rattle.std.proofs.Common.{rules}
-use Rattle.fc_board.proofs.ShiftLemmas.{lowered_lanes}
+use Rattle.{fc_board.proofs.ShiftLemmas.{lowered_lanes}, std.proofs.Common.{rules}}
 use Rattle.fc_board.proofs.columns.lower.Goals as goal
 
 pub returns : goal.returns

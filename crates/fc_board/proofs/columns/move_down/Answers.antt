@@ -1,5 +1,4 @@
-use Rattle.std.proofs.Common.{arith}
-use Rattle.std.proofs.lemmas.Grind.{common_steps}
+use Rattle.std.proofs.{Common.{arith}, lemmas.Grind.{common_steps}}
 use Rattle.fc_board.proofs.columns.move_down.Goals as goal
 
 pub returns-clause-moved : goal.returns-clause-moved

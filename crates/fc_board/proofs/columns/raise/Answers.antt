@@ -1,5 +1,4 @@
-use Rattle.std.proofs.Common.{rules}
-use Rattle.fc_board.proofs.ShiftLemmas.{raised_lanes}
+use Rattle.{fc_board.proofs.ShiftLemmas.{raised_lanes}, std.proofs.Common.{rules}}
 use Rattle.fc_board.proofs.columns.raise.Goals as goal
 
 pub returns : goal.returns

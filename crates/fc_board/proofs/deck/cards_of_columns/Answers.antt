@@ -1,10 +1,6 @@
-use Rattle.arrayvec.specs.ArrayVec.{ArrayVec}
+use Rattle.{arrayvec.specs.ArrayVec.{ArrayVec}, fc_board.proofs.CountedLemmas.{AreCountsOf-next}}
 use Rattle.std.proofs.Common.{◌∙◌, ap, arith, sym, ℕ}
-use Rattle.fc_board.proofs.CountedLemmas.{AreCountsOf-next}
 use Rattle.fc_board.proofs.deck.cards_of_columns.Goals as goal
-
-pub loop-column-init : goal.loop-column-init
-loop-column-init c = c.new-cards.ensures
 
 pub loop-column-preserved : goal.loop-column-preserved
 loop-column-preserved c =

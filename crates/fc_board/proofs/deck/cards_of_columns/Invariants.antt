@@ -1,6 +1,4 @@
-use Rattle.std.proofs.Common.{take}
-use Rattle.std.specs.List.{flat_map}
-use Rattle.fc_card.specs.{AreCountsOf}
+use Rattle.{fc_card.specs.{AreCountsOf}, std.{proofs.Common.{take}, specs.List.{flat_map}}}
 use Rattle.fc_board.proofs.deck.cards_of_columns.Given as goal
 
 abbrev pub invariant-loop-column : goal.invariant-loop-column

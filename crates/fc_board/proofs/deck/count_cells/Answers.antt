@@ -1,5 +1,4 @@
-use Rattle.std.proofs.Common.{◌<◌, ◌∙◌, arith, length}
-use Rattle.std.specs.Option.{option_to_list}
+use Rattle.std.{proofs.Common.{◌<◌, ◌∙◌, arith, length}, specs.Option.{option_to_list}}
 use Rattle.fc_card.proofs.CardSetLemmas.{AreCounted-nil, AreCounted-one}
 use Rattle.fc_board.proofs.CountedLemmas.{AreCounted-next}
 use Rattle.fc_board.proofs.deck.count_cells.Goals as goal

@@ -1,6 +1,4 @@
-use Rattle.std.proofs.Common.{take}
-use Rattle.std.specs.List.{flat_map}
-use Rattle.std.specs.Option.{option_to_list}
+use Rattle.std.{proofs.Common.{take}, specs.{List.{flat_map}, Option.{option_to_list}}}
 use Rattle.fc_card.proofs.CardSetLemmas.{AreCounted}
 use Rattle.fc_board.proofs.deck.count_cells.Given as goal
 

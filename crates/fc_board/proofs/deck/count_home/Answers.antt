@@ -1,5 +1,4 @@
-use Rattle.std.proofs.Common.{◌∙◌, arith, sym}
-use Rattle.std.proofs.lemmas.Grind.{get_or_default_zero}
+use Rattle.std.proofs.{Common.{◌∙◌, arith, sym}, lemmas.Grind.{get_or_default_zero}}
 use Rattle.fc_board.proofs.CountedLemmas.{CountsHome-by_suits}
 use Rattle.fc_board.proofs.deck.count_home.Goals as goal
 

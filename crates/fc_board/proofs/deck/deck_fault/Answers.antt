@@ -1,6 +1,4 @@
-use Rattle.std.specs.List.{flat_map}
-use Rattle.std.specs.Option.{option_to_list}
-use Rattle.fc_board.proofs.CountedLemmas.{fault_found}
+use Rattle.{fc_board.proofs.CountedLemmas.{fault_found}, std.specs.{List.{flat_map}, Option.{option_to_list}}}
 use Rattle.fc_board.proofs.deck.deck_fault.Goals as goal
 
 pub returns-clause-fault : goal.returns-clause-fault

@@ -1,5 +1,4 @@
-use Rattle.std.proofs.Common.{◌-◌, arith, drop, length}
-use Rattle.std.proofs.lemmas.List.{length-drop, length-take}
+use Rattle.std.proofs.{Common.{◌-◌, arith, drop, length}, lemmas.List.{length-drop, length-take}}
 use Rattle.fc_board.proofs.ExpansionLemmas.{in_parts, part_sizes}
 use Rattle.fc_board.proofs.expansion.+put_expansion.Goals as goal
 

@@ -1,5 +1,4 @@
-use Rattle.std.proofs.Common.{◌∙◌, ap, arith, map, sym}
-use Rattle.std.proofs.lemmas.List.{take_all}
+use Rattle.std.proofs.{Common.{◌∙◌, ap, arith, map, sym}, lemmas.List.{take_all}}
 use Rattle.fc_bytes.specs.inside.{card_decoded}
 use Rattle.fc_bytes.proofs.board.cards_of.Goals as goal
 

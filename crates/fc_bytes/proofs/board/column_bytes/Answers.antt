@@ -1,8 +1,6 @@
-use Rattle.std.proofs.Common.{◌≤◌, ◌∙◌, ap, arith, length, map}
-use Rattle.fc_bytes.proofs.LaidBytes.{between-mapped, laid-flat, last-bound, lengths-mapped}
-use Rattle.fc_bytes.proofs.LaidBytes.{nine-bounds}
-use Rattle.fc_bytes.specs.{padded}
-use Rattle.fc_bytes.specs.inside.{card_byte}
+use Rattle.std.proofs.Common.{◌∙◌, ◌≤◌, ap, arith, length, map}
+use Rattle.fc_bytes.proofs.LaidBytes.{between-mapped, laid-flat, last-bound, lengths-mapped, nine-bounds}
+use Rattle.fc_bytes.specs.{inside.{card_byte}, padded}
 use Rattle.fc_bytes.proofs.board.column_bytes.Goals as goal
 
 pub bytes_before-requires : goal.bytes_before-requires

@@ -1,5 +1,4 @@
-use Rattle.std.proofs.Common.{arith}
-use Rattle.std.proofs.lemmas.List.FromFn.{get_or-map-range_with_len}
+use Rattle.std.proofs.{Common.{arith}, lemmas.List.FromFn.{get_or-map-range_with_len}}
 use Rattle.fc_bytes.proofs.board.place_as_byte.Goals as goal
 
 pub returns : goal.returns

@@ -1,9 +1,6 @@
-use Rattle.std.proofs.Common.{◌∙◌, ap, arith, length, List, map, ℕ}
-use Rattle.std.specs.List.{flat_map}
-use Rattle.fc_board.specs.inside.{columns_between}
-use Rattle.fc_card.specs.{pick, renamed_code}
-use Rattle.fc_bytes.proofs.CarriedBytes.{AreRenamed, carried_fit, carried_flat, carried_lengths}
-use Rattle.fc_bytes.specs.{padded}
+use Rattle.std.{proofs.Common.{◌∙◌, ap, arith, length, List, map, ℕ}, specs.List.{flat_map}}
+use Rattle.{fc_board.specs.inside.{columns_between}, fc_card.specs.{pick, renamed_code}}
+use Rattle.fc_bytes.{proofs.CarriedBytes.{AreRenamed, carried_fit, carried_flat, carried_lengths}, specs.{padded}}
 use Rattle.fc_bytes.proofs.carried.carried_columns.Goals as goal
 
 pub put_in_order-end-requires-clause-room : goal.put_in_order-end-requires-clause-room

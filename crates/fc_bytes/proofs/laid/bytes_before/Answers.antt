@@ -1,5 +1,4 @@
-use Rattle.std.proofs.Common.{arith}
-use Rattle.fc_bytes.proofs.LaidBytes.{before-there}
+use Rattle.{fc_bytes.proofs.LaidBytes.{before-there}, std.proofs.Common.{arith}}
 use Rattle.fc_bytes.proofs.laid.bytes_before.Goals as goal
 
 pub returns : goal.returns

@@ -1,6 +1,4 @@
-use Rattle.std.proofs.Common.{arith, refl}
-use Rattle.std.proofs.lemmas.List.Elements.{All-replicate}
-use Rattle.fc_card.specs.{IsCode}
+use Rattle.{fc_card.specs.{IsCode}, std.proofs.{Common.{arith, refl}, lemmas.List.Elements.{All-replicate}}}
 use Rattle.fc_bytes.proofs.laid.bytes_of_laid.Goals as goal
 
 pub loop-place-init : goal.loop-place-init

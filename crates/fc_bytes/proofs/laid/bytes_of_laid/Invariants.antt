@@ -1,6 +1,5 @@
 use Rattle.std.proofs.Common.{◌≡◌, All, length, map, take}
-use Rattle.fc_card.specs.{IsCode}
-use Rattle.fc_bytes.specs.inside.{card_byte}
+use Rattle.{fc_bytes.specs.inside.{card_byte}, fc_card.specs.{IsCode}}
 use Rattle.fc_bytes.proofs.laid.bytes_of_laid.Given as goal
 
 abbrev pub invariant-loop-place : goal.invariant-loop-place

@@ -1,8 +1,6 @@
 use Rattle.std.proofs.Common.{◌++◌, ◌+◌, ◌-◌, ◌∙◌, ◌≡◌, ◌≤◌, ap, arith, drop, length, take}
-use Rattle.std.proofs.lemmas.List.{Elements.{All-get_or}, length-drop, length-take-le}
-use Rattle.std.specs.List.{slice_range}
-use Rattle.fc_bytes.proofs.LaidBytes.{all-joined, all-put, ArePieces, joined-long, joined-put}
-use Rattle.fc_bytes.proofs.LaidBytes.{joined-room, pieces-of}
+use Rattle.std.{proofs.lemmas.List.{Elements.{All-get_or}, length-drop, length-take-le}, specs.List.{slice_range}}
+use Rattle.fc_bytes.proofs.LaidBytes.{all-joined, all-put, ArePieces, joined-long, joined-put, joined-room, pieces-of}
 use Rattle.fc_bytes.proofs.laid.put_short.Goals as goal
 
 pub put-requires : goal.put-requires

@@ -5,9 +5,6 @@ use Rattle.fc_closed.proofs.check.check_keys.Goals as goal
 pub check_play-requires : goal.check_play-requires
 check_play-requires g c = c.in-Ok.ensures.keys refl
 
-pub returns-in-Ok-clause-closed : goal.returns-in-Ok-clause-closed
-returns-in-Ok-clause-closed g c = c.check_play.ensures.closed
-
 pub returns-in-Ok-clause-unsolvable : goal.returns-in-Ok-clause-unsolvable
 returns-in-Ok-clause-unsolvable g c = λ ok.
     let laws = g.met.R.Rule.rule_laws in

@@ -1,6 +1,6 @@
 use Rattle.std.proofs.{Common.{◌≡◌, ◌≤◌, arith, length, refl, subst}, lemmas.List.{get_or_default}}
-use Rattle.fc_closed.proofs.KeysLemmas.{ascend_at, closed_keys, holds_at, in_play, not_closed}
-use Rattle.fc_closed.{proofs.KeysLemmas.{shut_more}, specs.{AreShutTo, IsShut}}
+use Rattle.fc_closed.proofs.KeysLemmas.{ascend_at, closed_keys, holds_at, in_play, not_closed, shut_more}
+use Rattle.fc_closed.specs.{AreShutTo, IsShut}
 use Rattle.fc_closed.proofs.check.check_play.Goals as goal
 
 pub flaw_in_play-requires-clause-board : goal.flaw_in_play-requires-clause-board
@@ -9,10 +9,6 @@ flaw_in_play-requires-clause-board g c =
 
 pub flaw_in_play-requires-clause-above : goal.flaw_in_play-requires-clause-above
 flaw_in_play-requires-clause-above g c = ascend_at g.R.Rule.game g.R.Rule.renamings c.args.keys.now c.requires
-
-pub returns-in-Some-clause-flaw : goal.returns-in-Some-clause-flaw
-returns-in-Some-clause-flaw g c =
-    in_play g.R.Rule.game g.R.Rule.renamings c.args.keys.now c.loop-place.place _ c.requires c.loop-place.invariant c.loop-place-test.true c.in-Some.flaw (c.in-Some.ensures.flaw)
 
 pub loop-place-preserved : goal.loop-place-preserved
 loop-place-preserved g c =

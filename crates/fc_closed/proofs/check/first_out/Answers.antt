@@ -1,6 +1,5 @@
 use Rattle.std.proofs.{Common.{◌<◌, ◌∙◌, ◌≡◌, ap, arith, get_or, length}, lemmas.List.{length-map}}
-use Rattle.fc_board.specs.Moves.{move_between}
-use Rattle.fc_board.specs.declared.moves.{Place.TheVariants.{Home}, Source.TheVariants.{Column}}
+use Rattle.fc_board.specs.{declared.moves.{Place.TheVariants.{Home}, Source.TheVariants.{Column}}, Moves.{move_between}}
 use Rattle.fc_bytes.{proofs.LegalMoves.{listed_there}, specs.{legal_moves, move_bytes}}
 use Rattle.fc_closed.proofs.OutLemmas.{first_to_lead_out, stay_all, stay_more}
 use Rattle.fc_closed.proofs.check.first_out.Goals as goal

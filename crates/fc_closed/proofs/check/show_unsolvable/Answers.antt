@@ -26,11 +26,3 @@ pub returns-in-Ok-clause-doubt : goal.returns-in-Ok-clause-doubt
 returns-in-Ok-clause-doubt g c =
     doubted g.R.Rule.game g.R.Rule.renamings c.args.board.now c.args.keys.now c.key_of.result c.find_key.result (c.in-Ok.ensures.closed.0 refl)
     (c.key_of.ensures c.args.board.now c.in-Some.ensures.board) c.find_key.ensures.found c.find_key.ensures.absent
-
-pub returns-in-Err-clause-shown : goal.returns-in-Err-clause-shown
-returns-in-Err-clause-shown g c =
-    (λ no. absurd (cc), λ (key, has, inside, are). absurd (let no = c.in-Err.ensures.closed.1 are in cc))
-
-pub returns-in-Err-clause-doubt : goal.returns-in-Err-clause-doubt
-returns-in-Err-clause-doubt g c =
-    ((c.in-Some.held, c.in-Some.ensures.board), λ are. let no = c.in-Err.ensures.closed.1 are in absurd (cc))

@@ -1,6 +1,5 @@
 use Rattle.std.proofs.Common.{◌-◌, ◌<◌, ◌≤◌, get_or, length, ℕ}
-use Rattle.{fc_bytes.specs.{all_bytes}, fc_text.specs.Bytes.{IsLess}}
-use Rattle.fc_bytes.specs.declared.board.BoardBytes.{BoardBytes}
+use Rattle.{fc_bytes.specs.{all_bytes, declared.board.BoardBytes.{BoardBytes}}, fc_text.specs.Bytes.{IsLess}}
 use Rattle.fc_closed.proofs.SearchLemmas.{Ascend}
 use Rattle.fc_closed.proofs.search.first_place.Given as goal
 

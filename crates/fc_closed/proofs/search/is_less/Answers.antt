@@ -1,6 +1,5 @@
 use Rattle.std.proofs.Common.{◌++◌, ◌∙◌, ap, is_lt}
-use Rattle.fc_closed.proofs.OrderLemmas.{by_parts, eight_told, four_told, test_less, test_texts}
-use Rattle.fc_closed.proofs.OrderLemmas.{then_so}
+use Rattle.fc_closed.proofs.OrderLemmas.{by_parts, eight_told, four_told, test_less, test_texts, then_so}
 use Rattle.fc_closed.proofs.search.is_less.Goals as goal
 
 pub returns-then-heights-other_heights : goal.returns-then-heights-other_heights

@@ -1,11 +1,9 @@
 -- Where what is printed for a record goes by none before it, records are printed each by itself, and after the header that went out.
-use Rattle.std.proofs.{Common.{[]}, lemmas.Result.{err_from_is_err_and}}
-use Rattle.std.specs.List.{count_by, flat_map}
+use Rattle.std.{proofs.{Common.{[]}, lemmas.Result.{err_from_is_err_and}}, specs.List.{count_by, flat_map}}
 use Rattle.fc_board.specs.declared.rule.Variant.{Variant}
 use Rattle.fc_record.specs.Printing.{is_refused, printed, printed_with}
 use Rattle.fc_record.specs.Tables.{refusal_object, table_header, table_line, table_object}
-use Rattle.fc_collect.proofs.HeadedLemmas.{Runs-alone, Runs-headed, Runs-unheaded}
-use Rattle.fc_collect.specs.Promises.{Printing}
+use Rattle.fc_collect.{proofs.HeadedLemmas.{Runs-alone, Runs-headed, Runs-unheaded}, specs.Promises.{Printing}}
 use Rattle.fc_collect.proofs.commands.run_table_within.Goals as goal
 
 pub returns-in-Lines : goal.returns-in-Lines

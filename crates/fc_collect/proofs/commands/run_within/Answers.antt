@@ -1,13 +1,10 @@
 -- Where what is printed for a record goes by none before it, records are printed each by itself.
 use Rattle.std.{proofs.Common.{◌∙◌, [], ap}, specs.List.{count_by}}
-use Rattle.fc_record.specs.Printing.{canon_lines, check_lines, expand_lines, is_refused, printed}
-use Rattle.fc_record.specs.Printing.{printed_with, show_lines, symmetry_lines}
-use Rattle.fc_record.specs.Tables.{refusal_object}
-use Rattle.fc_collect.{proofs.HeadedLemmas.{Runs-alone}, specs.Closed.{has_flaw, refused_with}}
-use Rattle.fc_collect.specs.Runs.{ending_of_kind}
-use Rattle.fc_collect.specs.declared.commands.CountFormat.TheVariants.{Json, Words}
-use Rattle.fc_collect.specs.declared.commands.RunKind.TheVariants.{Canon, Check, Closed, Count}
-use Rattle.fc_collect.specs.declared.commands.RunKind.TheVariants.{Expand, Group, Share, Show}
+use Rattle.fc_record.specs.Printing.{canon_lines, check_lines, expand_lines, is_refused, printed, printed_with}
+use Rattle.fc_record.specs.{Printing.{show_lines, symmetry_lines}, Tables.{refusal_object}}
+use Rattle.fc_collect.{proofs.HeadedLemmas.{Runs-alone}, specs.{Closed.{has_flaw, refused_with}, Runs.{ending_of_kind}}}
+use Rattle.fc_collect.specs.declared.commands.{CountFormat.TheVariants.{Json, Words}, RunKind.TheVariants.{Canon}}
+use Rattle.fc_collect.specs.declared.commands.RunKind.TheVariants.{Check, Closed, Count, Expand, Group, Share, Show}
 use Rattle.fc_collect.specs.declared.commands.RunKind.TheVariants.{Symmetries}
 use Rattle.fc_collect.proofs.commands.run_within.Goals as goal
 

@@ -1,11 +1,8 @@
 -- The last text and the end were pending, and some of them went out.
-use Rattle.std.proofs.Common.{◌++◌, ◌+◌, ◌∙◌, ap, ap₂, if◌then◌else◌}
-use Rattle.std.proofs.lemmas.Result.{err_from_is_err_and}
-use Rattle.fc_collect.proofs.PrintingLemmas.{Finishes-begun, Finishes-ended, Finishes-failed}
-use Rattle.fc_collect.proofs.PrintingLemmas.{Finishes-whole, next_number-records, Sends-same}
-use Rattle.fc_collect.proofs.PrintingLemmas.{SendsSome-same, summary-is}
-use Rattle.fc_collect.specs.{Closed.{refused_with}, Groups.{members_among}}
-use Rattle.fc_collect.specs.inside.{ended, printed_after, text_at}
+use Rattle.std.proofs.{Common.{◌++◌, ◌+◌, ◌∙◌, ap, ap₂, if◌then◌else◌}, lemmas.Result.{err_from_is_err_and}}
+use Rattle.fc_collect.proofs.PrintingLemmas.{Finishes-begun, Finishes-ended, Finishes-failed, Finishes-whole}
+use Rattle.fc_collect.proofs.PrintingLemmas.{next_number-records, Sends-same, SendsSome-same, summary-is}
+use Rattle.fc_collect.specs.{Closed.{refused_with}, Groups.{members_among}, inside.{ended, printed_after, text_at}}
 use Rattle.fc_collect.specs.Records.{if_record, outputs_after}
 use Rattle.fc_collect.proofs.engine.finish.Goals as goal
 

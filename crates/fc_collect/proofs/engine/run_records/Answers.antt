@@ -1,12 +1,10 @@
 -- Each turn keeps what holds between turns, and each exit fits it.
 use Rattle.std.proofs.{Common.{◌∙◌, ap, arith, length}, lemmas.Result.{err_from_is_err_and}}
-use Rattle.fc_collect.proofs.RunLemmas.{begun_later, begun_number, bytes_none, counts_failed}
-use Rattle.fc_collect.proofs.RunLemmas.{counts_none, filled_none, finish_bytes, finish_counts}
-use Rattle.fc_collect.proofs.RunLemmas.{held_total, next_turn, run_of, small_begun, take_up_bytes}
-use Rattle.fc_collect.proofs.RunLemmas.{take_up_counts}
-use Rattle.fc_collect.proofs.WindowLemmas.{GrowsBy-ended, GrowsBy-given}
-use Rattle.fc_collect.specs.inside.{ended, printed_after, Remembers}
-use Rattle.fc_collect.specs.{Records.{finished_from, outputs_after}, Streams.{inner_of}}
+use Rattle.fc_collect.proofs.RunLemmas.{begun_later, begun_number, bytes_none, counts_failed, counts_none, filled_none}
+use Rattle.fc_collect.proofs.RunLemmas.{finish_bytes, finish_counts, held_total, next_turn, run_of, small_begun}
+use Rattle.fc_collect.proofs.{RunLemmas.{take_up_bytes, take_up_counts}, WindowLemmas.{GrowsBy-ended, GrowsBy-given}}
+use Rattle.fc_collect.specs.{inside.{ended, printed_after, Remembers}, Records.{finished_from, outputs_after}}
+use Rattle.fc_collect.specs.Streams.{inner_of}
 use Rattle.fc_collect.proofs.engine.run_records.Goals as goal
 
 pub returns-in_err-window-clause-read_counted : goal.returns-in_err-window-clause-read_counted

@@ -1,6 +1,5 @@
 use Rattle.std.proofs.Common.{◌≡◌, subst, sym}
-use Rattle.fc_card.specs.{count_of}
-use Rattle.fc_deal.proofs.DealtLemmas.{count_by-deal}
+use Rattle.{fc_card.specs.{count_of}, fc_deal.proofs.DealtLemmas.{count_by-deal}}
 use Rattle.fc_deal.proofs.deals.deal.Goals as goal
 
 pub returns-clause-each_once : goal.returns-clause-each_once

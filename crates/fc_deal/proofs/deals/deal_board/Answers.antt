@@ -1,7 +1,6 @@
 use Rattle.std.proofs.Common.{◌∙◌, subst, sym}
 use Rattle.fc_board.specs.Boards.{HasEachCardOnce}
-use Rattle.fc_deal.proofs.DealtLemmas.{board_of_parts-dealt, count_by-deal, HasEachCardOnce-dealt}
-use Rattle.fc_deal.specs.{deal}
+use Rattle.fc_deal.{proofs.DealtLemmas.{board_of_parts-dealt, count_by-deal, HasEachCardOnce-dealt}, specs.{deal}}
 use Rattle.fc_deal.proofs.deals.deal_board.Goals as goal
 
 pub unreachable-requires-in-Err : goal.unreachable-requires-in-Err

@@ -1,6 +1,5 @@
 use Rattle.std.proofs.Common.{◌%◌, ◌+◌, ◌-◌, ◌∙◌, ap, refl, sym}
-use Rattle.fc_deal.proofs.ShuffleLemmas.{IsPartDealt-new, IsPartDealt-swap}
-use Rattle.fc_deal.specs.{drawn}
+use Rattle.fc_deal.{proofs.ShuffleLemmas.{IsPartDealt-new, IsPartDealt-swap}, specs.{drawn}}
 use Rattle.fc_deal.proofs.shuffle.shuffle_deck.Goals as goal
 
 pub loop-last-init : goal.loop-last-init

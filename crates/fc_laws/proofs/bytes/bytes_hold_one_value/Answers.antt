@@ -1,6 +1,5 @@
 use Rattle.std.proofs.Common.{◌≤◌, arith}
-use Rattle.fc_bytes.proofs.DecodedLemmas.{one_board}
-use Rattle.fc_bytes.proofs.MovesDecoded.{one_move, one_run}
+use Rattle.fc_bytes.proofs.{DecodedLemmas.{one_board}, MovesDecoded.{one_move, one_run}}
 use Rattle.fc_bytes.proofs.PassageDecoded.{one_passage, same_boards, same_passages}
 use Rattle.fc_laws.proofs.bytes.bytes_hold_one_value.Goals as goal
 

@@ -1,8 +1,7 @@
 use Rattle.std.proofs.Common.{◌≤◌, arith, Some, subst, sym}
-use Rattle.fc_board.proofs.RunStepLemmas.{not_refused_exactly}
-use Rattle.fc_board.{proofs.StepLemmas.{not_refused_at_step, step_from}}
+use Rattle.fc_board.proofs.{RunStepLemmas.{not_refused_exactly}, StepLemmas.{not_refused_at_step, step_from}}
 use Rattle.fc_board.specs.{Moves.{RunFits}, Steps.{RunStep}}
-use Rattle.fc_board.specs.declared.run_move.RunMove.{TheVariants.{Run}}
+use Rattle.fc_board.specs.declared.run_move.RunMove.TheVariants.{Run}
 use Rattle.fc_bytes.proofs.{LegalMoves.{exactly_legal}, RunMoves.{exactly}}
 use Rattle.fc_laws.proofs.ListingLemmas.{moves_in_order, runs_in_order}
 use Rattle.fc_laws.proofs.bytes.each_legal_move_is_listed_once.Goals as goal

@@ -1,5 +1,4 @@
-use Rattle.std.proofs.Common.{refl}
-use Rattle.std.specs.Hash.DefaultHasher.{finish, initial, round, write, write_byte, write_word}
+use Rattle.std.{proofs.Common.{refl}, specs.Hash.DefaultHasher.{finish, initial, round, write, write_byte, write_word}}
 use Rattle.fc_laws.proofs.bytes.hashes_of_boards.Goals as goal
 
 pub returns-clause-clubs_king_left : goal.returns-clause-clubs_king_left

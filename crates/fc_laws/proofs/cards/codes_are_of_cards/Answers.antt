@@ -1,5 +1,4 @@
-use Rattle.std.proofs.Common.{arith}
-use Rattle.fc_card.proofs.CodeLemmas.{card_code-apart, card_code-bound, card_code-cmp}
+use Rattle.{fc_card.proofs.CodeLemmas.{card_code-apart, card_code-bound, card_code-cmp}, std.proofs.Common.{arith}}
 use Rattle.fc_laws.proofs.cards.codes_are_of_cards.Goals as goal
 
 pub returns-clause-to : goal.returns-clause-to

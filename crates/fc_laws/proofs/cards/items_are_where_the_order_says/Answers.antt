@@ -1,7 +1,5 @@
 use Rattle.std.proofs.Common.{◌∙◌, arith, length, sym}
-use Rattle.fc_card.proofs.OrderLemmas.{slice_get-pick}
-use Rattle.fc_card.specs.{AllBelow}
-use Rattle.fc_card.specs.laws.OrderLaws.{length-pick}
+use Rattle.fc_card.{proofs.OrderLemmas.{slice_get-pick}, specs.{AllBelow, laws.OrderLaws.{length-pick}}}
 use Rattle.fc_laws.proofs.cards.items_are_where_the_order_says.Goals as goal
 
 pub returns-clause-count : goal.returns-clause-count

@@ -1,5 +1,4 @@
-use Rattle.std.proofs.Common.{refl}
-use Rattle.fc_laws.proofs.UndoneLemmas.{inverse-inverse, product-inverse}
+use Rattle.{fc_laws.proofs.UndoneLemmas.{inverse-inverse, product-inverse}, std.proofs.Common.{refl}}
 use Rattle.fc_laws.proofs.cards.undone.Goals as goal
 
 pub returns : goal.returns

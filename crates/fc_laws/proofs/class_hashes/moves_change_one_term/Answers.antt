@@ -1,5 +1,4 @@
-use Rattle.std.proofs.Common.{◌+◌, ◌∙◌, ap, subst, sym}
-use Rattle.std.proofs.lemmas.Option.{same_Some}
+use Rattle.std.proofs.{Common.{◌+◌, ◌∙◌, ap, subst, sym}, lemmas.Option.{same_Some}}
 use Rattle.fc_bytes.specs.class_hash.{CanMove, class_sum, lies_on, moved_sum, put_onto}
 use Rattle.fc_laws.proofs.ClassHashLemmas.{can_move, sum_after}
 use Rattle.fc_laws.proofs.class_hashes.moves_change_one_term.Goals as goal

@@ -1,9 +1,6 @@
-use Rattle.std.proofs.Common.{◌+◌, ◌∙◌, ap, subst, sym}
-use Rattle.std.proofs.lemmas.List.{length-map}
-use Rattle.std.proofs.lemmas.Option.{same_Some}
-use Rattle.fc_canon.proofs.SymmetryLemmas.{at_most_24}
+use Rattle.std.proofs.{Common.{◌+◌, ◌∙◌, ap, subst, sym}, lemmas.{List.{length-map}, Option.{same_Some}}}
+use Rattle.{fc_canon.proofs.SymmetryLemmas.{at_most_24}, fc_laws.proofs.ClassHashLemmas.{sums_kept, sums_read}}
 use Rattle.fc_bytes.specs.class_hash.{AreMoved, class_sum, class_sums, hash_of_sums, lies_on, put_onto}
-use Rattle.fc_laws.proofs.ClassHashLemmas.{sums_kept, sums_read}
 use Rattle.fc_laws.proofs.class_hashes.sums_stay_those_of_the_board.Goals as goal
 
 pub returns-clause-moved : goal.returns-clause-moved

@@ -1,6 +1,5 @@
 use Rattle.std.proofs.{Common.{[], refl}, lemmas.List.Elements.{All-contains}}
-use Rattle.fc_board.specs.{Boards.{IsWellFormed}, Moves.{OneCard, Runs}}
-use Rattle.fc_closed.proofs.ClosedLemmas.{unsolvable}
+use Rattle.{fc_board.specs.{Boards.{IsWellFormed}, Moves.{OneCard, Runs}}, fc_closed.proofs.ClosedLemmas.{unsolvable}}
 use Rattle.fc_laws.proofs.closed.boards_that_win_are_in_no_closed_list.Goals as goal
 
 pub returns-clause-won : goal.returns-clause-won

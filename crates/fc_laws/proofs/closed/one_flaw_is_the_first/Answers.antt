@@ -1,6 +1,5 @@
 use Rattle.std.proofs.Common.{◌≤◌, arith}
-use Rattle.fc_closed.proofs.FlawLemmas.{not_shown, one_doubt, one_flaw, one_place}
-use Rattle.fc_closed.proofs.KeysLemmas.{not_closed}
+use Rattle.fc_closed.proofs.{FlawLemmas.{not_shown, one_doubt, one_flaw, one_place}, KeysLemmas.{not_closed}}
 use Rattle.fc_laws.proofs.closed.one_flaw_is_the_first.Goals as goal
 
 pub returns-clause-not_closed : goal.returns-clause-not_closed

@@ -1,15 +1,12 @@
-use Rattle.std.proofs.Common.{◌∷◌, [], arith, inl, inr, refl, subst, sym}
-use Rattle.std.proofs.lemmas.List.Elements.{All-cons, All-nil}
-use Rattle.fc_board.proofs.{RenamingLemmas.{fills-renamed_card}, StepCarried.{step-carried}}
-use Rattle.fc_board.{proofs.StepLemmas.{step_of}, specs.{Boards.{IsWellFormed}, Games.{freecell}}}
-use Rattle.fc_board.specs.{laws.RenamingTests.{freecell_laws}, Passages.{carried, carried_move}}
-use Rattle.fc_board.specs.{Play.{IsWon}, Steps.{Step}}
+use Rattle.std.proofs.{Common.{◌∷◌, [], arith, inl, inr, refl, subst, sym}, lemmas.List.Elements.{All-cons, All-nil}}
+use Rattle.fc_board.proofs.{RenamingLemmas.{fills-renamed_card}, StepCarried.{step-carried}, StepLemmas.{step_of}}
+use Rattle.fc_board.specs.{Boards.{IsWellFormed}, Games.{freecell}, laws.RenamingTests.{freecell_laws}}
+use Rattle.fc_board.specs.{Passages.{carried, carried_move}, Play.{IsWon}, Steps.{Step}}
 use Rattle.fc_canon.proofs.CanonicalLemmas.{Equivalent-sym}
 use Rattle.fc_closed.{proofs.ClosedLemmas.{unsolvable}, specs.{IsClosed}}
-use Rattle.fc_laws.proofs.ClosedRowLemmas.{is_among, no_step, not_won, one_of_three, one_of_two}
-use Rattle.fc_laws.proofs.ClosedRowLemmas.{one_step, the_one}
-use Rattle.fc_laws.{proofs.ExampleLemmas.{well_formed_by_tests}, specs.ClosedExamples.{ace_home}}
-use Rattle.fc_laws.specs.ClosedExamples.{ace_to_go, nothing_to_go, queen_on_king, queen_to_go}
+use Rattle.fc_laws.proofs.ClosedRowLemmas.{is_among, no_step, not_won, one_of_three, one_of_two, one_step, the_one}
+use Rattle.fc_laws.proofs.ExampleLemmas.{well_formed_by_tests}
+use Rattle.fc_laws.specs.ClosedExamples.{ace_home, ace_to_go, nothing_to_go, queen_on_king, queen_to_go}
 use Rattle.fc_laws.proofs.closed.three_boards_are_closed.Goals as goal
 
 ace_well : IsWellFormed freecell ace_to_go

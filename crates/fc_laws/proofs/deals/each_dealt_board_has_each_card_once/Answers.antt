@@ -1,5 +1,4 @@
-use Rattle.fc_deal.proofs.DealtLemmas.{count_by-deal, HasEachCardOnce-dealt}
-use Rattle.fc_deal.specs.{deal}
+use Rattle.fc_deal.{proofs.DealtLemmas.{count_by-deal, HasEachCardOnce-dealt}, specs.{deal}}
 use Rattle.fc_laws.proofs.deals.each_dealt_board_has_each_card_once.Goals as goal
 
 pub returns : goal.returns

@@ -1,5 +1,4 @@
-use Rattle.std.proofs.Common.{refl}
-use Rattle.fc_deal.specs.{deal}
+use Rattle.{fc_deal.specs.{deal}, std.proofs.Common.{refl}}
 use Rattle.fc_laws.proofs.deals.first_cards_of_large_deals.Goals as goal
 
 pub returns-clause-million : goal.returns-clause-million

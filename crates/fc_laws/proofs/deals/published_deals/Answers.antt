@@ -1,5 +1,4 @@
-use Rattle.std.proofs.Common.{refl}
-use Rattle.fc_deal.specs.{deal}
+use Rattle.{fc_deal.specs.{deal}, std.proofs.Common.{refl}}
 use Rattle.fc_laws.proofs.deals.published_deals.Goals as goal
 
 pub returns-clause-first : goal.returns-clause-first

@@ -1,7 +1,5 @@
-use Rattle.std.proofs.Common.{refl}
-use Rattle.fc_board.specs.Boards.{cards_in_play}
-use Rattle.fc_laws.proofs.ExampleLemmas.{cards_below_52, each_once, heights_at_most_13}
-use Rattle.fc_laws.specs.BoardExamples.{deal_1}
+use Rattle.{fc_board.specs.Boards.{cards_in_play}, std.proofs.Common.{refl}}
+use Rattle.fc_laws.{proofs.ExampleLemmas.{cards_below_52, each_once, heights_at_most_13}, specs.BoardExamples.{deal_1}}
 use Rattle.fc_laws.proofs.texts.deal_1_is_printed.Goals as goal
 
 pub returns-clause-well_formed : goal.returns-clause-well_formed

@@ -1,5 +1,4 @@
-use Rattle.fc_text.proofs.ReadingLemmas.{faultless-from_Spells, Spells-board_of}
-use Rattle.fc_text.proofs.ReadingLemmas.{Spells-from_faultless}
+use Rattle.fc_text.proofs.ReadingLemmas.{faultless-from_Spells, Spells-board_of, Spells-from_faultless}
 use Rattle.fc_laws.proofs.texts.faultless_texts_spell_one_board.Goals as goal
 
 pub returns-clause-spelled : goal.returns-clause-spelled

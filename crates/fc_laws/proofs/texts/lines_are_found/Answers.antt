@@ -1,5 +1,5 @@
-use Rattle.fc_text.proofs.LineLemmas.{ended_text, line_starts, lines_are_pieces}
-use Rattle.fc_text.proofs.LineLemmas.{lines_in_one_piece, lines_of_bytes, text_without_end}
+use Rattle.fc_text.proofs.LineLemmas.{ended_text, line_starts, lines_are_pieces, lines_in_one_piece, lines_of_bytes}
+use Rattle.fc_text.proofs.LineLemmas.{text_without_end}
 use Rattle.fc_laws.proofs.texts.lines_are_found.Goals as goal
 
 pub returns-clause-ended : goal.returns-clause-ended

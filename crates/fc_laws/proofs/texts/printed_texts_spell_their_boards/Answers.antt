@@ -1,7 +1,5 @@
 use Rattle.std.proofs.Common.{◌∙◌, sym}
-use Rattle.fc_text.specs.Printed.{text_of}
-use Rattle.fc_text.proofs.PrintedTextLemmas.{text_spells}
-use Rattle.fc_text.proofs.ReadingLemmas.{Spells-board_of}
+use Rattle.fc_text.{proofs.{PrintedTextLemmas.{text_spells}, ReadingLemmas.{Spells-board_of}}, specs.Printed.{text_of}}
 use Rattle.fc_laws.proofs.texts.printed_texts_spell_their_boards.Goals as goal
 
 pub returns-clause-spelled : goal.returns-clause-spelled

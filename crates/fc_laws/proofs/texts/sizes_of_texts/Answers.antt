@@ -1,5 +1,4 @@
-use Rattle.std.proofs.Common.{arith}
-use Rattle.fc_text.proofs.TextLemmas.{length-text_of}
+use Rattle.{fc_text.proofs.TextLemmas.{length-text_of}, std.proofs.Common.{arith}}
 use Rattle.fc_laws.proofs.texts.sizes_of_texts.Goals as goal
 
 pub returns-clause-shortest_of_four : goal.returns-clause-shortest_of_four

@@ -1,8 +1,6 @@
-use Rattle.std.proofs.Common.{◌∙◌, map-id, sym}
-use Rattle.std.proofs.lemmas.Iterator.Adapters.{YieldsList-from_vec}
+use Rattle.std.proofs.{Common.{◌∙◌, map-id, sym}, lemmas.Iterator.Adapters.{YieldsList-from_vec}}
 use Rattle.std.proofs.lemmas.Iterator.Consumers.{YieldsList-end}
-use Rattle.fc_record.proofs.LineLemmas.{all_printed}
-use Rattle.fc_record.specs.Printing.{image_line}
+use Rattle.fc_record.{proofs.LineLemmas.{all_printed}, specs.Printing.{image_line}}
 use Rattle.fc_record.proofs.printing.push_images.Goals as goal
 
 pub returns : goal.returns

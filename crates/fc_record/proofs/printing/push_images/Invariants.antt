@@ -1,5 +1,4 @@
-use Rattle.std.proofs.Common.{◌++◌, ◌≡◌}
-use Rattle.std.specs.List.{flat_map}
+use Rattle.std.{proofs.Common.{◌++◌, ◌≡◌}, specs.List.{flat_map}}
 use Rattle.fc_record.specs.Printing.{image_line}
 use Rattle.fc_record.proofs.printing.push_images.Given as goal
 

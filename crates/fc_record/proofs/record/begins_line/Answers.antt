@@ -1,5 +1,4 @@
-use Rattle.std.proofs.Common.{arith, sym}
-use Rattle.fc_record.proofs.TextLineLemmas.{ends_line-take}
+use Rattle.{fc_record.proofs.TextLineLemmas.{ends_line-take}, std.proofs.Common.{arith, sym}}
 use Rattle.fc_record.proofs.record.begins_line.Goals as goal
 
 pub returns : goal.returns

@@ -1,5 +1,4 @@
-use Rattle.std.proofs.Common.{sym}
-use Rattle.fc_text.proofs.LetterLemmas.{first_byte-none, first_byte-some}
+use Rattle.{fc_text.proofs.LetterLemmas.{first_byte-none, first_byte-some}, std.proofs.Common.{sym}}
 use Rattle.fc_text.proofs.board.colon_place.Goals as goal
 
 pub returns-in-Some-clause-value : goal.returns-in-Some-clause-value

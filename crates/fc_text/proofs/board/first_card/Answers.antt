@@ -1,5 +1,4 @@
-use Rattle.std.proofs.Common.{rules}
-use Rattle.fc_text.proofs.FirstCardLemmas.{first_and_blank}
+use Rattle.{fc_text.proofs.FirstCardLemmas.{first_and_blank}, std.proofs.Common.{rules}}
 use Rattle.fc_text.proofs.board.first_card.Goals as goal
 
 pub returns-in-Some : goal.returns-in-Some

@@ -1,5 +1,4 @@
-use Rattle.std.proofs.Common.{rules}
-use Rattle.fc_text.proofs.FirstCardLemmas.{first_ten}
+use Rattle.{fc_text.proofs.FirstCardLemmas.{first_ten}, std.proofs.Common.{rules}}
 use Rattle.fc_text.proofs.board.first_ten.Goals as goal
 
 pub returns : goal.returns

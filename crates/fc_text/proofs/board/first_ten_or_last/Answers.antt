@@ -1,5 +1,4 @@
-use Rattle.std.proofs.Common.{arith}
-use Rattle.fc_text.proofs.FirstCardLemmas.{two_at_end}
+use Rattle.{fc_text.proofs.FirstCardLemmas.{two_at_end}, std.proofs.Common.{arith}}
 use Rattle.fc_text.proofs.board.first_ten_or_last.Goals as goal
 
 pub returns-in_ok-spelled_card-in-len2 : goal.returns-in_ok-spelled_card-in-len2

@@ -1,6 +1,5 @@
-use Rattle.std.proofs.Common.{length}
+use Rattle.{fc_text.specs.reader.{LeavesWords}, std.proofs.Common.{length}}
 use Rattle.fc_text.specs.declared.board.reader.Section.TheVariants.{Column}
-use Rattle.fc_text.specs.reader.{LeavesWords}
 use Rattle.fc_text.proofs.board.read_cards.Given as goal
 
 abbrev pub invariant-loop-card : goal.invariant-loop-card

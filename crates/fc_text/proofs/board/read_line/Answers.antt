@@ -1,12 +1,9 @@
-use Rattle.std.proofs.Common.{◌+◌, ◌-◌, ◌∙◌, ◌∷◌, ◌≡◌, ◌≢◌, [], ap, append-nil, cond, drop, length}
-use Rattle.std.proofs.Common.{List, None, Ok, refl, Some, subst, sym, take, ℕ}
-use Rattle.std.proofs.lemmas.Bool.{ne_eqb}
-use Rattle.std.proofs.lemmas.List.{take_rest}
+use Rattle.std.proofs.Common.{◌+◌, ◌-◌, ◌∙◌, ◌∷◌, ◌≡◌, ◌≢◌, [], ap, append-nil, cond, drop, length, List, None, Ok}
+use Rattle.std.proofs.{Common.{refl, Some, subst, sym, take, ℕ}, lemmas.{Bool.{ne_eqb}, List.{take_rest}}}
 use Rattle.std.specs.List.{prefix_len, slice_get}
 use Rattle.fc_text.specs.{Bytes.{is_gap, number_sign}, Faults.{items_of_row}}
-use Rattle.fc_text.specs.Lines.{Piece, piece_of, trim_carriage_return}
+use Rattle.fc_text.specs.{Lines.{Piece, piece_of, trim_carriage_return}, reader.{items_of_line, Known, TakesItems}}
 use Rattle.fc_text.specs.Rows.{Blank, Comment, Content, line_of, line_of_front, row_of}
-use Rattle.fc_text.specs.reader.{items_of_line, Known, TakesItems}
 use Rattle.fc_text.proofs.board.read_line.Goals as goal
 
 -- a line is what is left of it once the blanks at its front are gone

@@ -1,10 +1,6 @@
-use Rattle.std.proofs.Common.{◌∙◌, All, arith, subst}
-use Rattle.std.proofs.lemmas.List.Elements.{All-tail}
-use Rattle.std.proofs.lemmas.Result.{err_from_is_err_and}
-use Rattle.fc_text.proofs.NextLineLemmas.{line_within}
-use Rattle.fc_text.specs.Lines.{IsPieceOf, piece_of}
-use Rattle.fc_text.specs.Left.{lines_left}
+use Rattle.std.proofs.{Common.{◌∙◌, All, arith, subst}, lemmas.{List.Elements.{All-tail}, Result.{err_from_is_err_and}}}
 use Rattle.fc_text.proofs.LeavingLemmas.{left_of_left, next_line_at_fault, next_line_taken}
+use Rattle.fc_text.{proofs.NextLineLemmas.{line_within}, specs.{Left.{lines_left}, Lines.{IsPieceOf, piece_of}}}
 use Rattle.fc_text.proofs.board.read_lines.Goals as goal
 
 pub read_line-requires : goal.read_line-requires

@@ -1,8 +1,6 @@
 use Rattle.std.proofs.Common.{All, map}
 use Rattle.fc_text.proofs.board.read_lines.Given as goal
-use Rattle.fc_text.specs.{Lines.{IsPieceOf, lines_from}, Rows.{line_of}}
-use Rattle.fc_text.specs.Left.{lines_left}
-use Rattle.fc_text.specs.reader.{items_left, Leaves}
+use Rattle.fc_text.specs.{Left.{lines_left}, Lines.{IsPieceOf, lines_from}, reader.{items_left, Leaves}, Rows.{line_of}}
 
 abbrev pub invariant-loop-line : goal.invariant-loop-line
 invariant-loop-line g l = record {

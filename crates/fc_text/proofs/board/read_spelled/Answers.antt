@@ -1,7 +1,5 @@
-use Rattle.std.proofs.Common.{refl}
-use Rattle.std.proofs.lemmas.Result.{err_from_is_err_and}
-use Rattle.fc_text.proofs.WholeLemmas.{read_to_board, read_to_fault, read_to_missing, ReadWhole}
-use Rattle.fc_text.proofs.WholeLemmas.{whole_deck}
+use Rattle.std.proofs.{Common.{refl}, lemmas.Result.{err_from_is_err_and}}
+use Rattle.fc_text.proofs.WholeLemmas.{read_to_board, read_to_fault, read_to_missing, ReadWhole, whole_deck}
 use Rattle.fc_text.specs.reader.{board_known}
 use Rattle.fc_text.proofs.board.read_spelled.Goals as goal
 

@@ -1,12 +1,9 @@
-use Rattle.std.proofs.Common.{◌+◌, ◌<◌, ◌∙◌, ◌≡◌, ap, arith, cond, drop, get_or, length, List}
-use Rattle.std.proofs.Common.{subst, sym, true, ℕ}
-use Rattle.std.proofs.lemmas.List.{drop_more}
-use Rattle.std.proofs.lemmas.Result.{err_from_is_err_and}
+use Rattle.std.proofs.Common.{◌+◌, ◌<◌, ◌∙◌, ◌≡◌, ap, arith, cond, drop, get_or, length, List, subst, sym, true, ℕ}
+use Rattle.std.proofs.lemmas.{List.{drop_more}, Result.{err_from_is_err_and}}
+use Rattle.fc_text.proofs.LeavingLemmas.{left_of_left, no_words, word_fault, word_turn, words_at, words_first}
 use Rattle.fc_text.specs.{Bytes.{is_gap}, Lines.{in_word, words_from}}
-use Rattle.fc_text.specs.declared.board.reader.Section.{Section}
-use Rattle.fc_text.proofs.LeavingLemmas.{left_of_left, no_words, word_fault, word_turn, words_at}
-use Rattle.fc_text.proofs.LeavingLemmas.{words_first}
 use Rattle.fc_text.specs.reader.{after_items, first_known_fault, items_of_words, Leaves}
+use Rattle.fc_text.specs.declared.board.reader.Section.{Section}
 use Rattle.fc_text.proofs.board.read_words.Goals as goal
 
 pub returns-in_err-read_word : goal.returns-in_err-read_word

@@ -1,5 +1,4 @@
-use Rattle.std.proofs.Common.{rules, sym}
-use Rattle.fc_text.proofs.FrontLemmas.{bare_front}
+use Rattle.{fc_text.proofs.FrontLemmas.{bare_front}, std.proofs.Common.{rules, sym}}
 use Rattle.fc_text.proofs.board.row_head.Goals as goal
 
 pub returns-in-len1-up-clause-row : goal.returns-in-len1-up-clause-row

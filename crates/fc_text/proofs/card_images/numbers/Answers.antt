@@ -1,5 +1,4 @@
-use Rattle.std.proofs.Common.{arith, refl}
-use Rattle.fc_text.proofs.BoardViewLemmas.{all-codes, numbered-next, zeros-small}
+use Rattle.{fc_text.proofs.BoardViewLemmas.{all-codes, numbered-next, zeros-small}, std.proofs.Common.{arith, refl}}
 use Rattle.fc_text.proofs.card_images.numbers.Goals as goal
 
 pub loop-number-init : goal.loop-number-init

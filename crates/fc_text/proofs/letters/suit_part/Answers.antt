@@ -1,6 +1,5 @@
 use Rattle.std.proofs.Common.{◌≤◌, refl, subst, sym}
-use Rattle.fc_text.proofs.LetterLemmas.{at_letter, at_most}
-use Rattle.fc_text.specs.reader.{suit_part}
+use Rattle.fc_text.{proofs.LetterLemmas.{at_letter, at_most}, specs.reader.{suit_part}}
 use Rattle.fc_text.proofs.letters.suit_part.Goals as goal
 
 pub returns-clause-part : goal.returns-clause-part

@@ -1,8 +1,6 @@
 use Rattle.std.proofs.Common.{◌+◌, ◌-◌, ◌∙◌, ◌∷◌, ◌≡◌, ap, arith, drop, not, rules, sym, take}
-use Rattle.std.proofs.lemmas.List.{take_rest}
-use Rattle.std.specs.List.{prefix_len}
-use Rattle.fc_text.proofs.NextTokenLemmas.{next_word, no_next_word}
-use Rattle.fc_text.specs.{Bytes.{is_gap}, Lines.{words_from}}
+use Rattle.std.{proofs.lemmas.List.{take_rest}, specs.List.{prefix_len}}
+use Rattle.fc_text.{proofs.NextTokenLemmas.{next_word, no_next_word}, specs.{Bytes.{is_gap}, Lines.{words_from}}}
 use Rattle.fc_text.proofs.lines.next_word.Goals as goal
 use Rattle.fc_text.proofs.lines.next_word.Goals.{After-word_len}
 

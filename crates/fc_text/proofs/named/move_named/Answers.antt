@@ -1,11 +1,7 @@
-use Rattle.std.proofs.Common.{◌∙◌, ◌∷◌, ◌≡◌, [], ap, ap₂, arith, length, List, None, Option, refl}
-use Rattle.std.proofs.Common.{slice_index, sym, ℕ}
-use Rattle.std.specs.Char.{to_ascii_lowercase}
-use Rattle.std.specs.Option.{option_and_then, option_map}
+use Rattle.std.proofs.Common.{◌∙◌, ◌∷◌, ◌≡◌, [], ap, ap₂, arith, length, List, None, Option, refl, slice_index, sym, ℕ}
+use Rattle.std.specs.{Char.{to_ascii_lowercase}, Option.{option_and_then, option_map}}
 use Rattle.fc_board.specs.{Games.{Game}, Moves.{move_between}}
-use Rattle.fc_board.specs.declared.moves.Move.{Move}
-use Rattle.fc_board.specs.declared.moves.Place.{Place}
-use Rattle.fc_board.specs.declared.moves.Source.{Source}
+use Rattle.fc_board.specs.declared.moves.{Move.{Move}, Place.{Place}, Source.{Source}}
 use Rattle.fc_text.specs.reader.{move_named, move_of_two, target_named}
 use Rattle.fc_text.proofs.named.move_named.Goals as goal
 

@@ -1,5 +1,4 @@
-use Rattle.std.proofs.Common.{◌∙◌, ap, sym}
-use Rattle.std.specs.Option.{option_and_then}
+use Rattle.std.{proofs.Common.{◌∙◌, ap, sym}, specs.Option.{option_and_then}}
 use Rattle.fc_text.proofs.RunTokenLemmas.{no_move_read, no_suffix_read, suffix_read}
 use Rattle.fc_text.specs.reader.{as_run, with_count}
 use Rattle.fc_text.proofs.named.run_named.Goals as goal

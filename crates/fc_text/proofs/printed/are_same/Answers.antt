@@ -1,8 +1,5 @@
-use Rattle.std.proofs.Common.{◌&&◌, ◌++◌, ◌==◌, ◌∙◌, ◌∷◌, ◌≡◌, [], ap, ap₂, arith, Bool, get_or}
-use Rattle.std.proofs.Common.{List, refl, sym, true, ℕ}
-use Rattle.std.proofs.lemmas.Bool.{and_parts, eqb-true}
-use Rattle.std.proofs.lemmas.Bool.Decides.{nat_tests}
-use Rattle.std.proofs.lemmas.List.{take_all, take_more}
+use Rattle.std.proofs.Common.{◌&&◌, ◌++◌, ◌==◌, ◌∙◌, ◌∷◌, ◌≡◌, [], ap, ap₂, arith, Bool, get_or, List, refl, sym, true}
+use Rattle.std.proofs.{Common.{ℕ}, lemmas.{Bool.{and_parts, Decides.{nat_tests}, eqb-true}, List.{take_all, take_more}}}
 use Rattle.fc_text.proofs.printed.are_same.Goals as goal
 
 pub loop-at-init : goal.loop-at-init

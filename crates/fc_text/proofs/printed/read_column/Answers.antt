@@ -1,23 +1,14 @@
-use Rattle.std.proofs.Common.{◌%◌, ◌*◌, ◌++◌, ◌+◌, ◌-◌, ◌<◌, ◌^◌, ◌∙◌, ◌∷◌, ◌≡◌, ◌≤◌, [], ap}
-use Rattle.std.proofs.Common.{append-nil, append_assoc, ap₂, arith, drop, get_or, get_or-drop}
-use Rattle.std.proofs.Common.{get_or-take, length, List, refl, rules, set, slice_range, subst, sym}
-use Rattle.std.proofs.Common.{take, take-append-drop, ℕ}
-use Rattle.std.proofs.lemmas.Grind.{flat_map-append}
-use Rattle.std.proofs.lemmas.List.{drop-drop, drop_all, drop_more, length-set, take-set-le}
-use Rattle.std.proofs.lemmas.List.{take_more_set}
-use Rattle.std.proofs.lemmas.List.Elements.{All-drop}
-use Rattle.std.specs.Int.Bits.{bit_or}
-use Rattle.std.specs.List.{flat_map}
-use Rattle.fc_card.proofs.BitsLemmas.{AreBitsOf-push}
-use Rattle.fc_card.specs.{AreBitsOf, card_text, IsCard}
+use Rattle.std.proofs.Common.{◌%◌, ◌*◌, ◌++◌, ◌+◌, ◌-◌, ◌<◌, ◌^◌, ◌∙◌, ◌∷◌, ◌≡◌, ◌≤◌, [], ap, append-nil, append_assoc}
+use Rattle.std.proofs.Common.{ap₂, arith, drop, get_or, get_or-drop, get_or-take, length, List, refl, rules, set}
+use Rattle.std.proofs.{Common.{slice_range, subst, sym, take, take-append-drop, ℕ}, lemmas.Grind.{flat_map-append}}
+use Rattle.std.proofs.lemmas.List.{drop-drop, drop_all, drop_more, Elements.{All-drop}}
+use Rattle.std.{proofs.lemmas.List.{length-set, take-set-le, take_more_set}, specs.{Int.Bits.{bit_or}, List.{flat_map}}}
+use Rattle.fc_card.{proofs.BitsLemmas.{AreBitsOf-push}, specs.{AreBitsOf, card_text, IsCard}}
 use Rattle.fc_board.proofs.ColumnsLemmas.{length-range}
 use Rattle.fc_text.proofs.BeginningLemmas.{first_cards, line_before, next_card, no_more_cards}
-use Rattle.fc_text.proofs.PieceLemmas.{longer_range}
-use Rattle.fc_text.proofs.printed.read_column.Goals.{else-loop-count-test}
-use Rattle.fc_text.proofs.printed.read_column.Goals.{then-loop-count-test+in_default}
-use Rattle.fc_text.proofs.printed.read_column.Goals.{then-loop-count-test+in_default-2}
-use Rattle.fc_text.proofs.printed.read_column.Goals.{then-loop-count-test+in_default-3}
-use Rattle.fc_text.proofs.printed.read_column.Invariants.{AreTaken}
+use Rattle.fc_text.proofs.{PieceLemmas.{longer_range}, printed.read_column.Goals.{else-loop-count-test}}
+use Rattle.fc_text.proofs.printed.read_column.Goals.{then-loop-count-test+in_default, then-loop-count-test+in_default-2}
+use Rattle.fc_text.proofs.printed.read_column.{Goals.{then-loop-count-test+in_default-3}, Invariants.{AreTaken}}
 use Rattle.fc_text.specs.{Bytes.{colon, line_feed}, Printed.{card_word, column_line}}
 use Rattle.fc_text.proofs.printed.read_column.Goals as goal
 

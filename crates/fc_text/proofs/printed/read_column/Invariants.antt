@@ -1,8 +1,6 @@
-use Rattle.std.proofs.Common.{◌*◌, ◌++◌, ◌+◌, ◌-◌, ◌≡◌, ◌≤◌, drop, length, List, slice_range, take}
-use Rattle.std.proofs.Common.{ℕ}
+use Rattle.std.proofs.Common.{◌*◌, ◌++◌, ◌+◌, ◌-◌, ◌≡◌, ◌≤◌, drop, length, List, slice_range, take, ℕ}
 use Rattle.std.specs.List.{flat_map}
-use Rattle.fc_card.specs.{AreBitsOf}
-use Rattle.fc_text.specs.Printed.{card_word}
+use Rattle.{fc_card.specs.{AreBitsOf}, fc_text.specs.Printed.{card_word}}
 use Rattle.fc_text.proofs.printed.read_column.Given as goal
 
 -- after the colon the first words are the cards from the start to this place, and the cards before the start are as they were

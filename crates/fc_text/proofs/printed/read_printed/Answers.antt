@@ -1,6 +1,5 @@
 use Rattle.std.proofs.Common.{◌==◌, ◌∙◌, ◌≡◌, [], ap, append-nil, false, length, sym, true}
-use Rattle.fc_text.proofs.BeginningLemmas.{one_board, piles_of}
-use Rattle.fc_text.specs.Printed.{text_of}
+use Rattle.fc_text.{proofs.BeginningLemmas.{one_board, piles_of}, specs.Printed.{text_of}}
 use Rattle.fc_text.proofs.printed.read_printed.Goals as goal
 
 pub returns-in_err-board-clause-found : goal.returns-in_err-board-clause-found

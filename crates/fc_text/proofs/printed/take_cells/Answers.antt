@@ -1,15 +1,11 @@
-use Rattle.std.proofs.Common.{◌++◌, ◌+◌, ◌<◌, ◌∙◌, ◌∷◌, ◌≡◌, ◌≤◌, [], All, ap, append_assoc, arith}
-use Rattle.std.proofs.Common.{Bool, drop, IsNone, length, List, Option, slice_set, subst, sym, take}
-use Rattle.std.proofs.Common.{ℕ}
-use Rattle.std.proofs.lemmas.List.{length-set, length-take-le, take_more_set}
-use Rattle.std.proofs.lemmas.List.Elements.{All-append, All-cons, All-nil}
+use Rattle.std.proofs.Common.{◌++◌, ◌+◌, ◌<◌, ◌∙◌, ◌∷◌, ◌≡◌, ◌≤◌, [], All, ap, append_assoc, arith, Bool, drop, IsNone}
+use Rattle.std.proofs.Common.{length, List, Option, slice_set, subst, sym, take, ℕ}
+use Rattle.std.proofs.lemmas.List.{Elements.{All-append, All-cons, All-nil}, length-set, length-take-le, take_more_set}
 use Rattle.std.specs.List.{flat_map}
-use Rattle.fc_board.specs.Games.{Game, RuleLaws}
-use Rattle.fc_text.specs.{Bytes.{line_feed}, Printed.{cell_word, cells_line}}
-use Rattle.fc_board.specs.laws.ListWords.{IsCell}
-use Rattle.fc_text.proofs.BeginningLemmas.{next_cell, no_more_cells}
-use Rattle.fc_text.proofs.PieceLemmas.{left_next, text_next}
-use Rattle.fc_text.proofs.printed.take_cells.Invariants.{AreTaken}
+use Rattle.fc_board.specs.{Games.{Game, RuleLaws}, laws.ListWords.{IsCell}}
+use Rattle.fc_text.proofs.{BeginningLemmas.{next_cell, no_more_cells}, PieceLemmas.{left_next, text_next}}
+use Rattle.fc_text.{proofs.printed.take_cells.Invariants.{AreTaken}, specs.Bytes.{line_feed}}
+use Rattle.fc_text.specs.Printed.{cell_word, cells_line}
 use Rattle.fc_text.proofs.printed.take_cells.Goals as goal
 
 -- one more cell is taken off

@@ -1,7 +1,5 @@
-use Rattle.std.proofs.Common.{◌++◌, ◌≡◌, All, drop, IsNone, length, List, Option, take, ℕ}
-use Rattle.std.specs.List.{flat_map}
-use Rattle.fc_board.specs.laws.ListWords.{IsCell}
-use Rattle.fc_text.specs.Printed.{cell_word}
+use Rattle.std.{proofs.Common.{◌++◌, ◌≡◌, All, drop, IsNone, length, List, Option, take, ℕ}, specs.List.{flat_map}}
+use Rattle.{fc_board.specs.laws.ListWords.{IsCell}, fc_text.specs.Printed.{cell_word}}
 use Rattle.fc_text.proofs.printed.take_cells.Given as goal
 
 -- the first cells are taken off, and the others are empty

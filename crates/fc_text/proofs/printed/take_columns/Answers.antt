@@ -1,20 +1,14 @@
-use Rattle.std.proofs.Common.{◌*◌, ◌++◌, ◌+◌, ◌-◌, ◌<◌, ◌∙◌, ◌∷◌, ◌≡◌, ◌≤◌, [], All, ap, append-nil}
-use Rattle.std.proofs.Common.{append_assoc, ap₂, arith, drop, length, length-append, List}
-use Rattle.std.proofs.Common.{slice_range, slice_set, subst, sym, take, take-append-drop, ℕ}
-use Rattle.std.proofs.lemmas.Grind.{flat_map-append}
-use Rattle.std.proofs.lemmas.List.{drop-drop, drop-take, length-drop, take-take, take_all}
-use Rattle.std.proofs.lemmas.List.{take_rest}
+use Rattle.std.proofs.Common.{◌*◌, ◌++◌, ◌+◌, ◌-◌, ◌<◌, ◌∙◌, ◌∷◌, ◌≡◌, ◌≤◌, [], All, ap, append-nil, append_assoc, ap₂}
+use Rattle.std.proofs.Common.{arith, drop, length, length-append, List, slice_range, slice_set, subst, sym, take}
+use Rattle.std.proofs.{Common.{take-append-drop, ℕ}, lemmas.{Grind.{flat_map-append}, List.{drop-drop, drop-take}}}
 use Rattle.std.proofs.lemmas.List.Elements.{All-append, All-cons, All-nil}
-use Rattle.std.specs.List.{flat_map}
+use Rattle.std.{proofs.lemmas.List.{length-drop, take-take, take_all, take_rest}, specs.List.{flat_map}}
 use Rattle.fc_card.specs.{AreBitsOf, IsCard}
 use Rattle.fc_board.proofs.BoardLemmas.{All-right}
-use Rattle.fc_board.proofs.ColumnsLemmas.{all_ascend, all_laid, AreLaid, last_laid, length-range}
-use Rattle.fc_board.proofs.ColumnsLemmas.{one_laid}
+use Rattle.fc_board.proofs.ColumnsLemmas.{all_ascend, all_laid, AreLaid, last_laid, length-range, one_laid}
 use Rattle.fc_board.specs.inside.{size_of}
-use Rattle.fc_text.proofs.BeginningLemmas.{length_lines, next_column}
-use Rattle.fc_text.proofs.printed.take_columns.Goals.{After-loop-at}
-use Rattle.fc_text.proofs.printed.take_columns.Invariants.{AreTaken}
-use Rattle.fc_text.specs.Printed.{column_line}
+use Rattle.fc_text.proofs.{BeginningLemmas.{length_lines, next_column}, printed.take_columns.Goals.{After-loop-at}}
+use Rattle.fc_text.{proofs.printed.take_columns.Invariants.{AreTaken}, specs.Printed.{column_line}}
 use Rattle.fc_text.proofs.printed.take_columns.Goals as goal
 
 -- the cards up to the next end are those up to the last one, and the column between the two

@@ -1,8 +1,5 @@
-use Rattle.std.proofs.Common.{◌*◌, ◌++◌, ◌+◌, ◌≡◌, ◌≤◌, All, drop, length, List, take, ℕ}
-use Rattle.std.specs.List.{flat_map}
-use Rattle.fc_card.specs.{AreBitsOf, IsCard}
-use Rattle.fc_board.proofs.ColumnsLemmas.{AreLaid}
-use Rattle.fc_board.specs.inside.{size_of}
+use Rattle.std.{proofs.Common.{◌*◌, ◌++◌, ◌+◌, ◌≡◌, ◌≤◌, All, drop, length, List, take, ℕ}, specs.List.{flat_map}}
+use Rattle.{fc_board.{proofs.ColumnsLemmas.{AreLaid}, specs.inside.{size_of}}, fc_card.specs.{AreBitsOf, IsCard}}
 use Rattle.fc_text.specs.Printed.{column_line}
 use Rattle.fc_text.proofs.printed.take_columns.Given as goal
 

@@ -1,10 +1,8 @@
 use Rattle.std.proofs.Common.{◌++◌, ◌∙◌, ◌≡◌, All, ap, arith, drop, IsNone, refl, subst, sym, take}
 use Rattle.std.specs.List.{flat_map}
-use Rattle.fc_board.proofs.BoardLemmas.{in_cells}
-use Rattle.fc_board.specs.laws.ListWords.{IsCell}
+use Rattle.fc_board.{proofs.BoardLemmas.{in_cells}, specs.laws.ListWords.{IsCell}}
 use Rattle.fc_text.proofs.BeginningLemmas.{text_before}
-use Rattle.fc_text.proofs.printed.take_named_lines.Goals.{else-CELLS-eq4}
-use Rattle.fc_text.proofs.printed.take_named_lines.Goals.{then-CELLS-eq4+in_default}
+use Rattle.fc_text.proofs.printed.take_named_lines.Goals.{else-CELLS-eq4, then-CELLS-eq4+in_default}
 use Rattle.fc_text.specs.Printed.{cells_line, column_line, foundations_line}
 use Rattle.fc_text.proofs.printed.take_named_lines.Goals as goal
 

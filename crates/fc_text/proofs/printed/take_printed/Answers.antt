@@ -1,14 +1,11 @@
-use Rattle.std.proofs.Common.{◌++◌, ◌∙◌, ◌≡◌, All, ap, arith, length, List, rules, Some, subst, sym}
-use Rattle.std.proofs.Common.{take, ℕ}
+use Rattle.std.proofs.Common.{◌++◌, ◌∙◌, ◌≡◌, All, ap, arith, length, List, rules, Some, subst, sym, take, ℕ}
 use Rattle.std.specs.List.{flat_map}
 use Rattle.fc_card.specs.{IsCard}
 use Rattle.fc_board.proofs.BoardLemmas.{all_cards, columns_together, game_cells}
 use Rattle.fc_board.proofs.ColumnsLemmas.{all_cards_laid, column_within, length-columns_from}
-use Rattle.fc_board.specs.Boards.{Board, HasEachCardOnce}
+use Rattle.fc_board.specs.{Boards.{Board, HasEachCardOnce}, inside.{board_of_laid, columns_from}}
+use Rattle.fc_text.proofs.BeginningLemmas.{columns_after, one_board, piles_of, same_columns, text_before}
 use Rattle.fc_text.specs.Printed.{cells_line, column_line, foundations_line, text_of}
-use Rattle.fc_board.specs.inside.{board_of_laid, columns_from}
-use Rattle.fc_text.proofs.BeginningLemmas.{columns_after, one_board, piles_of, same_columns}
-use Rattle.fc_text.proofs.BeginningLemmas.{text_before}
 use Rattle.fc_text.proofs.printed.take_printed.Goals as goal
 
 -- the lines of the columns end the text of the board

@@ -1,5 +1,4 @@
-use Rattle.std.proofs.Common.{[]}
-use Rattle.fc_text.proofs.BoardViewLemmas.{eight_items}
+use Rattle.{fc_text.proofs.BoardViewLemmas.{eight_items}, std.proofs.Common.{[]}}
 use Rattle.fc_text.proofs.view.columns_of.Goals as goal
 
 pub returns-clause-columns : goal.returns-clause-columns

@@ -1,6 +1,5 @@
 use Rattle.std.proofs.Common.{◌++◌, ◌∙◌, ap, arith, length, take}
-use Rattle.fc_text.proofs.WriterLemmas.{all_printed, AreAwaiting-next, AreAwaiting-none}
-use Rattle.fc_text.proofs.WriterLemmas.{room_after}
+use Rattle.fc_text.proofs.WriterLemmas.{all_printed, AreAwaiting-next, AreAwaiting-none, room_after}
 use Rattle.fc_text.specs.Printed.{cells_line, foundations_line}
 use Rattle.fc_text.proofs.writer.put_board.Goals as goal
 

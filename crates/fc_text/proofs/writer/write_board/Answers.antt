@@ -1,6 +1,5 @@
 use Rattle.std.proofs.Common.{◌∙◌, ap, arith, length}
-use Rattle.fc_text.proofs.TextLemmas.{length-text_of}
-use Rattle.fc_text.specs.Printed.{text_of}
+use Rattle.fc_text.{proofs.TextLemmas.{length-text_of}, specs.Printed.{text_of}}
 use Rattle.fc_text.proofs.writer.write_board.Goals as goal
 
 pub returns : goal.returns

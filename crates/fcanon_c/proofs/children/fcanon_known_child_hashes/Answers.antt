@@ -1,13 +1,7 @@
-use Rattle.std.proofs.Common.{◌<◌, arith, length, subst, sym, ℕ}
-use Rattle.fc_board.specs.Boards.{Board}
-use Rattle.fc_bytes.specs.{class_hash.{HasChildHashes}, HoldsBoard, OfLegalMoves}
+use Rattle.std.proofs.Common.{◌<◌, length, subst, sym}
+use Rattle.{fc_bytes.specs.{class_hash.{HasChildHashes}, OfLegalMoves}}
 use Rattle.fcanon_c.specs.{game_at, renamings_at}
 use Rattle.fcanon_c.proofs.children.fcanon_known_child_hashes.Goals as goal
-
-pub known_child_hashes_of-requires : goal.known_child_hashes_of-requires
-known_child_hashes_of-requires c =
-    let holds = λ (game : ℕ). (held : Board) × HoldsBoard (game_at game) c.args.board.now held in
-    record { known = subst holds c.in-0.is (c.requires.known (omega (arith, c.in-0.is))) }
 
 pub returns-in-0-clause-done : goal.returns-in-0-clause-done
 returns-in-0-clause-done c = λ done.
@@ -20,11 +14,6 @@ returns-in-0-clause-no_room c = λ little.
     subst (λ game. OfLegalMoves (game_at game) c.args.board.now (λ legal. length c.args.children.now < length legal))
     (sym c.in-0.is) (c.known_child_hashes_of.ensures.no_room little)
 
-pub known_child_hashes_of-requires-in-1 : goal.known_child_hashes_of-requires-in-1
-known_child_hashes_of-requires-in-1 c =
-    let holds = λ (game : ℕ). (held : Board) × HoldsBoard (game_at game) c.args.board.now held in
-    record { known = subst holds c.in-1.is (c.requires.known (omega (arith, c.in-1.is))) }
-
 pub returns-in-1-clause-done : goal.returns-in-1-clause-done
 returns-in-1-clause-done c = λ done.
     subst (λ game. HasChildHashes (game_at game) (renamings_at game) c.args.board.now c.args.sums.now
@@ -35,11 +24,6 @@ pub returns-in-1-clause-no_room : goal.returns-in-1-clause-no_room
 returns-in-1-clause-no_room c = λ little.
     subst (λ game. OfLegalMoves (game_at game) c.args.board.now (λ legal. length c.args.children.now < length legal))
     (sym c.in-1.is) (c.known_child_hashes_of-in-1.ensures.no_room little)
-
-pub known_child_hashes_of-requires-in-2 : goal.known_child_hashes_of-requires-in-2
-known_child_hashes_of-requires-in-2 c =
-    let holds = λ (game : ℕ). (held : Board) × HoldsBoard (game_at game) c.args.board.now held in
-    record { known = subst holds c.in-2.is (c.requires.known (omega (arith, c.in-2.is))) }
 
 pub returns-in-2-clause-done : goal.returns-in-2-clause-done
 returns-in-2-clause-done c = λ done.

@@ -1,10 +1,7 @@
 use Rattle.std.{proofs.Common.{◌↔◌, ◌≡◌, subst, sym}, specs.List.{Contains}}
-use Rattle.{fc_board.specs.Boards.{Board}, fc_bytes.specs.{HoldsBoard}}
-use Rattle.fc_bytes.specs.declared.board.BoardBytes.{BoardBytes}
-use Rattle.fc_closed.specs.{AreClosedKeys, IsFirstFlaw, IsUnsolvable}
-use Rattle.fc_closed.specs.declared.check.Flaw.TheVariants.{NoBoard, NotAbove, NotCanonical, Open}
-use Rattle.fc_closed.specs.declared.check.Flaw.TheVariants.{Won}
-use Rattle.fcanon_c.specs.{game_at, renamings_at}
+use Rattle.{fc_board.specs.Boards.{Board}, fc_bytes.specs.{declared.board.BoardBytes.{BoardBytes}, HoldsBoard}}
+use Rattle.{fc_closed.specs.{AreClosedKeys, IsFirstFlaw, IsUnsolvable}, fcanon_c.specs.{game_at, renamings_at}}
+use Rattle.fc_closed.specs.declared.check.Flaw.TheVariants.{NoBoard, NotAbove, NotCanonical, Open, Won}
 use Rattle.fcanon_c.proofs.closed.fcanon_closed.Goals as goal
 
 pub returns-in-0-clause-closed : goal.returns-in-0-clause-closed

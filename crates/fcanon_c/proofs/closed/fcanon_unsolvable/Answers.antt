@@ -1,8 +1,7 @@
 use Rattle.std.proofs.Common.{◌↔◌, ◌≡◌, subst, sym}
 use Rattle.{fc_board.specs.Boards.{Board}, fc_bytes.specs.{HoldsBoard}}
 use Rattle.fc_closed.specs.declared.check.Doubt.TheVariants as doubt
-use Rattle.fc_closed.specs.{IsDoubted, IsUnsolvable, ShowUnsolvable}
-use Rattle.fcanon_c.specs.{game_at, renamings_at}
+use Rattle.{fc_closed.specs.{IsDoubted, IsUnsolvable, ShowUnsolvable}, fcanon_c.specs.{game_at, renamings_at}}
 use Rattle.fcanon_c.proofs.closed.fcanon_unsolvable.Goals as goal
 
 pub returns-in-0-clause-shown : goal.returns-in-0-clause-shown

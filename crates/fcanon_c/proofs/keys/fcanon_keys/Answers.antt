@@ -1,5 +1,4 @@
-use Rattle.std.proofs.Common.{length, subst, sym}
-use Rattle.fc_bytes.specs.{HasNoBoardAt, HaveKeys}
+use Rattle.{fc_bytes.specs.{HasNoBoardAt, HaveKeys}, std.proofs.Common.{length, subst, sym}}
 use Rattle.fcanon_c.specs.{game_at, renamings_at}
 use Rattle.fcanon_c.proofs.keys.fcanon_keys.Goals as goal
 

@@ -1,6 +1,4 @@
-use Rattle.std.proofs.Common.{subst, sym}
-use Rattle.fc_bytes.specs.{LeadsToChild}
-use Rattle.fcanon_c.specs.{game_at, renamings_at}
+use Rattle.{fc_bytes.specs.{LeadsToChild}, fcanon_c.specs.{game_at, renamings_at}, std.proofs.Common.{subst, sym}}
 use Rattle.fcanon_c.proofs.moves.fcanon_child.Goals as goal
 
 pub returns-in-0-clause-done : goal.returns-in-0-clause-done

@@ -1,6 +1,4 @@
-use Rattle.std.proofs.Common.{subst, sym}
-use Rattle.fc_bytes.specs.{HasSymmetries}
-use Rattle.fcanon_c.specs.{game_at}
+use Rattle.{fc_bytes.specs.{HasSymmetries}, fcanon_c.specs.{game_at}, std.proofs.Common.{subst, sym}}
 use Rattle.fcanon_c.proofs.symmetry.fcanon_symmetries.Goals as goal
 
 pub returns-in-0-clause-done : goal.returns-in-0-clause-done

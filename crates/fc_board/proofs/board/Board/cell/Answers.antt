@@ -1,5 +1,4 @@
-use Rattle.std.proofs.Common.{arith}
-use Rattle.std.proofs.lemmas.Grind.{common_steps}
+use Rattle.std.proofs.{Common.{arith}, lemmas.Grind.{common_steps}}
 use Rattle.fc_board.proofs.board.Board.cell.Goals as goal
 
 pub offset_bounds-self-inside-i : goal.offset_bounds-self-inside-i

@@ -1,5 +1,4 @@
-use Rattle.std.proofs.Common.{arith}
-use Rattle.fc_board.proofs.RunStepLemmas.{longest_few}
+use Rattle.{fc_board.proofs.RunStepLemmas.{longest_few}, std.proofs.Common.{arith}}
 use Rattle.fc_board.proofs.board.Board.count_onto_card.Goals as goal
 
 pub first_of_last-requires : goal.first_of_last-requires

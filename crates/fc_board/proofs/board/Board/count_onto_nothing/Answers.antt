@@ -1,8 +1,7 @@
 use Rattle.std.proofs.Common.{ap, arith, length}
+use Rattle.fc_board.proofs.board.Board.count_onto_nothing.Goals.{in-None, in-Some+else-count-longest+else-count-most}
 use Rattle.fc_board.proofs.RunStepLemmas.{longest_few, longest_some, some_capacity, some_said}
 use Rattle.fc_board.specs.Steps.{column_at}
-use Rattle.fc_board.proofs.board.Board.count_onto_nothing.Goals.{in-None}
-use Rattle.fc_board.proofs.board.Board.count_onto_nothing.Goals.{in-Some+else-count-longest+else-count-most}
 use Rattle.fc_board.proofs.board.Board.count_onto_nothing.Goals as goal
 
 pub first_of_last-requires : goal.first_of_last-requires

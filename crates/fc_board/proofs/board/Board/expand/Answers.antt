@@ -1,5 +1,4 @@
-use Rattle.fc_board.proofs.RunStepLemmas.{expanded_ok}
-use Rattle.fc_board.specs.declared.run_move.RunMove.TheVariants.{One, Run}
+use Rattle.fc_board.{proofs.RunStepLemmas.{expanded_ok}, specs.declared.run_move.RunMove.TheVariants.{One, Run}}
 use Rattle.fc_board.proofs.board.Board.expand.Goals as goal
 
 pub returns-in-One-clause-expands : goal.returns-in-One-clause-expands

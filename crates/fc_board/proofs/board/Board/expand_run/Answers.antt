@@ -1,6 +1,5 @@
 use Rattle.std.proofs.Common.{◌∙◌, rules}
-use Rattle.fc_board.proofs.RunStepLemmas.{room_by, room_there}
-use Rattle.fc_board.specs.Steps.{free_cells, spare_columns}
+use Rattle.fc_board.{proofs.RunStepLemmas.{room_by, room_there}, specs.Steps.{free_cells, spare_columns}}
 use Rattle.fc_board.proofs.board.Board.expand_run.Goals as goal
 
 pub put_expansion-requires-clause-count : goal.put_expansion-requires-clause-count

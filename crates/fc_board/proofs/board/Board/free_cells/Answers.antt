@@ -1,8 +1,6 @@
-use Rattle.std.proofs.Common.{arith}
-use Rattle.std.specs.Option.{is_none}
-use Rattle.fc_board.proofs.PlacesLemmas.{found_place, left_place, nothing_held, room_left}
-use Rattle.fc_board.specs.Steps.{cell_at}
+use Rattle.std.{proofs.Common.{arith}, specs.Option.{is_none}}
 use Rattle.fc_board.proofs.board.Board.free_cells.Goals.{else-is_none, then-is_none}
+use Rattle.fc_board.{proofs.PlacesLemmas.{found_place, left_place, nothing_held, room_left}, specs.Steps.{cell_at}}
 use Rattle.fc_board.proofs.board.Board.free_cells.Goals as goal
 
 pub push-requires : goal.push-requires

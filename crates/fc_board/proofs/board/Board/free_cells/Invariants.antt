@@ -1,8 +1,5 @@
-use Rattle.std.proofs.Common.{◌≡◌}
-use Rattle.std.specs.List.{filter}
-use Rattle.std.specs.Option.{is_none}
-use Rattle.fc_card.specs.{places}
-use Rattle.fc_board.specs.Steps.{cell_at}
+use Rattle.std.{proofs.Common.{◌≡◌}, specs.{List.{filter}, Option.{is_none}}}
+use Rattle.{fc_board.specs.Steps.{cell_at}, fc_card.specs.{places}}
 use Rattle.fc_board.proofs.board.Board.free_cells.Given as goal
 
 abbrev pub invariant-loop-cell : goal.invariant-loop-cell

@@ -1,7 +1,6 @@
 use Rattle.std.proofs.Common.{◌∙◌, ◌≡◌, arith, length, List, refl, rules, slice_index, sym, take, ℕ}
 use Rattle.std.specs.List.{flat_map}
-use Rattle.fc_board.proofs.BoardLemmas.{game_cells}
-use Rattle.fc_board.proofs.ColumnsLemmas.{all_cards_laid, length-columns_from}
+use Rattle.fc_board.proofs.{BoardLemmas.{game_cells}, ColumnsLemmas.{all_cards_laid, length-columns_from}}
 use Rattle.fc_board.proofs.CountedLemmas.{fault-not_once, IsDeckFault-found, IsWellFormed-each_once}
 use Rattle.fc_board.specs.inside.{AscendTo, columns_from}
 use Rattle.fc_board.proofs.board.Board.from_laid.Goals as goal

@@ -1,11 +1,8 @@
-use Rattle.std.proofs.Common.{◌≡◌, ap, map, refl, rules}
-use Rattle.std.specs.List.{flat_map}
-use Rattle.fc_board.proofs.BoardLemmas.{game_cells}
-use Rattle.fc_board.proofs.CountedLemmas.{cards_of_vectors, fault-not_once, IsDeckFault-found}
-use Rattle.fc_board.proofs.CountedLemmas.{IsWellFormed-vectors, room_in_vectors}
-use Rattle.fc_board.specs.Boards.{board_of_parts, IsWellFormed}
+use Rattle.std.{proofs.Common.{◌≡◌, ap, map, refl, rules}, specs.List.{flat_map}}
+use Rattle.fc_board.proofs.{board.Board.from_parts.Given.{Over}, BoardLemmas.{game_cells}}
+use Rattle.fc_board.proofs.CountedLemmas.{cards_of_vectors, fault-not_once, IsDeckFault-found, IsWellFormed-vectors}
+use Rattle.fc_board.{proofs.CountedLemmas.{room_in_vectors}, specs.Boards.{board_of_parts, IsWellFormed}}
 use Rattle.fc_board.specs.inside.{board_of_laid}
-use Rattle.fc_board.proofs.board.Board.from_parts.Given.{Over}
 use Rattle.fc_board.proofs.board.Board.from_parts.Goals as goal
 
 pub of-requires : goal.of-requires
@@ -41,9 +38,6 @@ returns-in-Some-clause-deck g c = (λ unlike. absurd (cc), λ once. absurd (faul
 
 pub returns-in-None-clause-deck : goal.returns-in-None-clause-deck
 returns-in-None-clause-deck g c = (λ same. (well g c).one_place, λ once. refl)
-
-pub returns-in-None-clause-parts : goal.returns-in-None-clause-parts
-returns-in-None-clause-parts g c = laid g c
 
 pub returns-in-None-clause-well_formed : goal.returns-in-None-clause-well_formed
 returns-in-None-clause-well_formed g c = rw (laid g c) (well g c)

@@ -1,7 +1,5 @@
-use Rattle.std.proofs.Common.{◌≡◌, arith, refl, Some, subst}
-use Rattle.std.proofs.lemmas.Grind.{common_steps}
-use Rattle.fc_board.proofs.ListLemmas.{HasPlayed-more, refused_next}
-use Rattle.fc_board.specs.Boards.{IsWellFormed}
+use Rattle.std.proofs.{Common.{◌≡◌, arith, refl, Some, subst}, lemmas.Grind.{common_steps}}
+use Rattle.fc_board.{proofs.ListLemmas.{HasPlayed-more, refused_next}, specs.Boards.{IsWellFormed}}
 use Rattle.fc_board.proofs.board.Board.play_list.Goals as goal
 
 pub loop-index-init : goal.loop-index-init

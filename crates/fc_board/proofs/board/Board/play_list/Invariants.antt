@@ -1,5 +1,4 @@
-use Rattle.std.proofs.Common.{take}
-use Rattle.fc_board.proofs.ListLemmas.{HasPlayed}
+use Rattle.{fc_board.proofs.ListLemmas.{HasPlayed}, std.proofs.Common.{take}}
 use Rattle.fc_board.proofs.board.Board.play_list.Given as goal
 
 abbrev pub invariant-loop-index : goal.invariant-loop-index

@@ -1,5 +1,4 @@
-use Rattle.fc_board.proofs.ListLemmas.{played-exactly}
-use Rattle.fc_board.proofs.RunPlayLemmas.{several}
+use Rattle.fc_board.proofs.{ListLemmas.{played-exactly}, RunPlayLemmas.{several}}
 use Rattle.fc_board.proofs.board.Board.play_runs.Goals as goal
 
 pub returns-clause-legal : goal.returns-clause-legal

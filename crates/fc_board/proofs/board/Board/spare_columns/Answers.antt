@@ -1,11 +1,9 @@
 use Rattle.std.proofs.Common.{arith}
-use Rattle.fc_board.proofs.PlacesLemmas.{a_helper, found_place, left_place, no_helper, room_left}
-use Rattle.fc_board.proofs.PlacesLemmas.{target_no_helper}
-use Rattle.fc_board.specs.Steps.{is_helper}
-use Rattle.fc_board.proofs.board.Board.spare_columns.Goals.{else-is_empty}
-use Rattle.fc_board.proofs.board.Board.spare_columns.Goals.{else-is_empty-via-else-is_empty}
+use Rattle.fc_board.proofs.board.Board.spare_columns.Goals.{else-is_empty, else-is_empty-via-else-is_empty}
 use Rattle.fc_board.proofs.board.Board.spare_columns.Goals.{else-is_empty-via-then-is_empty+else-column-target}
 use Rattle.fc_board.proofs.board.Board.spare_columns.Goals.{then-is_empty+then-column-target}
+use Rattle.fc_board.proofs.PlacesLemmas.{a_helper, found_place, left_place, no_helper, room_left, target_no_helper}
+use Rattle.fc_board.specs.Steps.{is_helper}
 use Rattle.fc_board.proofs.board.Board.spare_columns.Goals as goal
 
 pub push-requires : goal.push-requires

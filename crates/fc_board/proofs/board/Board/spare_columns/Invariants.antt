@@ -1,7 +1,5 @@
-use Rattle.std.proofs.Common.{◌≡◌}
-use Rattle.std.specs.List.{filter}
-use Rattle.fc_card.specs.{places}
-use Rattle.fc_board.specs.Steps.{is_helper}
+use Rattle.std.{proofs.Common.{◌≡◌}, specs.List.{filter}}
+use Rattle.{fc_board.specs.Steps.{is_helper}, fc_card.specs.{places}}
 use Rattle.fc_board.proofs.board.Board.spare_columns.Given as goal
 
 abbrev pub invariant-loop-column : goal.invariant-loop-column

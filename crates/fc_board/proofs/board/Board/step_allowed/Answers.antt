@@ -1,9 +1,6 @@
 use Rattle.std.proofs.Common.{◌∙◌, subst, sym}
-use Rattle.fc_board.proofs.BoardLemmas.{has_card}
-use Rattle.fc_board.proofs.MoveInPlace.{IsMovedInPlace, moved_in_place, room_there}
-use Rattle.fc_board.proofs.StepLemmas.{step_from}
-use Rattle.fc_board.specs.Boards.{Board}
-use Rattle.fc_board.specs.inside.{board_with, HasCard}
+use Rattle.fc_board.proofs.{BoardLemmas.{has_card}, MoveInPlace.{IsMovedInPlace, moved_in_place, room_there}}
+use Rattle.fc_board.{proofs.StepLemmas.{step_from}, specs.{Boards.{Board}, inside.{board_with, HasCard}}}
 use Rattle.fc_board.proofs.board.Board.step_allowed.Given
 use Rattle.fc_board.proofs.board.Board.step_allowed.Goals as goal
 

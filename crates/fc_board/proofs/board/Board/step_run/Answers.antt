@@ -1,8 +1,6 @@
 use Rattle.std.proofs.Common.{◌∙◌, ◌≡◌, ◌≤◌, [], ap, get_or, length, List, subst, sym, take, ℕ}
-use Rattle.fc_board.proofs.BoardLemmas.{columns_together}
-use Rattle.fc_board.proofs.MoveInPlace.{goes_over_at_once, GoesOver}
-use Rattle.fc_board.specs.Steps.{run_moved}
-use Rattle.fc_board.specs.inside.{board_of_laid}
+use Rattle.fc_board.proofs.{BoardLemmas.{columns_together}, MoveInPlace.{goes_over_at_once, GoesOver}}
+use Rattle.fc_board.specs.{inside.{board_of_laid}, Steps.{run_moved}}
 use Rattle.fc_board.proofs.board.Board.step_run.Given
 use Rattle.fc_board.proofs.board.Board.step_run.Goals as goal
 

@@ -1,6 +1,4 @@
-use Rattle.std.proofs.Common.{◌≡◌, length, take}
-use Rattle.std.specs.List.{count_by}
-use Rattle.std.specs.Prelude.{◌==◌}
+use Rattle.std.{proofs.Common.{◌≡◌, length, take}, specs.{List.{count_by}, Prelude.{◌==◌}}}
 use Rattle.fc_board.proofs.columns.Columns.count_empty.Given as goal
 
 abbrev pub invariant-loop-i : goal.invariant-loop-i

@@ -1,7 +1,6 @@
 use Rattle.std.proofs.Common.{◌++◌, ◌+◌, ◌∙◌, ap, arith, length, map, subst, sym, take}
-use Rattle.fc_board.proofs.ColumnsLemmas.{all_ascend, all_items_laid, all_laid, AreLaid, FirstLaid}
-use Rattle.fc_board.proofs.ColumnsLemmas.{one_more_laid, room_after}
 use Rattle.fc_board.proofs.columns.Columns.of.Goals.{After-loop-i}
+use Rattle.fc_board.proofs.ColumnsLemmas.{all_items_laid, all_laid, AreLaid, FirstLaid, one_more_laid, room_after}
 use Rattle.fc_board.proofs.columns.Columns.of.Goals as goal
 
 pub lay-count-requires : goal.lay-count-requires
@@ -10,15 +9,6 @@ lay-count-requires c =
     room_after (λ column. column.items) c.args.columns.now c.loop-i.i c.index-columns-i.result (omega arith) c.index-columns-i.is c.requires in
     let items = ap length (c.as_slice.ensures.value ∙ ap (λ column. column.items) (sym c.index-columns-i.is)) in
     let so_far = c.loop-i.invariant.counted in
-    omega arith
-
-pub overflow_cast-ends : goal.overflow_cast-ends
-overflow_cast-ends c =
-    let room =
-    room_after (λ column. column.items) c.args.columns.now c.loop-i.i c.index-columns-i.result (omega arith) c.index-columns-i.is c.requires in
-    let items = ap length (c.as_slice.ensures.value ∙ ap (λ column. column.items) (sym c.index-columns-i.is)) in
-    let so_far = c.loop-i.invariant.counted in
-    let end = c.lay-count.ensures.end in
     omega arith
 
 pub loop-i-preserved : goal.loop-i-preserved
@@ -32,9 +22,6 @@ laid : (c : After-loop-i) → AreLaid (map (λ column. column.items) c.args.colu
 laid c =
     all_items_laid (λ column. column.items) c.args.columns.now c.loop-i.cards c.loop-i.ends c.loop-i.count c.type_inv.columns
     (subst (λ i. FirstLaid (λ column. column.items) c.args.columns.now c.loop-i.cards c.loop-i.ends i c.loop-i.count) (omega arith) c.loop-i.invariant)
-
-pub from_ends-requires : goal.from_ends-requires
-from_ends-requires c = all_ascend (map (λ column. column.items) c.args.columns.now) c.loop-i.cards c.loop-i.ends c.loop-i.count (laid c)
 
 pub returns : goal.returns
 returns c =

@@ -1,7 +1,5 @@
-use Rattle.std.proofs.Common.{◌∙◌, ◌≡◌, ap, arith, get_or, length, rules, subst, suc}
-use Rattle.std.proofs.lemmas.List.{get_or_default}
-use Rattle.fc_board.proofs.ColumnsLemmas.{bounds_below, InMemory, last_within, put_ascend}
-use Rattle.fc_board.proofs.ColumnsLemmas.{put_columns}
+use Rattle.std.proofs.{Common.{◌∙◌, ◌≡◌, ap, arith, get_or, length, rules, subst, suc}, lemmas.List.{get_or_default}}
+use Rattle.fc_board.proofs.ColumnsLemmas.{bounds_below, InMemory, last_within, put_ascend, put_columns}
 use Rattle.fc_board.specs.inside.{AreIn, columns_between, raised}
 use Rattle.fc_board.proofs.columns.Columns.put_on.Goals as goal
 

@@ -1,6 +1,5 @@
 use Rattle.std.proofs.Common.{◌∙◌, ◌≡◌, ap, arith, get_or, rules, subst, suc}
-use Rattle.fc_board.proofs.ColumnsLemmas.{bound_within, count_there, InMemory, last_within}
-use Rattle.fc_board.proofs.ColumnsLemmas.{taken_ascend, taken_columns}
+use Rattle.fc_board.proofs.ColumnsLemmas.{bound_within, count_there, InMemory, last_within, taken_ascend, taken_columns}
 use Rattle.fc_board.specs.inside.{AreOut, columns_between, lowered}
 use Rattle.fc_board.proofs.columns.Columns.take_off.Goals as goal
 

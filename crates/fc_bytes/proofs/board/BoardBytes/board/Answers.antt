@@ -1,11 +1,8 @@
 use Rattle.std.proofs.Common.{◌∙◌, ◌≡◌, All, ap, arith, drop, get_or, length, refl, rules, subst, sym, take}
-use Rattle.{fc_bytes.proofs.BitsDecoded.{ends_at}, fc_card.specs.{AreBitsOf}, std.specs.List.{sum}}
-use Rattle.std.proofs.lemmas.Bool.{iff_false}
-use Rattle.fc_board.proofs.ColumnsLemmas.{column_within}
-use Rattle.fc_board.specs.Boards.{HasEachCardOnce}
-use Rattle.fc_bytes.proofs.DecodedLemmas.{in_game_held}
-use Rattle.fc_bytes.proofs.ExactBytes.{exact_held, exact_of_held, zero_rest, zeros_none}
-use Rattle.fc_bytes.specs.{board_bytes}
+use Rattle.std.{proofs.lemmas.Bool.{iff_false}, specs.List.{sum}}
+use Rattle.{fc_board.{proofs.ColumnsLemmas.{column_within}, specs.Boards.{HasEachCardOnce}}, fc_card.specs.{AreBitsOf}}
+use Rattle.fc_bytes.proofs.{BitsDecoded.{ends_at}, DecodedLemmas.{in_game_held}}
+use Rattle.fc_bytes.{proofs.ExactBytes.{exact_held, exact_of_held, zero_rest, zeros_none}, specs.{board_bytes}}
 use Rattle.fc_bytes.proofs.board.BoardBytes.board.Goals as goal
 
 pub returns-then-not-is_exact-clause-no_board : goal.returns-then-not-is_exact-clause-no_board

@@ -1,7 +1,5 @@
-use Rattle.std.proofs.Common.{◌++◌, ◌∙◌, ◌∷◌, ◌≡◌, [], ap, ap₂, List, sym, ℕ}
-use Rattle.std.proofs.lemmas.List.Sums.{fold-append}
-use Rattle.std.specs.Hash.DefaultHasher.{finish, initial, write, write_byte}
-use Rattle.std.specs.Int.{to_le_bytes, w64}
+use Rattle.std.proofs.{Common.{◌++◌, ◌∙◌, ◌∷◌, ◌≡◌, [], ap, ap₂, List, sym, ℕ}, lemmas.List.Sums.{fold-append}}
+use Rattle.std.specs.{Hash.DefaultHasher.{finish, initial, write, write_byte}, Int.{to_le_bytes, w64}}
 use Rattle.fc_bytes.specs.{all_bytes}
 use Rattle.fc_bytes.proofs.board.BoardBytes.board_hash.Goals as goal
 

@@ -1,8 +1,6 @@
-use Rattle.std.proofs.Common.{◌∙◌, ◌≤◌, ap, subst, sym}
-use Rattle.std.proofs.lemmas.List.Elements.{All-from_get_or}
+use Rattle.std.proofs.{Common.{◌∙◌, ◌≤◌, ap, subst, sym}, lemmas.List.Elements.{All-from_get_or}}
 use Rattle.fc_board.specs.Boards.{IsWellFormed}
-use Rattle.fc_bytes.proofs.DecodedLemmas.{in_game_held}
-use Rattle.fc_bytes.proofs.ExactBytes.{exact_of_held, zero_rest, zeros_none}
+use Rattle.fc_bytes.proofs.{DecodedLemmas.{in_game_held}, ExactBytes.{exact_of_held, zero_rest, zeros_none}}
 use Rattle.fc_bytes.specs.{board_bytes}
 use Rattle.fc_bytes.proofs.board.BoardBytes.known_board.Goals as goal
 

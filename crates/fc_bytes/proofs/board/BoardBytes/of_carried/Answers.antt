@@ -1,8 +1,5 @@
-use Rattle.std.proofs.Common.{◌∙◌, ap, length, map, subst, sym}
-use Rattle.std.specs.List.{flat_map}
-use Rattle.fc_bytes.specs.{cell_byte, HoldsBoard, padded}
-use Rattle.fc_bytes.specs.inside.{card_byte}
-use Rattle.fc_bytes.specs.declared.board.BoardBytes.{BoardBytes}
+use Rattle.std.{proofs.Common.{◌∙◌, ap, length, map, subst, sym}, specs.List.{flat_map}}
+use Rattle.fc_bytes.specs.{cell_byte, declared.board.BoardBytes.{BoardBytes}, HoldsBoard, inside.{card_byte}, padded}
 use Rattle.fc_bytes.proofs.board.BoardBytes.of_carried.Goals as goal
 
 pub returns : goal.returns

@@ -1,5 +1,4 @@
-use Rattle.std.proofs.Common.{◌+◌, ◌-◌, ◌∙◌, ◌≡◌, ap, arith}
-use Rattle.std.specs.Prelude.{slice_get}
+use Rattle.std.{proofs.Common.{◌+◌, ◌-◌, ◌∙◌, ◌≡◌, ap, arith}, specs.Prelude.{slice_get}}
 use Rattle.fc_board.specs.Steps.{step_faults}
 use Rattle.fc_bytes.proofs.calls.answers.reason_number.Goals as goal
 

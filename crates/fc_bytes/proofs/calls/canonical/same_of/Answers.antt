@@ -1,8 +1,6 @@
-use Rattle.std.proofs.Common.{◌∙◌, ◌≤◌, ap, arith, refl, subst, sym}
-use Rattle.std.proofs.lemmas.Bool.{iff_false}
+use Rattle.std.proofs.{Common.{◌∙◌, ◌≤◌, ap, arith, refl, subst, sym}, lemmas.Bool.{iff_false}}
 use Rattle.fc_board.specs.Passages.{Carries, inverse_passage, passage_product}
-use Rattle.fc_canon.proofs.LeastTextLemmas.{chosen-between, chosen_passage-Chosen, one_chosen}
-use Rattle.fc_canon.specs.{chosen_passage}
+use Rattle.fc_canon.{proofs.LeastTextLemmas.{chosen-between, chosen_passage-Chosen, one_chosen}, specs.{chosen_passage}}
 use Rattle.fc_bytes.proofs.PassageDecoded.{canonical_bytes}
 use Rattle.fc_bytes.proofs.calls.canonical.same_of.Goals as goal
 

@@ -1,8 +1,6 @@
 use Rattle.std.proofs.Common.{◌-◌, ◌<◌, ◌∙◌, ap, ap₂, arith, get_or, length, List, ℕ}
-use Rattle.fc_board.specs.Moves.{move_between}
-use Rattle.fc_board.specs.declared.moves.{Place.TheVariants.{Home}, Source.TheVariants.{Column}}
-use Rattle.fc_bytes.proofs.{LegalMoves.{listed_there}, SumLemmas.{alike-hash}}
-use Rattle.fc_bytes.specs.{legal_moves}
+use Rattle.fc_board.specs.{declared.moves.{Place.TheVariants.{Home}, Source.TheVariants.{Column}}, Moves.{move_between}}
+use Rattle.fc_bytes.{proofs.{LegalMoves.{listed_there}, SumLemmas.{alike-hash}}, specs.{legal_moves}}
 use Rattle.fc_bytes.specs.declared.{child_hash.ChildHash.{ChildHash}, moves.MoveBytes.{MoveBytes}}
 use Rattle.fc_bytes.proofs.calls.child_hashes.next_child.Goals as goal
 

@@ -1,13 +1,9 @@
-use Rattle.std.proofs.Common.{◌++◌, ◌+◌, ◌-◌, ◌<◌, ◌∙◌, ◌≡◌, ap, ap₂, arith, drop, get_or, length}
-use Rattle.std.proofs.{Common.{List, map, sym, take, ℕ}, lemmas.List.{drop-drop, drop-set-lt}}
-use Rattle.std.proofs.lemmas.List.{get_or-map, get_or-take, length-map, length-set, length-take-le}
-use Rattle.std.proofs.lemmas.List.{take-append-drop, take_all}
-use Rattle.fc_board.specs.Moves.{move_between}
-use Rattle.fc_board.specs.declared.moves.{Move.{Move}, Place.TheVariants.{Home}}
-use Rattle.fc_board.specs.declared.moves.Source.TheVariants.{Column}
-use Rattle.fc_bytes.{proofs.ChildrenLemmas.{written_more}, specs.class_hash.{child_hash}}
-use Rattle.fc_bytes.specs.{legal_moves, move_bytes}
-use Rattle.fc_bytes.specs.declared.child_hash.ChildHash.{ChildHash}
+use Rattle.std.proofs.Common.{◌++◌, ◌+◌, ◌-◌, ◌<◌, ◌∙◌, ◌≡◌, ap, ap₂, arith, drop, get_or, length, List, map, sym, take}
+use Rattle.std.proofs.{Common.{ℕ}, lemmas.List.{drop-drop, drop-set-lt, get_or-map, get_or-take, length-map}}
+use Rattle.std.proofs.lemmas.List.{length-set, length-take-le, take-append-drop, take_all}
+use Rattle.{fc_board.specs.Moves.{move_between}, fc_bytes.specs.declared.child_hash.ChildHash.{ChildHash}}
+use Rattle.fc_board.specs.declared.moves.{Move.{Move}, Place.TheVariants.{Home}, Source.TheVariants.{Column}}
+use Rattle.fc_bytes.{proofs.ChildrenLemmas.{written_more}, specs.{class_hash.{child_hash}, legal_moves, move_bytes}}
 use Rattle.fc_bytes.proofs.calls.child_hashes.put_hashes.Goals as goal
 
 -- the move before is written with its hash

@@ -1,8 +1,6 @@
-use Rattle.std.proofs.Common.{◌<◌, ◌∙◌, ◌≡◌, arith, inl, inr, length, subst, ℕ}
-use Rattle.std.proofs.lemmas.Bool.{cases_lt}
+use Rattle.std.proofs.{Common.{◌<◌, ◌∙◌, ◌≡◌, arith, inl, inr, length, subst, ℕ}, lemmas.Bool.{cases_lt}}
 use Rattle.std.proofs.lemmas.List.{get_or_default}
-use Rattle.fc_bytes.proofs.PassageDecoded.{keys_next, left_there}
-use Rattle.fc_bytes.specs.{HasKey, HaveKeys, HoldsBoard, HoldsNone}
+use Rattle.fc_bytes.{proofs.PassageDecoded.{keys_next, left_there}, specs.{HasKey, HaveKeys, HoldsBoard, HoldsNone}}
 use Rattle.fc_bytes.proofs.calls.keys.keys_of.Goals as goal
 
 not_zero : (answer : ℕ) → ¬ (answer ≡ 0) → 0 < answer

@@ -1,5 +1,4 @@
-use Rattle.std.proofs.Common.{refl}
-use Rattle.fc_bytes.specs.{board_bytes}
+use Rattle.{fc_bytes.specs.{board_bytes}, std.proofs.Common.{refl}}
 use Rattle.fc_bytes.proofs.calls.moves.child_of.Goals as goal
 
 pub returns-in-Ok-clause-done : goal.returns-in-Ok-clause-done

@@ -1,8 +1,6 @@
-use Rattle.std.proofs.{Common.{◌++◌, ◌∙◌, ◌≡◌, ap, arith, map, sym}, lemmas.List.{map-append}}
-use Rattle.std.specs.List.{flat_map}
+use Rattle.std.{proofs.{Common.{◌++◌, ◌∙◌, ◌≡◌, ap, arith, map, sym}, lemmas.List.{map-append}}, specs.List.{flat_map}}
 use Rattle.fc_card.specs.{places}
-use Rattle.fc_bytes.proofs.{ChildrenLemmas.{source_more}, RunMoves.{exactly}}
-use Rattle.fc_bytes.specs.{legal_runs_from, run_bytes}
+use Rattle.fc_bytes.{proofs.{ChildrenLemmas.{source_more}, RunMoves.{exactly}}, specs.{legal_runs_from, run_bytes}}
 use Rattle.fc_bytes.proofs.calls.run_moves.push_legal_runs.Goals as goal
 
 pub loop-from-preserved : goal.loop-from-preserved

@@ -1,6 +1,5 @@
-use Rattle.std.proofs.Common.{◌++◌, ◌+◌, ◌-◌, ◌<◌, ◌∙◌, ◌∷◌, ◌≡◌, ◌⊎◌, [], ap, ap₂, arith, cond}
-use Rattle.std.proofs.{Common.{inl, inr, map, Some, sym}, lemmas.List.{append-nil}}
-use Rattle.std.specs.Option.{is_none}
+use Rattle.std.proofs.Common.{◌++◌, ◌+◌, ◌-◌, ◌<◌, ◌∙◌, ◌∷◌, ◌≡◌, ◌⊎◌, [], ap, ap₂, arith, cond, inl, inr, map, Some}
+use Rattle.std.{proofs.{Common.{sym}, lemmas.List.{append-nil}}, specs.Option.{is_none}}
 use Rattle.{fc_board.specs.Steps.{column_at, longest_run, run_refusal}, fc_card.specs.{rank_of}}
 use Rattle.fc_board.specs.declared.run_move.RunMove.TheVariants.{Run}
 use Rattle.fc_bytes.proofs.calls.run_moves.push_run_onto.Goals.{then-count-lt2-via-else-count-lt2+then-from-pair}

@@ -1,9 +1,8 @@
-use Rattle.std.proofs.Common.{◌++◌, ◌+◌, ◌-◌, ◌∙◌, ◌≡◌, ◌≤◌, ap, arith, Bool, map, Some, sym, ℕ}
-use Rattle.std.specs.{List.{filter}, Option.{is_none}}
+use Rattle.std.{proofs.Common.{◌++◌, ◌+◌, ◌-◌, ◌∙◌, ◌≡◌, ◌≤◌, ap, arith, Bool, map, Some, sym, ℕ}, specs.List.{filter}}
+use Rattle.std.specs.Option.{is_none}
 use Rattle.{fc_board.specs.Steps.{run_refusal}, fc_card.specs.{places}}
 use Rattle.fc_board.specs.declared.run_move.RunMove.{RunMove, TheVariants.{Run}}
-use Rattle.fc_bytes.proofs.{ChildrenLemmas.{pushed_more, rest_fails}, RunMoves.{refused_past}}
-use Rattle.fc_bytes.specs.{run_bytes}
+use Rattle.fc_bytes.{proofs.{ChildrenLemmas.{pushed_more, rest_fails}, RunMoves.{refused_past}}, specs.{run_bytes}}
 use Rattle.fc_bytes.proofs.calls.run_moves.push_runs_of_each_count.Goals as goal
 
 pub loop-more-preserved : goal.loop-more-preserved

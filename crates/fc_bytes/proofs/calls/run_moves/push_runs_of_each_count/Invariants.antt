@@ -1,7 +1,6 @@
-use Rattle.std.{proofs.Common.{◌++◌, ◌+◌, ◌≡◌, ◌≤◌, length, map, Some}, specs.List.{filter}}
-use Rattle.std.specs.Option.{is_none}
-use Rattle.{fc_board.specs.Steps.{run_refusal}, fc_bytes.specs.{run_bytes}, fc_card.specs.{places}}
-use Rattle.fc_board.specs.declared.run_move.RunMove.TheVariants.{Run}
+use Rattle.std.{proofs.Common.{◌++◌, ◌+◌, ◌≡◌, ◌≤◌, length, map, Some}, specs.{List.{filter}, Option.{is_none}}}
+use Rattle.{fc_board.specs.{declared.run_move.RunMove.TheVariants.{Run}, Steps.{run_refusal}}, fc_card.specs.{places}}
+use Rattle.fc_bytes.specs.{run_bytes}
 use Rattle.fc_bytes.proofs.calls.run_moves.push_runs_of_each_count.Given as goal
 
 abbrev pub invariant-loop-more : goal.invariant-loop-more

@@ -1,6 +1,5 @@
 use Rattle.std.proofs.Common.{◌∙◌, sym}
-use Rattle.fc_text.proofs.TokenLemmas.{letter_there}
-use Rattle.fc_text.specs.Notation.{column_digits}
+use Rattle.fc_text.{proofs.TokenLemmas.{letter_there}, specs.Notation.{column_digits}}
 use Rattle.fc_bytes.proofs.calls.runs.capacity_of.Goals as goal
 
 pub returns-clause-done : goal.returns-clause-done

@@ -1,6 +1,4 @@
-use Rattle.std.proofs.Common.{All, subst, sym}
-use Rattle.fc_board.proofs.RunStepLemmas.{expanded_fit}
-use Rattle.fc_board.specs.Moves.{Fits}
+use Rattle.{fc_board.{proofs.RunStepLemmas.{expanded_fit}, specs.Moves.{Fits}}, std.proofs.Common.{All, subst, sym}}
 use Rattle.fc_bytes.proofs.calls.runs.expand_of.Goals as goal
 
 pub put_moves-requires : goal.put_moves-requires

@@ -1,9 +1,7 @@
 use Rattle.std.proofs.Common.{◌∙◌, ◌≡◌, ◌≤◌, ap, arith, length, refl, rules, subst, sym, take}
-use Rattle.std.proofs.lemmas.Bool.{iff_false}
-use Rattle.std.specs.List.{Contains}
+use Rattle.std.{proofs.lemmas.Bool.{iff_false}, specs.List.{Contains}}
 use Rattle.fc_card.specs.{IsOrder, IsRenaming}
-use Rattle.fc_bytes.proofs.PassageDecoded.{held_cells, held_columns, held_rest_zero, held_suits}
-use Rattle.fc_bytes.proofs.PassageDecoded.{parts_held}
+use Rattle.fc_bytes.proofs.PassageDecoded.{held_cells, held_columns, held_rest_zero, held_suits, parts_held}
 use Rattle.fc_bytes.specs.{passage_bytes}
 use Rattle.fc_bytes.proofs.passage.PassageBytes.passage.Goals as goal
 

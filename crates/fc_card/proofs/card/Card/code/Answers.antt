@@ -1,6 +1,4 @@
-use Rattle.std.proofs.Common.{arith}
-use Rattle.std.proofs.lemmas.List.FromFn.{get_or-map-range_with_len}
-use Rattle.fc_card.specs.{card_code}
+use Rattle.{fc_card.specs.{card_code}, std.proofs.{Common.{arith}, lemmas.List.FromFn.{get_or-map-range_with_len}}}
 use Rattle.fc_card.proofs.card.Card.code.Goals as goal
 
 pub returns : goal.returns

@@ -1,8 +1,5 @@
-use Rattle.std.proofs.Common.{◌+◌, ◌≡◌, List, min, slice_index, subst, ℕ}
-use Rattle.std.specs.Int.{bit_at}
-use Rattle.std.specs.Int.Bits.{bit_and, bit_or}
-use Rattle.fc_card.proofs.CardSetLemmas.{added, AreCounts-add}
-use Rattle.fc_card.specs.inside.{counts_of}
+use Rattle.std.{proofs.Common.{◌+◌, ◌≡◌, List, min, slice_index, subst, ℕ}, specs.Int.{bit_at, Bits.{bit_and, bit_or}}}
+use Rattle.fc_card.{proofs.CardSetLemmas.{added, AreCounts-add}, specs.inside.{counts_of}}
 use Rattle.fc_card.proofs.card_set.CardSet.add.Goals as goal
 
 pub invariant_of-self : goal.invariant_of-self

@@ -1,7 +1,5 @@
-use Rattle.std.proofs.Common.{List, subst, sym, ℕ}
-use Rattle.std.proofs.lemmas.Bool.{eq-eqb, eqb-true, not-false, not_from_true}
-use Rattle.fc_card.proofs.CardSetLemmas.{none_up_to}
-use Rattle.fc_card.specs.{CountsNoneUpTo, suit_number}
+use Rattle.std.proofs.{Common.{List, subst, sym, ℕ}, lemmas.Bool.{eq-eqb, eqb-true, not-false, not_from_true}}
+use Rattle.fc_card.{proofs.CardSetLemmas.{none_up_to}, specs.{CountsNoneUpTo, suit_number}}
 use Rattle.fc_card.proofs.card_set.CardSet.contains_up_to.Goals as goal
 
 pub returns : goal.returns

@@ -1,7 +1,5 @@
-use Rattle.std.proofs.Common.{◌≡◌, List, slice_index, subst, sym, ℕ}
-use Rattle.std.proofs.lemmas.Bool.{eq-eqb, eqb-true}
-use Rattle.fc_card.proofs.CardSetLemmas.{none_of_card, one_added, one_below}
-use Rattle.fc_card.specs.{IsCard}
+use Rattle.std.proofs.{Common.{◌≡◌, List, slice_index, subst, sym, ℕ}, lemmas.Bool.{eq-eqb, eqb-true}}
+use Rattle.fc_card.{proofs.CardSetLemmas.{none_of_card, one_added, one_below}, specs.{IsCard}}
 use Rattle.fc_card.proofs.card_set.CardSet.insert.Goals as goal
 
 pub add-requires : goal.add-requires

@@ -1,5 +1,4 @@
-use Rattle.std.proofs.Common.{take}
-use Rattle.fc_card.proofs.CardSetLemmas.{AreCounted}
+use Rattle.{fc_card.proofs.CardSetLemmas.{AreCounted}, std.proofs.Common.{take}}
 use Rattle.fc_card.proofs.card_set.CardSet.insert_all.Given as goal
 
 abbrev pub invariant-loop-card : goal.invariant-loop-card

@@ -1,7 +1,5 @@
-use Rattle.std.proofs.Common.{subst, sym}
-use Rattle.std.proofs.lemmas.Bool.{eq-eqb, eqb-true}
-use Rattle.fc_card.proofs.CardSetLemmas.{once_whole, whole_once}
-use Rattle.fc_card.specs.{CountsEachOnce}
+use Rattle.std.proofs.{Common.{subst, sym}, lemmas.Bool.{eq-eqb, eqb-true}}
+use Rattle.fc_card.{proofs.CardSetLemmas.{once_whole, whole_once}, specs.{CountsEachOnce}}
 use Rattle.fc_card.proofs.card_set.CardSet.is_whole.Goals as goal
 
 pub returns-then-self : goal.returns-then-self

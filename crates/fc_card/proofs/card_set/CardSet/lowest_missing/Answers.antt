@@ -1,6 +1,5 @@
 use Rattle.std.proofs.Common.{◌≡◌, List, MatchOption, slice_index, subst, ℕ}
-use Rattle.fc_card.proofs.CardSetLemmas.{missing_found}
-use Rattle.fc_card.specs.{IsLowest, NoCard}
+use Rattle.fc_card.{proofs.CardSetLemmas.{missing_found}, specs.{IsLowest, NoCard}}
 use Rattle.fc_card.proofs.card_set.CardSet.lowest_missing.Goals as goal
 
 pub returns : goal.returns

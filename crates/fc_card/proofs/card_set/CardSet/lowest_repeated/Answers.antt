@@ -1,6 +1,5 @@
 use Rattle.std.proofs.Common.{◌≤◌, List, MatchOption, refl, slice_index, subst, ℕ}
-use Rattle.fc_card.proofs.CardSetLemmas.{repeated_found}
-use Rattle.fc_card.specs.{IsLowest, NoCard}
+use Rattle.fc_card.{proofs.CardSetLemmas.{repeated_found}, specs.{IsLowest, NoCard}}
 use Rattle.fc_card.proofs.card_set.CardSet.lowest_repeated.Goals as goal
 
 pub returns : goal.returns

@@ -1,10 +1,5 @@
-use Rattle.std.proofs.Common.{subst}
-use Rattle.fc_card.proofs.BitsLemmas.{AreBitsOf-more, AreBitsOf-nil}
-use Rattle.fc_card.specs.{IsCard}
+use Rattle.{fc_card.{proofs.BitsLemmas.{AreBitsOf-more}, specs.{IsCard}}, std.proofs.Common.{subst}}
 use Rattle.fc_card.proofs.card_set.CardSet.of.Goals as goal
-
-pub loop-card-init : goal.loop-card-init
-loop-card-init c = AreBitsOf-nil
 
 pub loop-card-preserved : goal.loop-card-preserved
 loop-card-preserved c =

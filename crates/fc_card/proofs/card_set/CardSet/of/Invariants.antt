@@ -1,5 +1,4 @@
-use Rattle.std.proofs.Common.{take}
-use Rattle.fc_card.specs.{AreBitsOf}
+use Rattle.{fc_card.specs.{AreBitsOf}, std.proofs.Common.{take}}
 use Rattle.fc_card.proofs.card_set.CardSet.of.Given as goal
 
 abbrev pub invariant-loop-card : goal.invariant-loop-card

@@ -1,5 +1,4 @@
-use Rattle.std.proofs.Common.{[]}
-use Rattle.fc_card.proofs.CardSetLemmas.{AreCountsOf-append}
+use Rattle.{fc_card.proofs.CardSetLemmas.{AreCountsOf-append}, std.proofs.Common.{[]}}
 use Rattle.fc_card.proofs.card_set.CardSet.of_each.Goals as goal
 
 pub returns : goal.returns

@@ -1,7 +1,5 @@
-use Rattle.std.proofs.Common.{◌<◌, ◌∙◌, ◌≡◌, ap, arith, get_or, length, not}
-use Rattle.std.proofs.lemmas.List.{length-map}
-use Rattle.fc_board.specs.Moves.{move_between}
-use Rattle.fc_board.specs.declared.moves.{Place.TheVariants.{Home}, Source.TheVariants.{Column}}
+use Rattle.std.proofs.{Common.{◌<◌, ◌∙◌, ◌≡◌, ap, arith, get_or, length, not}, lemmas.List.{length-map}}
+use Rattle.fc_board.specs.{declared.moves.{Place.TheVariants.{Home}, Source.TheVariants.{Column}}, Moves.{move_between}}
 use Rattle.fc_bytes.{proofs.LegalMoves.{listed_there}, specs.{legal_moves, move_bytes}}
 use Rattle.fc_collect.proofs.ClosedLemmas.{found_out, none_out, not_out}
 use Rattle.fc_collect.proofs.commands.closed.first_out.Goals as goal

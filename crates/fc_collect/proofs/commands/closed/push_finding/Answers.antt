@@ -1,9 +1,8 @@
 -- The first board that has a flaw is named, or there is none.
-use Rattle.std.proofs.Common.{◌++◌, ◌<◌, ◌∙◌, ap, ap₂, arith, length, sym}
-use Rattle.std.{proofs.lemmas.List.{get_or_default}, specs.Option.{is_some, unwrap_or}}
+use Rattle.std.proofs.{Common.{◌++◌, ◌<◌, ◌∙◌, ap, ap₂, arith, length, sym}, lemmas.List.{get_or_default}}
+use Rattle.std.specs.Option.{is_some, unwrap_or}
 use Rattle.fc_collect.proofs.ClosedLemmas.{classes_counted, flaw_found, is_kept, no_flaw, none_flawed}
-use Rattle.fc_collect.specs.Closed.{Flawed, flawless}
-use Rattle.fc_collect.specs.Groups.{groups_of}
+use Rattle.fc_collect.specs.{Closed.{Flawed, flawless}, Groups.{groups_of}}
 use Rattle.fc_collect.specs.declared.commands.closed.KeptBoard.{KeptBoard}
 use Rattle.fc_collect.proofs.commands.closed.push_finding.Goals as goal
 

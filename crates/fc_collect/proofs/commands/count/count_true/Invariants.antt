@@ -1,5 +1,4 @@
-use Rattle.std.proofs.Common.{◌≡◌, ◌≤◌, take}
-use Rattle.std.specs.List.{count_by}
+use Rattle.std.{proofs.Common.{◌≡◌, ◌≤◌, take}, specs.List.{count_by}}
 use Rattle.fc_collect.proofs.commands.count.count_true.Given as goal
 
 abbrev pub invariant-loop-flag : goal.invariant-loop-flag

@@ -1,7 +1,6 @@
 -- The key says whether the group is there: the member joins it, or begins one.
 use Rattle.std.proofs.Common.{◌++◌, ◌∙◌, ◌∷◌, ◌≡◌, [], ap, get_or, set, subst}
-use Rattle.fc_collect.specs.inside.{IsPlaceAmong}
-use Rattle.fc_collect.proofs.TallyLemmas.{solved-begun, solved-joined}
+use Rattle.fc_collect.{proofs.TallyLemmas.{solved-begun, solved-joined}, specs.inside.{IsPlaceAmong}}
 use Rattle.fc_collect.proofs.commands.count.join.Goals as goal
 
 pub returns-in-Some : goal.returns-in-Some

@@ -1,6 +1,4 @@
-use Rattle.std.proofs.Common.{refl}
-use Rattle.std.proofs.lemmas.Result.{on_ok_weaker}
-use Rattle.fc_board.specs.Games.{game_of}
+use Rattle.{fc_board.specs.Games.{game_of}, std.proofs.{Common.{refl}, lemmas.Result.{on_ok_weaker}}}
 use Rattle.fc_board.specs.declared.rule.Variant.TheVariants.{BakersGame, EightOff, FreeCell}
 use Rattle.fc_collect.proofs.KeyedLemmas.{key-printed}
 use Rattle.fc_collect.proofs.commands.group.push_canonical.Goals as goal

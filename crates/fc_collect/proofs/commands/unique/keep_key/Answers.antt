@@ -1,7 +1,5 @@
-use Rattle.indexmap.specs.IndexSet.{insert_key}
-use Rattle.std.proofs.Common.{◌∙◌, ap, not}
-use Rattle.std.specs.List.{list_any}
-use Rattle.fc_collect.proofs.KeyedLemmas.{compared}
+use Rattle.{fc_collect.proofs.KeyedLemmas.{compared}, indexmap.specs.IndexSet.{insert_key}}
+use Rattle.std.{proofs.Common.{◌∙◌, ap, not}, specs.List.{list_any}}
 use Rattle.fc_collect.proofs.commands.unique.keep_key.Goals as goal
 
 pub returns-in-Ok-clause-added : goal.returns-in-Ok-clause-added

@@ -3,8 +3,7 @@ use Rattle.std.proofs.Common.{◌++◌, ◌∙◌, ◌≡◌, ap, Err, Ok, refl,
 use Rattle.std.proofs.lemmas.Result.{IfOk-weaker, on_ok_weaker}
 use Rattle.fc_record.specs.Grammar.{Accepted, contents_seen, heading_seen, reading_after, Refused}
 use Rattle.fc_record.specs.Printing.{printed_or, refuses}
-use Rattle.fc_collect.{proofs.PrintingLemmas.{read-as, refused-same}, specs.Groups.{if_accepted}}
-use Rattle.fc_collect.specs.inside.{as_text}
+use Rattle.fc_collect.{proofs.PrintingLemmas.{read-as, refused-same}, specs.{Groups.{if_accepted}, inside.{as_text}}}
 use Rattle.fc_collect.proofs.engine.command.take_headed.Given as given
 use Rattle.fc_collect.proofs.engine.command.take_headed.Goals as goal
 

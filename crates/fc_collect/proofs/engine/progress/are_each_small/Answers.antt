@@ -1,11 +1,8 @@
 -- The walk leads over each text, and each is small, or one is found that is not.
 use Rattle.std.proofs.Common.{◌++◌, ◌↔◌, ◌∷◌, [], ap₂, drop, IsTrue, subst}
-use Rattle.std.proofs.lemmas.List.{take_rest}
-use Rattle.std.proofs.lemmas.List.Elements.{All-append, All-cons, All-nil}
-use Rattle.fc_collect.proofs.WalkLemmas.{small_last, small_more, taken, untrue, walks_last}
-use Rattle.fc_collect.proofs.WalkLemmas.{walks_more, walks_on}
-use Rattle.fc_collect.specs.Promises.{IsSmall}
-use Rattle.fc_collect.specs.inside.{text_at}
+use Rattle.std.proofs.lemmas.List.{Elements.{All-append, All-cons, All-nil}, take_rest}
+use Rattle.fc_collect.proofs.WalkLemmas.{small_last, small_more, taken, untrue, walks_last, walks_more, walks_on}
+use Rattle.fc_collect.specs.{inside.{text_at}, Promises.{IsSmall}}
 use Rattle.fc_collect.proofs.engine.progress.are_each_small.Goals as goal
 
 pub returns-then-not-is_small : goal.returns-then-not-is_small

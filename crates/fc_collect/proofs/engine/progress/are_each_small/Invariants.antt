@@ -1,7 +1,6 @@
 -- Each text so far is small.
 use Rattle.std.proofs.Common.{◌+◌, ◌-◌, All, length, List}
-use Rattle.{fc_collect.specs.Promises.{IsSmall}, fc_record.specs.RecordTexts.{RecordText}}
-use Rattle.fc_collect.proofs.WalkLemmas.{Walks}
+use Rattle.{fc_collect.{proofs.WalkLemmas.{Walks}, specs.Promises.{IsSmall}}, fc_record.specs.RecordTexts.{RecordText}}
 use Rattle.fc_collect.proofs.engine.progress.are_each_small.Given as goal
 
 abbrev pub invariant-loop-len : goal.invariant-loop-len

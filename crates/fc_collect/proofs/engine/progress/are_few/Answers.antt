@@ -1,6 +1,4 @@
-use Rattle.std.proofs.Common.{arith}
-use Rattle.std.proofs.lemmas.Bool.{leb-true}
-use Rattle.fc_collect.proofs.LimitLemmas.{small_found}
+use Rattle.{fc_collect.proofs.LimitLemmas.{small_found}, std.proofs.{Common.{arith}, lemmas.Bool.{leb-true}}}
 use Rattle.fc_collect.proofs.engine.progress.are_few.Goals as goal
 
 pub returns-then-len-le-MOST_RECORD_BYTES : goal.returns-then-len-le-MOST_RECORD_BYTES

@@ -1,6 +1,5 @@
 -- The walk leads over each text, and the records among them are printed one after another.
-use Rattle.std.proofs.Common.{◌++◌, ◌∷◌, [], append-nil, arith, sym}
-use Rattle.std.proofs.lemmas.List.{take_rest}
+use Rattle.std.proofs.{Common.{◌++◌, ◌∷◌, [], append-nil, arith, sym}, lemmas.List.{take_rest}}
 use Rattle.std.proofs.lemmas.Result.{err_from_is_err_and}
 use Rattle.fc_collect.proofs.PrintingLemmas.{Sends-texts, SendsSome-texts, Treats-nil, Treats-texts}
 use Rattle.fc_collect.proofs.WalkLemmas.{small_more, taken, walks_first, walks_more, walks_on}

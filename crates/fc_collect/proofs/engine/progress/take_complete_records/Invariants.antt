@@ -1,9 +1,8 @@
 -- The records among the texts so far are printed.
 use Rattle.std.proofs.Common.{◌+◌, ◌-◌, ◌<◌, length, List}
 use Rattle.fc_record.specs.{Printing.{is_refused}, RecordTexts.{RecordText}}
+use Rattle.fc_collect.{proofs.WalkLemmas.{Walks}, specs.inside.{printed_after, Remembers, Sends, Treats}}
 use Rattle.fc_collect.specs.{Records.{outputs_after, records_among}, Streams.{GrowsBy, inner_of}}
-use Rattle.fc_collect.proofs.WalkLemmas.{Walks}
-use Rattle.fc_collect.specs.inside.{printed_after, Remembers, Sends, Treats}
 use Rattle.fc_collect.proofs.engine.progress.take_complete_records.Given as goal
 
 abbrev pub invariant-loop-len : goal.invariant-loop-len

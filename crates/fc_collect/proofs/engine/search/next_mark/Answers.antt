@@ -1,7 +1,5 @@
-use Rattle.memchr.specs.Find.{is_byte, IsFirstByte}
-use Rattle.std.proofs.Common.{arith, None, Some, subst}
-use Rattle.fc_text.proofs.LeavingLemmas.{rest_of}
-use Rattle.fc_record.specs.RecordTexts.{header_mark}
+use Rattle.{memchr.specs.Find.{is_byte, IsFirstByte}, std.proofs.Common.{arith, None, Some, subst}}
+use Rattle.{fc_record.specs.RecordTexts.{header_mark}, fc_text.proofs.LeavingLemmas.{rest_of}}
 use Rattle.fc_collect.proofs.WalkLemmas.{PassesNoHeader-found, PassesNoHeader-none_found}
 use Rattle.fc_collect.proofs.engine.search.next_mark.Goals as goal
 

@@ -1,10 +1,8 @@
 -- A write that took some bytes brings the loop on, and one that took none or failed leaves the rest of the text unwritten.
-use Rattle.std.proofs.Common.{◌-◌, ◌∙◌, arith, drop, length, length-drop, length-take, take}
-use Rattle.std.proofs.Common.{take-append-drop}
+use Rattle.std.proofs.Common.{◌-◌, ◌∙◌, arith, drop, length, length-drop, length-take, take, take-append-drop}
 use Rattle.std.proofs.KnownBytes.{Appends-kept}
+use Rattle.fc_collect.proofs.{WindowLemmas.{one_more_if-moved}, WritingLemmas.{Appends-more, Appends-none}}
 use Rattle.fc_collect.specs.Streams.{counts_of}
-use Rattle.fc_collect.proofs.WindowLemmas.{one_more_if-moved}
-use Rattle.fc_collect.proofs.WritingLemmas.{Appends-more, Appends-none}
 use Rattle.fc_collect.proofs.engine.writing.write_bytes.Goals as goal
 
 pub loop-at-preserved : goal.loop-at-preserved

@@ -1,6 +1,5 @@
 -- The text up to `at` was written, and no call failed.
-use Rattle.std.proofs.Common.{◌-◌, ◌≤◌, length, take}
-use Rattle.std.specs.Io.KnownBytes.{Appends}
+use Rattle.std.{proofs.Common.{◌-◌, ◌≤◌, length, take}, specs.Io.KnownBytes.{Appends}}
 use Rattle.fc_collect.specs.Streams.{GrowsBy, inner_of}
 use Rattle.fc_collect.proofs.engine.writing.write_bytes.Given as goal
 

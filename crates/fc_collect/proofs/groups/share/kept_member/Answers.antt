@@ -1,7 +1,5 @@
-use Rattle.std.proofs.Common.{refl}
-use Rattle.fc_record.specs.Grammar.{heading_seen}
-use Rattle.fc_collect.specs.inside.{member_of}
-use Rattle.fc_collect.proofs.ShareLemmas.{wide-of}
+use Rattle.{fc_record.specs.Grammar.{heading_seen}, std.proofs.Common.{refl}}
+use Rattle.fc_collect.{proofs.ShareLemmas.{wide-of}, specs.inside.{member_of}}
 use Rattle.fc_collect.proofs.groups.share.kept_member.Goals as goal
 
 pub returns : goal.returns

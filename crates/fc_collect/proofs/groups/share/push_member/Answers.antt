@@ -1,8 +1,6 @@
-use Rattle.std.proofs.Common.{◌++◌, ◌∙◌, ap₂, subst}
-use Rattle.std.proofs.lemmas.Result.{on_ok_weaker}
+use Rattle.std.proofs.{Common.{◌++◌, ◌∙◌, ap₂, subst}, lemmas.Result.{on_ok_weaker}}
 use Rattle.fc_record.specs.Printing.{header_text}
-use Rattle.fc_collect.proofs.ShareLemmas.{member-printed, none-printed, solution-printed}
-use Rattle.fc_collect.specs.inside.{KeepsOwner}
+use Rattle.fc_collect.{proofs.ShareLemmas.{member-printed, none-printed, solution-printed}, specs.inside.{KeepsOwner}}
 use Rattle.fc_collect.proofs.groups.share.push_member.Goals as goal
 
 pub returns-in-Some : goal.returns-in-Some

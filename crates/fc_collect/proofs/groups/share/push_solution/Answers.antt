@@ -1,5 +1,4 @@
-use Rattle.std.proofs.Common.{◌++◌, ◌∙◌, ap, ap₂}
-use Rattle.std.proofs.lemmas.Result.{on_ok_weaker}
+use Rattle.std.proofs.{Common.{◌++◌, ◌∙◌, ap, ap₂}, lemmas.Result.{on_ok_weaker}}
 use Rattle.{fc_board.specs.Passages.{passage_product}, fc_record.specs.Printing.{image_line}}
 use Rattle.fc_collect.proofs.ShareLemmas.{image-line, owner-line}
 use Rattle.fc_collect.proofs.groups.share.push_solution.Goals as goal

@@ -1,6 +1,5 @@
 use Rattle.std.proofs.lemmas.Result.{err_from_is_err_and}
-use Rattle.fc_collect.proofs.WritingLemmas.{SendingFits-printed, SendsSome-none}
-use Rattle.fc_collect.specs.Groups.{member_lines}
+use Rattle.fc_collect.{proofs.WritingLemmas.{SendingFits-printed, SendsSome-none}, specs.Groups.{member_lines}}
 use Rattle.fc_collect.proofs.groups.share.send_member.Goals as goal
 
 pub returns-in_err-push_member-clause-sent : goal.returns-in_err-push_member-clause-sent

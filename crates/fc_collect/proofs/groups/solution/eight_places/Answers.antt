@@ -1,5 +1,4 @@
-use Rattle.std.proofs.Common.{◌<◌, ◌∙◌, ◌≡◌, ◌≤◌, arith, inl, inr, length, List, slice_index, sym}
-use Rattle.std.proofs.Common.{ℕ}
+use Rattle.std.proofs.Common.{◌<◌, ◌∙◌, ◌≡◌, ◌≤◌, arith, inl, inr, length, List, slice_index, sym, ℕ}
 use Rattle.std.proofs.lemmas.Bool.{cases_lt}
 use Rattle.fc_card.specs.{IsOrder}
 use Rattle.fc_collect.proofs.groups.solution.eight_places.Goals as goal

@@ -1,6 +1,5 @@
 use Rattle.std.proofs.Common.{◌∙◌, ◌≡◌, false, map-id, None, subst, sym, true}
-use Rattle.std.proofs.lemmas.Iterator.Adapters.{YieldsList-from_vec}
-use Rattle.std.proofs.lemmas.Iterator.Consumers.{YieldsList-so_far, YieldsList-turn}
+use Rattle.std.proofs.lemmas.Iterator.{Adapters.{YieldsList-from_vec}, Consumers.{YieldsList-so_far, YieldsList-turn}}
 use Rattle.std.specs.List.{find}
 use Rattle.{fc_board.specs.{Moves.{MoveList}, Play.{list_verdict}}, fc_record.specs.Tables.{is_win}}
 use Rattle.fc_collect.proofs.ShareLemmas.{find-first, find-none_more}

@@ -1,5 +1,4 @@
-use Rattle.std.proofs.Common.{◌≡◌, None}
-use Rattle.std.specs.List.{find}
+use Rattle.std.{proofs.Common.{◌≡◌, None}, specs.List.{find}}
 use Rattle.{fc_board.specs.Play.{list_verdict}, fc_record.specs.Tables.{is_win}}
 use Rattle.fc_collect.proofs.groups.solution.first_winning_list.Given as goal
 

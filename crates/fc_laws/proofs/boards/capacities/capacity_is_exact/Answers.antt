@@ -1,6 +1,5 @@
 use Rattle.std.proofs.Common.{◌∷◌}
-use Rattle.fc_board.proofs.ExactLemmas.{exact}
-use Rattle.fc_board.proofs.RunStepLemmas.{tested_run}
+use Rattle.fc_board.proofs.{ExactLemmas.{exact}, RunStepLemmas.{tested_run}}
 use Rattle.fc_laws.proofs.boards.capacities.capacity_is_exact.Goals as goal
 
 pub returns : goal.returns

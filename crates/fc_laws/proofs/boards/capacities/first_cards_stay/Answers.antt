@@ -1,6 +1,5 @@
 use Rattle.std.proofs.Common.{◌∷◌}
-use Rattle.fc_board.proofs.CapacityLemmas.{first_stays_put}
-use Rattle.fc_board.proofs.RunStepLemmas.{tested_run}
+use Rattle.fc_board.proofs.{CapacityLemmas.{first_stays_put}, RunStepLemmas.{tested_run}}
 use Rattle.fc_laws.proofs.boards.capacities.first_cards_stay.Goals as goal
 
 pub returns : goal.returns

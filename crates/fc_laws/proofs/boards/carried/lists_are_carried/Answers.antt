@@ -1,5 +1,4 @@
-use Rattle.fc_board.proofs.AlikeLemmas.{list_legal-exactly, list_plays-exactly}
-use Rattle.fc_board.proofs.AlikeLemmas.{list_refused-exactly, list_wins-exactly}
+use Rattle.fc_board.proofs.AlikeLemmas.{list_legal-exactly, list_plays-exactly, list_refused-exactly, list_wins-exactly}
 use Rattle.fc_board.proofs.RenamingLemmas.{fills-renamed_card}
 use Rattle.fc_laws.proofs.boards.carried.lists_are_carried.Goals as goal
 

@@ -1,5 +1,4 @@
-use Rattle.fc_board.proofs.RefusalCarried.{refusal-carried}
-use Rattle.fc_board.proofs.RenamingLemmas.{fills-renamed_card}
+use Rattle.fc_board.proofs.{RefusalCarried.{refusal-carried}, RenamingLemmas.{fills-renamed_card}}
 use Rattle.fc_laws.proofs.boards.carried.refusals_are_carried.Goals as goal
 
 pub returns : goal.returns

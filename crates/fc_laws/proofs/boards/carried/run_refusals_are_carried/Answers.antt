@@ -1,5 +1,4 @@
-use Rattle.fc_board.proofs.CarriedRunLemmas.{run_refusal-carried}
-use Rattle.fc_board.proofs.RenamingLemmas.{fills-renamed_card}
+use Rattle.fc_board.proofs.{CarriedRunLemmas.{run_refusal-carried}, RenamingLemmas.{fills-renamed_card}}
 use Rattle.fc_laws.proofs.boards.carried.run_refusals_are_carried.Goals as goal
 
 pub returns : goal.returns

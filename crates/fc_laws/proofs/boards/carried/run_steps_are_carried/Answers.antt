@@ -1,5 +1,4 @@
-use Rattle.fc_board.proofs.RenamingLemmas.{fills-renamed_card}
-use Rattle.fc_board.proofs.RunPlayLemmas.{run_step-carried, run_step-there}
+use Rattle.fc_board.proofs.{RenamingLemmas.{fills-renamed_card}, RunPlayLemmas.{run_step-carried, run_step-there}}
 use Rattle.fc_laws.proofs.boards.carried.run_steps_are_carried.Goals as goal
 
 pub returns : goal.returns

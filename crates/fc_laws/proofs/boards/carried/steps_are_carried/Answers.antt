@@ -1,5 +1,4 @@
-use Rattle.fc_board.proofs.RenamingLemmas.{fills-renamed_card}
-use Rattle.fc_board.proofs.StepCarried.{steps-exactly}
+use Rattle.fc_board.proofs.{RenamingLemmas.{fills-renamed_card}, StepCarried.{steps-exactly}}
 use Rattle.fc_laws.proofs.boards.carried.steps_are_carried.Goals as goal
 
 pub returns : goal.returns

@@ -1,6 +1,5 @@
 use Rattle.std.proofs.Common.{◌∷◌}
-use Rattle.fc_board.proofs.ExactLemmas.{goes_over}
-use Rattle.fc_board.proofs.RunStepLemmas.{tested_run}
+use Rattle.fc_board.proofs.{ExactLemmas.{goes_over}, RunStepLemmas.{tested_run}}
 use Rattle.fc_laws.proofs.boards.expansions.expansions_go_over.Goals as goal
 
 pub returns-clause-plays : goal.returns-clause-plays

@@ -1,7 +1,6 @@
-use Rattle.fc_board.proofs.DeckLemmas.{stays_well_formed}
-use Rattle.fc_board.proofs.ListLemmas.{kept_by_all}
-use Rattle.fc_board.proofs.RunPlayLemmas.{list_expanded, never_lower}
-use Rattle.fc_board.specs.{Boards.{IsWellFormed}, Play.{expansions}, Steps.{Step}}
+use Rattle.fc_board.proofs.{DeckLemmas.{stays_well_formed}, ListLemmas.{kept_by_all}}
+use Rattle.fc_board.{proofs.RunPlayLemmas.{list_expanded, never_lower}, specs.Boards.{IsWellFormed}}
+use Rattle.fc_board.specs.{Play.{expansions}, Steps.{Step}}
 use Rattle.fc_laws.proofs.boards.lists.lists_of_runs_keep_the_deck.Goals as goal
 
 pub returns-clause-well_formed : goal.returns-clause-well_formed

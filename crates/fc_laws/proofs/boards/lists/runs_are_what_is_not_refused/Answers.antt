@@ -1,6 +1,5 @@
 use Rattle.std.proofs.Common.{sym}
-use Rattle.fc_board.proofs.RunPlayLemmas.{step-RunFits, token_after}
-use Rattle.fc_board.proofs.RunStepLemmas.{not_refused_exactly, one_board}
+use Rattle.fc_board.proofs.{RunPlayLemmas.{step-RunFits, token_after}, RunStepLemmas.{not_refused_exactly, one_board}}
 use Rattle.fc_laws.proofs.boards.lists.runs_are_what_is_not_refused.Goals as goal
 
 pub returns-clause-exactly : goal.returns-clause-exactly

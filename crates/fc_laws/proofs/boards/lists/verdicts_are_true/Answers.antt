@@ -1,5 +1,4 @@
-use Rattle.fc_board.proofs.MoveListLemmas.{list_allowed-exactly, list_refused-exactly}
-use Rattle.fc_board.proofs.MoveListLemmas.{list_won-exactly}
+use Rattle.fc_board.proofs.MoveListLemmas.{list_allowed-exactly, list_refused-exactly, list_won-exactly}
 use Rattle.fc_laws.proofs.boards.lists.verdicts_are_true.Goals as goal
 
 pub returns-clause-won : goal.returns-clause-won

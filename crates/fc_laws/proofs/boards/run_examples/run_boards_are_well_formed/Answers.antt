@@ -1,8 +1,7 @@
-use Rattle.std.proofs.Common.{refl}
-use Rattle.fc_board.specs.Games.{eight_off, freecell}
-use Rattle.fc_laws.proofs.ExampleLemmas.{well_formed_by_tests}
-use Rattle.fc_laws.specs.BoardExamples.{eight_cells_full, helper_empty, nothing_empty, one_column_empty}
-use Rattle.fc_laws.specs.BoardExamples.{thirteen_in_a_run, three_clubs_left, three_columns_left, two_runs_left}
+use Rattle.{fc_board.specs.Games.{eight_off, freecell}, std.proofs.Common.{refl}}
+use Rattle.fc_laws.{proofs.ExampleLemmas.{well_formed_by_tests}, specs.BoardExamples.{eight_cells_full, helper_empty}}
+use Rattle.fc_laws.specs.BoardExamples.{nothing_empty, one_column_empty, thirteen_in_a_run, three_clubs_left}
+use Rattle.fc_laws.specs.BoardExamples.{three_columns_left, two_runs_left}
 use Rattle.fc_laws.proofs.boards.run_examples.run_boards_are_well_formed.Goals as goal
 
 pub returns-clause-two_runs : goal.returns-clause-two_runs

@@ -1,5 +1,4 @@
-use Rattle.std.proofs.{lemmas.List.Elements.{All-contains_itself, All-weaker}}
-use Rattle.std.specs.List.{Contains}
+use Rattle.std.{proofs.lemmas.List.Elements.{All-contains_itself, All-weaker}, specs.List.{Contains}}
 use Rattle.fc_collect.specs.Groups.{Member, members_among, summary_of}
 use Rattle.fc_laws.proofs.ClosedFindingLemmas.{each_flawless, wells}
 use Rattle.fc_laws.proofs.FlawedLemmas.{first_flawed_named, refused_first, shut_in}

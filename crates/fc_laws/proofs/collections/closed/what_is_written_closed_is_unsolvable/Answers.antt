@@ -1,13 +1,10 @@
 -- What is written says what was found.
-use Rattle.std.proofs.Common.{◌++◌, ◌∙◌, ap₂, sym}
-use Rattle.std.proofs.lemmas.List.Elements.{All-contains_itself, All-weaker}
+use Rattle.std.proofs.{Common.{◌++◌, ◌∙◌, ap₂, sym}, lemmas.List.Elements.{All-contains_itself, All-weaker}}
 use Rattle.std.specs.List.{Contains}
 use Rattle.{fc_board.specs.Games.{game_of}, fc_closed.specs.{IsUnsolvable}}
-use Rattle.fc_collect.specs.Closed.{finding_line}
-use Rattle.fc_collect.specs.Groups.{Member, members_among}
-use Rattle.fc_collect.specs.Records.{records_from}
-use Rattle.fc_laws.proofs.ClosedFindingLemmas.{counted_none, found_where, member_unsolvable}
-use Rattle.fc_laws.proofs.ClosedFindingLemmas.{no_refusals, none_counted, written_closed}
+use Rattle.fc_collect.specs.{Closed.{finding_line}, Groups.{Member, members_among}, Records.{records_from}}
+use Rattle.fc_laws.proofs.ClosedFindingLemmas.{counted_none, found_where, member_unsolvable, no_refusals, none_counted}
+use Rattle.fc_laws.proofs.ClosedFindingLemmas.{written_closed}
 use Rattle.fc_laws.proofs.collections.closed.what_is_written_closed_is_unsolvable.Goals as goal
 
 pub returns-clause-unsolvable : goal.returns-clause-unsolvable

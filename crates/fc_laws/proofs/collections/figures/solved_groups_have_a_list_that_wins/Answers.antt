@@ -1,12 +1,9 @@
-use Rattle.std.proofs.Common.{◌↔◌, ◌∙◌, ◌≡◌, ap, Bool, Contains, is_some, List, None, Option, refl}
-use Rattle.std.{proofs.Common.{Some, sym, true, true≢false, ℕ}, specs.List.{find}}
-use Rattle.std.specs.Prelude.{slice_index_or}
+use Rattle.std.proofs.Common.{◌↔◌, ◌∙◌, ◌≡◌, ap, Bool, Contains, is_some, List, None, Option, refl, Some, sym, true}
+use Rattle.std.{proofs.Common.{true≢false, ℕ}, specs.{List.{find}, Prelude.{slice_index_or}}}
 use Rattle.fc_board.specs.{Games.{game_of}, Moves.{MoveList}, Play.{list_verdict, Wins}}
 use Rattle.{fc_board.specs.declared.rule.Variant.{Variant}, fc_record.specs.Tables.{is_win}}
-use Rattle.fc_collect.specs.Groups.{groups_of, Member, members_among, owner_among, solution_of}
-use Rattle.fc_collect.specs.Records.{records_of}
-use Rattle.fc_laws.proofs.SolutionLemmas.{at-Contains, found, group-of_members, none_found}
-use Rattle.fc_laws.proofs.SolutionLemmas.{passes-Wins, Wins-passes}
+use Rattle.fc_collect.specs.{Groups.{groups_of, Member, members_among, owner_among, solution_of}, Records.{records_of}}
+use Rattle.fc_laws.proofs.SolutionLemmas.{at-Contains, found, group-of_members, none_found, passes-Wins, Wins-passes}
 use Rattle.fc_laws.proofs.collections.figures.solved_groups_have_a_list_that_wins.Goals as goal
 
 -- the list wins from the member's own board

@@ -1,12 +1,9 @@
-use Rattle.std.proofs.Common.{◌++◌, ◌↔◌, ◌∙◌, ◌∷◌, ◌≡◌, [], ap, codes, List, sym, true, ℕ}
-use Rattle.std.specs.{Fmt.{decimal}, Prelude.{slice_index_or}}
-use Rattle.fc_board.specs.{Games.{game_of}, Moves.{move_count, MoveList}}
-use Rattle.fc_board.specs.Play.{list_verdict, Verdict}
-use Rattle.fc_text.specs.Bytes.{blank, line_feed}
-use Rattle.fc_record.specs.{Printing.{verdict_line}, Tables.{is_win}}
+use Rattle.std.{proofs.Common.{◌++◌, ◌↔◌, ◌∙◌, ◌∷◌, ◌≡◌, [], ap, codes, List, sym, true, ℕ}, specs.Fmt.{decimal}}
+use Rattle.std.specs.Prelude.{slice_index_or}
+use Rattle.fc_board.specs.{Games.{game_of}, Moves.{move_count, MoveList}, Play.{list_verdict, Verdict}}
+use Rattle.{fc_record.specs.{Printing.{verdict_line}, Tables.{is_win}}, fc_text.specs.Bytes.{blank, line_feed}}
 use Rattle.fc_collect.specs.Groups.{Member, name_of_member}
-use Rattle.fc_laws.proofs.SolutionLemmas.{won-by}
-use Rattle.fc_laws.proofs.VerdictLineLemmas.{line_of, verdict_Won, winning_words}
+use Rattle.fc_laws.proofs.{SolutionLemmas.{won-by}, VerdictLineLemmas.{line_of, verdict_Won, winning_words}}
 use Rattle.fc_laws.proofs.collections.figures.wins_are_those_that_check_names.Goals as goal
 
 module _ (member : Member) (list : MoveList) (number : ℕ) where

@@ -1,5 +1,4 @@
-use Rattle.std.proofs.Common.{refl}
-use Rattle.std.specs.{Hash.FoldHasher.{folded_multiply, initial, read_short, read_u32, write}}
+use Rattle.std.{proofs.Common.{refl}, specs.Hash.FoldHasher.{folded_multiply, initial, read_short, read_u32, write}}
 use Rattle.std.specs.Hash.{le_bytes}
 use Rattle.fc_laws.proofs.collections.hashes.another_seed_gives_another_hash.Goals as goal
 

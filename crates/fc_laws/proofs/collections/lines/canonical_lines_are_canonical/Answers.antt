@@ -1,7 +1,6 @@
 use Rattle.fc_board.specs.{Boards.{Board, IsWellFormed}, Games.{game_of, renamings_of}}
 use Rattle.fc_board.specs.laws.RenamingTests.{bakers_game_laws, eight_off_laws, freecell_laws}
-use Rattle.fc_board.specs.declared.rule.Variant.TheVariants.{BakersGame, EightOff, FreeCell}
-use Rattle.fc_board.specs.declared.rule.Variant.{Variant}
+use Rattle.fc_board.specs.declared.rule.Variant.{TheVariants.{BakersGame, EightOff, FreeCell}, Variant}
 use Rattle.fc_canon.{proofs.LeastTextLemmas.{least_text-Canonical}, specs.{Canonical, least_text}}
 use Rattle.fc_collect.proofs.KeyedLemmas.{chosen}
 use Rattle.fc_laws.proofs.collections.lines.canonical_lines_are_canonical.Goals as goal

@@ -1,7 +1,6 @@
 use Rattle.std.proofs.Common.{◌∙◌, ap, Err, sym}
-use Rattle.fc_collect.proofs.HeaderSaysLemmas.{BadHeaderAt-from_err, err-from_BadHeaderAt}
-use Rattle.fc_collect.proofs.HeaderSaysLemmas.{HeaderSays-from_ok, ok-from_HeaderSays}
-use Rattle.fc_collect.proofs.HeaderSaysLemmas.{says_or_is_bad}
+use Rattle.fc_collect.proofs.HeaderSaysLemmas.{BadHeaderAt-from_err, err-from_BadHeaderAt, HeaderSays-from_ok}
+use Rattle.fc_collect.proofs.HeaderSaysLemmas.{ok-from_HeaderSays, says_or_is_bad}
 use Rattle.fc_laws.proofs.collections.lines.headers_say_their_game_and_name.Goals as goal
 
 pub returns : goal.returns

@@ -1,8 +1,7 @@
 use Rattle.std.{proofs.Common.{◌∙◌, ap, cond}, specs.Prelude.{◌+◌, ◌∷◌, drop}}
 use Rattle.{fc_board.specs.Moves.{OneCard, Runs}, fc_record.specs.Grammar.{list_mark, list_with}}
-use Rattle.fc_text.proofs.MovesReadLemmas.{moves_read-BadTokenAt, moves_read-TooManyAt}
-use Rattle.fc_text.proofs.MovesReadLemmas.{runs_read-BadTokenAt, runs_read-TooManyAt}
-use Rattle.fc_text.specs.Readings.{moves_read, runs_read}
+use Rattle.fc_text.proofs.MovesReadLemmas.{moves_read-BadTokenAt, moves_read-TooManyAt, runs_read-BadTokenAt}
+use Rattle.fc_text.{proofs.MovesReadLemmas.{runs_read-TooManyAt}, specs.Readings.{moves_read, runs_read}}
 use Rattle.fc_collect.proofs.AcceptanceLemmas.{IsList-from_read, read-from_IsList}
 use Rattle.fc_laws.proofs.collections.lines.lists_are_refused_at_their_words.Goals as goal
 

@@ -1,7 +1,5 @@
-use Rattle.std.proofs.Common.{arith}
-use Rattle.fc_collect.proofs.MemberLemmas.{member-Can, member-IsWellFormed}
-use Rattle.fc_collect.specs.Records.{records_of}
-use Rattle.fc_laws.proofs.VerdictLineLemmas.{says-illegal, says-legal, says-wins}
+use Rattle.{fc_laws.proofs.VerdictLineLemmas.{says-illegal, says-legal, says-wins}, std.proofs.Common.{arith}}
+use Rattle.fc_collect.{proofs.MemberLemmas.{member-Can, member-IsWellFormed}, specs.Records.{records_of}}
 use Rattle.fc_laws.proofs.collections.lists.check_says_what_lists_do.Goals as goal
 
 pub returns : goal.returns

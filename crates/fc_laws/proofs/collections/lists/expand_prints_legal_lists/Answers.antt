@@ -1,5 +1,5 @@
-use Rattle.fc_laws.proofs.ExpandLemmas.{comment-exactly, illegal-exactly, leads-there}
-use Rattle.fc_laws.proofs.ExpandLemmas.{listed-exactly, long-exactly, verdict-same}
+use Rattle.fc_laws.proofs.ExpandLemmas.{comment-exactly, illegal-exactly, leads-there, listed-exactly, long-exactly}
+use Rattle.fc_laws.proofs.ExpandLemmas.{verdict-same}
 use Rattle.fc_laws.proofs.collections.lists.expand_prints_legal_lists.Goals as goal
 
 pub returns : goal.returns

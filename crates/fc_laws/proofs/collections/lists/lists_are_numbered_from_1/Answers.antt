@@ -1,6 +1,5 @@
-use Rattle.std.proofs.Common.{append-nil}
-use Rattle.{fc_board.specs.Games.{game_of}, fc_record.specs.Printing.{name_of, verdict_line}}
-use Rattle.fc_laws.proofs.ExpandLemmas.{checked-more, expanded-more}
+use Rattle.{fc_board.specs.Games.{game_of}, std.proofs.Common.{append-nil}}
+use Rattle.{fc_laws.proofs.ExpandLemmas.{checked-more, expanded-more}, fc_record.specs.Printing.{name_of, verdict_line}}
 use Rattle.fc_laws.proofs.collections.lists.lists_are_numbered_from_1.Goals as goal
 
 pub returns : goal.returns

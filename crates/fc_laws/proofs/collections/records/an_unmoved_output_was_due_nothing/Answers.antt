@@ -5,10 +5,9 @@ use Rattle.fc_text.specs.Printed.{text_of}
 use Rattle.fc_record.specs.Grammar.{Accepted, Reading, reading_of, Refused}
 use Rattle.fc_record.specs.Printing.{heading_line, list_line, printed, printed_by, show_lines}
 use Rattle.fc_record.specs.RecordTexts.{RecordText}
-use Rattle.fc_collect.specs.Records.{records_from}
-use Rattle.fc_collect.specs.Runs.{ending_of_kind, output_of_kind, TransfersWithin}
-use Rattle.fc_collect.specs.declared.commands.RunKind.{RunKind, TheVariants.{Show}}
-use Rattle.fc_collect.specs.declared.streams.{faults.Summary.{Summary}, limits.Limits.{Limits}}
+use Rattle.fc_collect.specs.{Records.{records_from}, Runs.{ending_of_kind, output_of_kind, TransfersWithin}}
+use Rattle.fc_collect.specs.declared.{commands.RunKind.{RunKind, TheVariants.{Show}}, streams.faults.Summary.{Summary}}
+use Rattle.fc_collect.specs.declared.streams.limits.Limits.{Limits}
 use Rattle.fc_laws.proofs.collections.records.an_unmoved_output_was_due_nothing.Goals as goal
 
 left_empty : (text more : List ℕ) → text ++ more ≡ [] → text ≡ []

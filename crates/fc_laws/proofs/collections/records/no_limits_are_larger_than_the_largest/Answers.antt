@@ -1,8 +1,6 @@
-use Rattle.std.proofs.Common.{◌^◌, ◌↔◌, ◌≤◌, All, arith, length, List, refl, ℕ}
-use Rattle.std.proofs.lemmas.List.Elements.{All-weaker}
+use Rattle.std.proofs.{Common.{◌^◌, ◌↔◌, ◌≤◌, All, arith, length, List, refl, ℕ}, lemmas.List.Elements.{All-weaker}}
 use Rattle.fc_record.specs.RecordTexts.{RecordText}
-use Rattle.fc_collect.specs.{Limits.{largest}, Promises.{IsSmall, IsWithinLimits}}
-use Rattle.fc_collect.specs.Records.{cut, nothing}
+use Rattle.fc_collect.specs.{Limits.{largest}, Promises.{IsSmall, IsWithinLimits}, Records.{cut, nothing}}
 use Rattle.fc_laws.proofs.collections.records.no_limits_are_larger_than_the_largest.Goals as goal
 
 abbrev Small : RecordText → Type 0

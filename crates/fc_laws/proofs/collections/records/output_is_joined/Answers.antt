@@ -1,5 +1,5 @@
-use Rattle.fc_collect.proofs.JoiningLemmas.{begun-begins, finished-begins, output-failed}
-use Rattle.fc_collect.proofs.JoiningLemmas.{output-joined, output-none, whole-begins}
+use Rattle.fc_collect.proofs.JoiningLemmas.{begun-begins, finished-begins, output-failed, output-joined, output-none}
+use Rattle.fc_collect.proofs.JoiningLemmas.{whole-begins}
 use Rattle.fc_laws.proofs.collections.records.output_is_joined.Goals as goal
 
 pub returns : goal.returns

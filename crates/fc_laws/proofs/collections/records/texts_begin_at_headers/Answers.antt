@@ -1,5 +1,4 @@
-use Rattle.fc_collect.proofs.HeaderLemmas.{cut-HasHeaders, cut-header_starts}
-use Rattle.fc_collect.specs.Records.{nothing}
+use Rattle.fc_collect.{proofs.HeaderLemmas.{cut-HasHeaders, cut-header_starts}, specs.Records.{nothing}}
 use Rattle.fc_laws.proofs.collections.records.texts_begin_at_headers.Goals as goal
 
 pub returns : goal.returns

@@ -1,14 +1,12 @@
-use Rattle.std.proofs.Common.{◌++◌, ◌∙◌, ◌≡◌, ◌≤◌, [], All, append-nil, ap₂, arith, length, List}
-use Rattle.std.proofs.{Common.{Ok, Some, sym, ℕ}, lemmas.List.{append_cancel_left}}
-use Rattle.std.proofs.lemmas.List.Elements.{All-weaker}
-use Rattle.fc_board.specs.declared.rule.Variant.{Variant}
-use Rattle.fc_record.specs.Printing.{printed, show_lines}
+use Rattle.std.proofs.Common.{◌++◌, ◌∙◌, ◌≡◌, ◌≤◌, [], All, append-nil, ap₂, arith, length, List, Ok, Some, sym, ℕ}
+use Rattle.std.proofs.lemmas.List.{append_cancel_left, Elements.{All-weaker}}
+use Rattle.{fc_board.specs.declared.rule.Variant.{Variant}, fc_record.specs.Printing.{printed, show_lines}}
 use Rattle.fc_collect.proofs.{PrintedRecordLemmas.{shown-records}, ReadAgainLemmas.{among-All}}
 use Rattle.fc_collect.specs.{Limits.{most_countable, standard}, Promises.{IsSmall, IsWithinLimits}}
 use Rattle.fc_collect.specs.Records.{cut, nothing, output_of_records, records_from, records_of}
 use Rattle.fc_collect.specs.Runs.{ending_of_kind, output_of_kind, refused_of_kind, TransfersWithin}
-use Rattle.fc_collect.specs.declared.commands.RunKind.{RunKind, TheVariants.{Show}}
-use Rattle.fc_collect.specs.declared.streams.{faults.Summary.{Summary}, limits.Limits.{Limits}}
+use Rattle.fc_collect.specs.declared.{commands.RunKind.{RunKind, TheVariants.{Show}}, streams.faults.Summary.{Summary}}
+use Rattle.fc_collect.specs.declared.streams.limits.Limits.{Limits}
 use Rattle.fc_laws.proofs.collections.records.the_output_of_another_input_does_not_fit.Goals as goal
 
 module _ (limits : Limits) (kind : RunKind) (variant : Variant) where

@@ -1,5 +1,4 @@
-use Rattle.std.proofs.Common.{refl}
-use Rattle.std.specs.Fmt.{digits}
+use Rattle.std.{proofs.Common.{refl}, specs.Fmt.{digits}}
 use Rattle.fc_laws.proofs.collections.rows.lists_of_records.Goals as goal
 
 pub returns-clause-checked : goal.returns-clause-checked

@@ -1,5 +1,4 @@
-use Rattle.std.proofs.Common.{refl}
-use Rattle.std.specs.Fmt.{digits}
+use Rattle.std.{proofs.Common.{refl}, specs.Fmt.{digits}}
 use Rattle.fc_laws.proofs.collections.rows.pieces_begin_where_they_are_said_to.Goals as goal
 
 pub returns-clause-record : goal.returns-clause-record

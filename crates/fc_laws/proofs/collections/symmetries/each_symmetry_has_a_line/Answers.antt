@@ -1,11 +1,8 @@
 use Rattle.std.proofs.Common.{◌↔◌, Contains, List, refl, ℕ}
-use Rattle.fc_board.specs.Boards.{Board, IsWellFormed}
-use Rattle.fc_board.specs.Games.{AscendByWord, game_of, renamings_of}
+use Rattle.fc_board.specs.{Boards.{Board, IsWellFormed}, Games.{AscendByWord, game_of, renamings_of}}
 use Rattle.fc_board.specs.laws.RenamingTests.{bakers_game_laws, eight_off_laws, freecell_laws}
-use Rattle.fc_board.specs.declared.rule.Variant.TheVariants.{BakersGame, EightOff, FreeCell}
-use Rattle.fc_board.specs.declared.rule.Variant.{Variant}
-use Rattle.fc_canon.proofs.SymmetryLemmas.{kept-ascend, kept-exactly}
-use Rattle.fc_canon.specs.{IsSymmetry, symmetries_of}
+use Rattle.fc_board.specs.declared.rule.Variant.{TheVariants.{BakersGame, EightOff, FreeCell}, Variant}
+use Rattle.fc_canon.{proofs.SymmetryLemmas.{kept-ascend, kept-exactly}, specs.{IsSymmetry, symmetries_of}}
 use Rattle.fc_collect.{proofs.MemberLemmas.{member-IsWellFormed}, specs.Records.{records_of}}
 use Rattle.fc_laws.proofs.collections.symmetries.each_symmetry_has_a_line.Goals as goal
 

@@ -1,7 +1,5 @@
-use Rattle.std.proofs.Common.{refl}
-use Rattle.std.specs.List.{join_with_byte}
-use Rattle.{fc_record.specs.Tables.{column_names}, fc_text.specs.Bytes.{tab}}
-use Rattle.fc_laws.proofs.TableLawLemmas.{eight_columns}
+use Rattle.{fc_text.specs.Bytes.{tab}, std.{proofs.Common.{refl}, specs.List.{join_with_byte}}}
+use Rattle.{fc_laws.proofs.TableLawLemmas.{eight_columns}, fc_record.specs.Tables.{column_names}}
 use Rattle.fc_laws.proofs.collections.table.lines_have_eight_columns.Goals as goal
 
 pub returns-clause-header : goal.returns-clause-header

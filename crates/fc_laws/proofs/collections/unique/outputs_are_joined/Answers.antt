@@ -1,6 +1,6 @@
 use Rattle.std.proofs.Common.{◌∙◌, [], ap, sym}
-use Rattle.fc_collect.proofs.JoiningLemmas.{finished_records-failed, finished_records-none}
-use Rattle.fc_collect.proofs.{JoiningLemmas.{records-joined}, PrintingLemmas.{outputs_after-append}}
+use Rattle.fc_collect.proofs.JoiningLemmas.{finished_records-failed, finished_records-none, records-joined}
+use Rattle.fc_collect.proofs.PrintingLemmas.{outputs_after-append}
 use Rattle.fc_collect.proofs.RecordLemmas.{finished_records-append, records_of-append}
 use Rattle.fc_collect.specs.Records.{finished_records, outputs_after, records_of}
 use Rattle.fc_laws.proofs.collections.unique.outputs_are_joined.Goals as goal

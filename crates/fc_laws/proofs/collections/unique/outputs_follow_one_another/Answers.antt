@@ -1,5 +1,4 @@
-use Rattle.std.proofs.Common.{[], append-nil}
-use Rattle.fc_collect.proofs.PrintingLemmas.{outputs_after-append, outputs_alone}
+use Rattle.{fc_collect.proofs.PrintingLemmas.{outputs_after-append, outputs_alone}, std.proofs.Common.{[], append-nil}}
 use Rattle.fc_laws.proofs.collections.unique.outputs_follow_one_another.Goals as goal
 
 pub returns : goal.returns

@@ -1,8 +1,5 @@
-use Rattle.fc_text.proofs.TokenLemmas.{moves-Reads}
-use Rattle.fc_text.specs.Notation.{IsToken}
-use Rattle.fc_text.specs.reader.{move_named}
-use Rattle.fc_text.proofs.MovesReadLemmas.{listed-exactly, read_bad_token-exactly}
-use Rattle.fc_text.proofs.MovesReadLemmas.{read_too_many-exactly}
+use Rattle.fc_text.proofs.MovesReadLemmas.{listed-exactly, read_bad_token-exactly, read_too_many-exactly}
+use Rattle.fc_text.{proofs.TokenLemmas.{moves-Reads}, specs.{Notation.{IsToken}, reader.{move_named}}}
 use Rattle.fc_laws.proofs.texts.lists.lists_are_read.Goals as goal
 
 pub returns-clause-listed : goal.returns-clause-listed

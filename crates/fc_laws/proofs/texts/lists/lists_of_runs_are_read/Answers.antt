@@ -1,8 +1,5 @@
-use Rattle.fc_text.proofs.RunTokenLemmas.{runs-Reads}
-use Rattle.fc_text.specs.Notation.{IsRunToken}
-use Rattle.fc_text.specs.reader.{run_named}
-use Rattle.fc_text.proofs.MovesReadLemmas.{read_bad_token-exactly, read_too_many-exactly}
-use Rattle.fc_text.proofs.MovesReadLemmas.{runs_listed-exactly}
+use Rattle.fc_text.proofs.MovesReadLemmas.{read_bad_token-exactly, read_too_many-exactly, runs_listed-exactly}
+use Rattle.fc_text.{proofs.RunTokenLemmas.{runs-Reads}, specs.{Notation.{IsRunToken}, reader.{run_named}}}
 use Rattle.fc_laws.proofs.texts.lists.lists_of_runs_are_read.Goals as goal
 
 pub returns-clause-listed : goal.returns-clause-listed

@@ -1,5 +1,4 @@
-use Rattle.std.proofs.Common.{[], codes, lit<, lit≤, refl}
-use Rattle.fc_board.specs.Games.{freecell}
+use Rattle.{fc_board.specs.Games.{freecell}, std.proofs.Common.{[], codes, lit<, lit≤, refl}}
 use Rattle.fc_laws.proofs.ExampleLemmas.{bad_by_names, word_at}
 use Rattle.fc_laws.proofs.texts.notation.bad_tokens_of_freecell.Goals as goal
 

@@ -1,8 +1,7 @@
 use Rattle.std.proofs.Common.{◌∷◌, [], codes, lit≤, refl}
 use Rattle.fc_card.specs.laws.OrderLaws.{places-IsOrder}
 use Rattle.fc_board.{proofs.ImageLemmas.{IsOrder-leads_back}, specs.Games.{eight_off}}
-use Rattle.fc_laws.proofs.ExampleLemmas.{listed_by_names}
-use Rattle.fc_laws.specs.BoardExamples.{cell_a_home, cell_a_last, cell_k_home}
+use Rattle.fc_laws.{proofs.ExampleLemmas.{listed_by_names}, specs.BoardExamples.{cell_a_home, cell_a_last, cell_k_home}}
 use Rattle.fc_laws.proofs.texts.notation.cell_a_is_last.Goals as goal
 
 pub returns-clause-orders : goal.returns-clause-orders

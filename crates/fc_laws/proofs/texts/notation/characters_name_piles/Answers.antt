@@ -1,7 +1,6 @@
 use Rattle.std.proofs.Common.{◌∙◌, ap, sym}
-use Rattle.fc_text.proofs.TokenLemmas.{column_read, letter_there, source_named-fits, source_read}
-use Rattle.fc_text.proofs.TokenLemmas.{target_named-fits, target_read}
-use Rattle.fc_text.specs.Notation.{column_digits}
+use Rattle.fc_text.proofs.TokenLemmas.{column_read, letter_there, source_named-fits, source_read, target_named-fits}
+use Rattle.fc_text.{proofs.TokenLemmas.{target_read}, specs.Notation.{column_digits}}
 use Rattle.fc_text.specs.reader.{index_among, source_named, target_named}
 use Rattle.fc_laws.proofs.texts.notation.characters_name_piles.Goals as goal
 

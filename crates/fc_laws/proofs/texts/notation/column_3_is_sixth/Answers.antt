@@ -1,6 +1,5 @@
 use Rattle.{fc_card.specs.laws.OrderLaws.{places-IsOrder}, std.proofs.Common.{refl}}
-use Rattle.fc_board.proofs.ImageLemmas.{IsOrder-leads_back}
-use Rattle.fc_laws.specs.BoardExamples.{column_3_sixth}
+use Rattle.{fc_board.proofs.ImageLemmas.{IsOrder-leads_back}, fc_laws.specs.BoardExamples.{column_3_sixth}}
 use Rattle.fc_laws.proofs.texts.notation.column_3_is_sixth.Goals as goal
 
 pub returns-clause-orders : goal.returns-clause-orders

@@ -1,5 +1,4 @@
-use Rattle.fc_text.specs.Notation.{IsToken}
-use Rattle.fc_text.proofs.ListedLemmas.{one_bad_token, one_list, one_word_too_many}
+use Rattle.fc_text.{proofs.ListedLemmas.{one_bad_token, one_list, one_word_too_many}, specs.Notation.{IsToken}}
 use Rattle.fc_laws.proofs.texts.notation.texts_have_one_reading.Goals as goal
 
 pub returns-clause-one_list : goal.returns-clause-one_list

@@ -1,8 +1,5 @@
-use Rattle.fc_text.proofs.TokenLemmas.{moves-Reads}
-use Rattle.fc_text.specs.Notation.{IsToken}
-use Rattle.fc_text.specs.reader.{move_named}
-use Rattle.fc_text.proofs.ListedLemmas.{bad_or_too_many, listed_or_bad, listed_or_too_many}
-use Rattle.fc_text.proofs.ListedLemmas.{one_of_three}
+use Rattle.fc_text.proofs.ListedLemmas.{bad_or_too_many, listed_or_bad, listed_or_too_many, one_of_three}
+use Rattle.fc_text.{proofs.TokenLemmas.{moves-Reads}, specs.{Notation.{IsToken}, reader.{move_named}}}
 use Rattle.fc_laws.proofs.texts.notation.texts_list_moves_or_fail.Goals as goal
 
 pub returns-clause-one_of_three : goal.returns-clause-one_of_three

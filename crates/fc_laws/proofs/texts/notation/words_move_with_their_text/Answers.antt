@@ -1,6 +1,5 @@
 use Rattle.std.proofs.Common.{◌∙◌, ap, arith}
-use Rattle.fc_text.proofs.WordLemmas.{words_from-moved}
-use Rattle.fc_text.specs.Lines.{words_from}
+use Rattle.fc_text.{proofs.WordLemmas.{words_from-moved}, specs.Lines.{words_from}}
 use Rattle.fc_laws.proofs.texts.notation.words_move_with_their_text.Goals as goal
 
 pub returns : goal.returns

@@ -1,7 +1,5 @@
-use Rattle.std.proofs.Common.{[], ap, sym}
-use Rattle.std.specs.Option.{option_or}
-use Rattle.fc_text.proofs.KnownLemmas.{same_first_fault}
-use Rattle.fc_text.proofs.SoundLemmas.{Sound-nil}
+use Rattle.std.{proofs.Common.{[], ap, sym}, specs.Option.{option_or}}
+use Rattle.fc_text.proofs.{KnownLemmas.{same_first_fault}, SoundLemmas.{Sound-nil}}
 use Rattle.fc_text.specs.Faults.{items_of, missing_card}
 use Rattle.fc_laws.proofs.texts.reading.one_pass_finds_the_first_fault.Goals as goal
 

@@ -1,5 +1,4 @@
-use Rattle.std.proofs.Common.{codes, refl}
-use Rattle.fc_laws.proofs.NamedLineLemmas.{names_cells, names_foundations}
+use Rattle.{fc_laws.proofs.NamedLineLemmas.{names_cells, names_foundations}, std.proofs.Common.{codes, refl}}
 use Rattle.fc_laws.proofs.texts.rows.each_name_is_read.Goals as goal
 
 pub returns-clause-foundations : goal.returns-clause-foundations

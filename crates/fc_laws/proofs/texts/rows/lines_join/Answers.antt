@@ -1,7 +1,5 @@
-use Rattle.std.proofs.Common.{◌+◌, ◌∙◌, ap, drop, sym}
-use Rattle.std.specs.List.{prefix_len}
-use Rattle.fc_text.proofs.LineLemmas.{lines_join, one_return_cut}
-use Rattle.fc_text.specs.{Bytes.{is_gap}, Rows.{line_of_front}}
+use Rattle.std.{proofs.Common.{◌+◌, ◌∙◌, ap, drop, sym}, specs.List.{prefix_len}}
+use Rattle.fc_text.{proofs.LineLemmas.{lines_join, one_return_cut}, specs.{Bytes.{is_gap}, Rows.{line_of_front}}}
 use Rattle.fc_laws.proofs.texts.rows.lines_join.Goals as goal
 
 pub returns-clause-joined : goal.returns-clause-joined

@@ -1,6 +1,5 @@
 use Rattle.std.proofs.Common.{map}
-use Rattle.fc_text.specs.{Lines.{lines_from}, Rows.{line_of}}
-use Rattle.fc_text.proofs.BlankLineLemmas.{only_rows, rows_are}
+use Rattle.fc_text.{proofs.BlankLineLemmas.{only_rows, rows_are}, specs.{Lines.{lines_from}, Rows.{line_of}}}
 use Rattle.fc_laws.proofs.texts.rows.rows_follow_from_the_lines_before.Goals as goal
 
 pub returns-clause-rows : goal.returns-clause-rows

@@ -1,8 +1,7 @@
 use Rattle.std.proofs.Common.{◌+◌, ◌∷◌, [], codes, lit≤, map, None, refl}
 use Rattle.fc_board.specs.{declared.run_move.RunMove.TheVariants.{Run}, Games.{eight_off, freecell}}
 use Rattle.fc_text.specs.reader.{as_run}
-use Rattle.fc_laws.proofs.ExampleLemmas.{bad_run_by_name, runs_by_names}
-use Rattle.fc_laws.specs.BoardExamples.{cells_to_columns}
+use Rattle.fc_laws.{proofs.ExampleLemmas.{bad_run_by_name, runs_by_names}, specs.BoardExamples.{cells_to_columns}}
 use Rattle.fc_laws.proofs.texts.runs.each_letter_is_read_in_runs.Goals as goal
 
 pub returns-clause-cells : goal.returns-clause-cells

@@ -1,5 +1,4 @@
-use Rattle.fc_text.specs.Notation.{IsRunToken}
-use Rattle.fc_text.proofs.ListedLemmas.{bad_token_in_text, word_too_many_in_text}
+use Rattle.fc_text.{proofs.ListedLemmas.{bad_token_in_text, word_too_many_in_text}, specs.Notation.{IsRunToken}}
 use Rattle.fc_laws.proofs.texts.runs.faults_of_runs_are_in_the_text.Goals as goal
 
 pub returns-clause-bad_token : goal.returns-clause-bad_token

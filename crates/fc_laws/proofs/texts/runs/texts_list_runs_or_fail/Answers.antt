@@ -1,8 +1,5 @@
-use Rattle.fc_text.proofs.RunTokenLemmas.{runs-Reads}
-use Rattle.fc_text.specs.Notation.{IsRunToken}
-use Rattle.fc_text.specs.reader.{run_named}
-use Rattle.fc_text.proofs.ListedLemmas.{bad_or_too_many, listed_or_bad, listed_or_too_many}
-use Rattle.fc_text.proofs.ListedLemmas.{one_of_three}
+use Rattle.fc_text.proofs.ListedLemmas.{bad_or_too_many, listed_or_bad, listed_or_too_many, one_of_three}
+use Rattle.fc_text.{proofs.RunTokenLemmas.{runs-Reads}, specs.{Notation.{IsRunToken}, reader.{run_named}}}
 use Rattle.fc_laws.proofs.texts.runs.texts_list_runs_or_fail.Goals as goal
 
 pub returns-clause-one_of_three : goal.returns-clause-one_of_three

@@ -1,6 +1,5 @@
-use Rattle.fc_text.proofs.RunTokenLemmas.{one_run}
+use Rattle.fc_text.proofs.{ListedLemmas.{one_bad_token, one_listing, one_word_too_many}, RunTokenLemmas.{one_run}}
 use Rattle.fc_text.specs.Notation.{IsRunToken}
-use Rattle.fc_text.proofs.ListedLemmas.{one_bad_token, one_listing, one_word_too_many}
 use Rattle.fc_laws.proofs.texts.runs.texts_of_runs_have_one_reading.Goals as goal
 
 pub returns-clause-one_list : goal.returns-clause-one_list

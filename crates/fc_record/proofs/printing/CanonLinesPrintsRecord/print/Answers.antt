@@ -1,8 +1,7 @@
 use Rattle.std.proofs.Common.{◌∙◌, ap, refl}
 use Rattle.{fc_board.specs.Passages.{carried}, fc_text.specs.Printed.{text_of}}
-use Rattle.fc_record.specs.Grammar.{contents_seen, heading_seen}
 use Rattle.fc_canon.proofs.LeastTextLemmas.{chosen-text, chosen_passage-Chosen, one_chosen}
-use Rattle.fc_record.proofs.LineLemmas.{made_canonical}
+use Rattle.fc_record.{proofs.LineLemmas.{made_canonical}, specs.Grammar.{contents_seen, heading_seen}}
 use Rattle.fc_record.proofs.printing.CanonLinesPrintsRecord.print.Goals as goal
 
 pub returns : goal.returns

@@ -1,9 +1,7 @@
-use Rattle.std.proofs.Common.{◌++◌, ◌∙◌, ap, refl}
-use Rattle.std.proofs.lemmas.Result.{on_ok_weaker}
+use Rattle.std.proofs.{Common.{◌++◌, ◌∙◌, ap, refl}, lemmas.Result.{on_ok_weaker}}
 use Rattle.{fc_board.specs.Games.{Game}, fc_text.specs.Printed.{text_of}}
-use Rattle.fc_record.specs.Grammar.{contents_seen, heading_seen}
+use Rattle.fc_record.{proofs.LineLemmas.{three_parts}, specs.Grammar.{contents_seen, heading_seen}}
 use Rattle.fc_record.specs.Printing.{expanded_line, heading_line, numbered_lines}
-use Rattle.fc_record.proofs.LineLemmas.{three_parts}
 use Rattle.fc_record.proofs.printing.ExpandLinesPrintsRecord.print.Goals as goal
 
 pub returns : goal.returns

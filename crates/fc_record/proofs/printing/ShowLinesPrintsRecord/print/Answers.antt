@@ -1,5 +1,4 @@
-use Rattle.fc_record.proofs.LineLemmas.{shown}
-use Rattle.fc_record.specs.Grammar.{contents_seen, heading_seen}
+use Rattle.fc_record.{proofs.LineLemmas.{shown}, specs.Grammar.{contents_seen, heading_seen}}
 use Rattle.fc_record.proofs.printing.ShowLinesPrintsRecord.print.Goals as goal
 
 pub returns : goal.returns

@@ -1,8 +1,7 @@
 use Rattle.std.proofs.Common.{◌∙◌, refl}
 use Rattle.fc_canon.proofs.CanonicalLemmas.{one_canonical}
 use Rattle.fc_canon.proofs.LeastTextLemmas.{chosen_passage-Chosen, least_text-Canonical, one_chosen}
-use Rattle.fc_record.proofs.LineLemmas.{tabled}
-use Rattle.fc_record.specs.Grammar.{contents_seen, heading_seen}
+use Rattle.fc_record.{proofs.LineLemmas.{tabled}, specs.Grammar.{contents_seen, heading_seen}}
 use Rattle.fc_record.proofs.printing.TableLinesPrintsRecord.print.Goals as goal
 
 pub returns : goal.returns

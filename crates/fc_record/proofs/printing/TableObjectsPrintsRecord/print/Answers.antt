@@ -1,8 +1,7 @@
 use Rattle.std.proofs.Common.{◌∙◌, refl}
 use Rattle.fc_canon.proofs.CanonicalLemmas.{one_canonical}
 use Rattle.fc_canon.proofs.LeastTextLemmas.{chosen_passage-Chosen, least_text-Canonical, one_chosen}
-use Rattle.fc_record.proofs.ObjectLemmas.{objected}
-use Rattle.fc_record.specs.Grammar.{contents_seen, heading_seen}
+use Rattle.fc_record.{proofs.ObjectLemmas.{objected}, specs.Grammar.{contents_seen, heading_seen}}
 use Rattle.fc_record.proofs.printing.TableObjectsPrintsRecord.print.Goals as goal
 
 pub returns : goal.returns

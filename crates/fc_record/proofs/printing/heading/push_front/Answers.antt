@@ -1,7 +1,7 @@
 -- Each arm appends what is before a name in its variant.
 use Rattle.std.proofs.Common.{◌++◌, ◌∷◌, [], ap, codes, List, sym, ℕ}
-use Rattle.fc_board.specs.{declared.rule.Variant.{Variant}, Games.{variant_word}}
-use Rattle.{fc_record.proofs.LineLemmas.{appended_text}, fc_text.specs.Bytes.{blank}}
+use Rattle.{fc_board.specs.{declared.rule.Variant.{Variant}, Games.{variant_word}}, fc_text.specs.Bytes.{blank}}
+use Rattle.fc_record.proofs.LineLemmas.{appended_text}
 use Rattle.fc_record.proofs.printing.heading.push_front.Goals as goal
 
 abbrev front : Variant → List ℕ

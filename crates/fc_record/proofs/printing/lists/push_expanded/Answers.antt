@@ -1,8 +1,6 @@
 -- The line is the one for the verdict on the list.
-use Rattle.std.proofs.Common.{◌++◌, ◌∙◌, ap, subst}
-use Rattle.std.proofs.lemmas.Result.{on_ok_weaker}
-use Rattle.fc_record.proofs.LineLemmas.{expansion-line, refusal-line}
-use Rattle.fc_record.specs.inside.{Expanded}
+use Rattle.std.proofs.{Common.{◌++◌, ◌∙◌, ap, subst}, lemmas.Result.{on_ok_weaker}}
+use Rattle.fc_record.{proofs.LineLemmas.{expansion-line, refusal-line}, specs.inside.{Expanded}}
 use Rattle.fc_record.proofs.printing.lists.push_expanded.Goals as goal
 
 pub returns-in-Ok : goal.returns-in-Ok

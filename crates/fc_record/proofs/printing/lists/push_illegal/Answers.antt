@@ -1,8 +1,6 @@
-use Rattle.std.proofs.Common.{◌∷◌, [], codes}
-use Rattle.std.specs.Fmt.{decimal}
+use Rattle.std.{proofs.Common.{◌∷◌, [], codes}, specs.Fmt.{decimal}}
 use Rattle.{fc_board.specs.Play.{Refused}, fc_text.specs.Bytes.{line_feed}}
-use Rattle.fc_record.specs.Printing.{verdict_words}
-use Rattle.fc_record.proofs.LineLemmas.{four_parts}
+use Rattle.fc_record.{proofs.LineLemmas.{four_parts}, specs.Printing.{verdict_words}}
 use Rattle.fc_record.proofs.printing.lists.push_illegal.Goals as goal
 
 pub returns : goal.returns

@@ -1,11 +1,9 @@
-use Rattle.std.proofs.Common.{◌++◌, ◌∙◌, ◌∷◌, ◌≡◌, [], ap, append-nil, append_assoc, arith, rules}
-use Rattle.std.proofs.Common.{sym}
+use Rattle.std.proofs.Common.{◌++◌, ◌∙◌, ◌∷◌, ◌≡◌, [], ap, append-nil, append_assoc, arith, rules, sym}
 use Rattle.fc_text.specs.{Bytes.{blank, line_feed}, Notation.{print}}
-use Rattle.fc_record.specs.Printing.{after_blank, marks_of}
 use Rattle.fc_record.proofs.LineLemmas.{no_tokens-after_blank, three_parts, tokens-after_blank}
+use Rattle.fc_record.specs.Printing.{after_blank, marks_of}
 use Rattle.fc_record.proofs.printing.lists.push_list.Goals as goal
-use Rattle.fc_record.proofs.printing.lists.push_list.Goals.{else-len-gt0}
-use Rattle.fc_record.proofs.printing.lists.push_list.Goals.{then-len-gt0+in_ok-push+in_ok-push_tokens}
+use Rattle.fc_record.proofs.printing.lists.push_list.Goals.{else-len-gt0, then-len-gt0+in_ok-push+in_ok-push_tokens}
 
 pub returns : goal.returns
 returns c =

@@ -1,13 +1,9 @@
 -- A turn prints the line of one more list.
-use Rattle.std.proofs.Common.{◌++◌, ◌+◌, ◌<◌, ◌∙◌, ◌≡◌, add-one, ap, append-nil, append_assoc}
-use Rattle.std.proofs.Common.{arith, get_or, length, List, subst, sym, take, take-suc, ℕ}
-use Rattle.std.proofs.lemmas.Grind.{flat_map-append}
-use Rattle.std.proofs.lemmas.List.{take_all}
-use Rattle.std.proofs.lemmas.Result.{IfOk-from_err}
-use Rattle.std.specs.List.{flat_map}
+use Rattle.std.proofs.Common.{◌++◌, ◌+◌, ◌<◌, ◌∙◌, ◌≡◌, add-one, ap, append-nil, append_assoc, arith, get_or, length}
+use Rattle.std.proofs.{Common.{List, subst, sym, take, take-suc, ℕ}, lemmas.{Grind.{flat_map-append}, List.{take_all}}}
+use Rattle.std.{proofs.lemmas.Result.{IfOk-from_err}, specs.List.{flat_map}}
 use Rattle.fc_board.specs.{Games.{eight_off}, Moves.{ListFits, MoveList}}
-use Rattle.fc_record.specs.Printing.{list_line}
-use Rattle.fc_record.proofs.LineLemmas.{all_printed}
+use Rattle.fc_record.{proofs.LineLemmas.{all_printed}, specs.Printing.{list_line}}
 use Rattle.fc_record.proofs.printing.lists.push_lists.Goals as goal
 
 -- the lines of one more list

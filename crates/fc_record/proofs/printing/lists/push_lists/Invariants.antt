@@ -1,5 +1,4 @@
-use Rattle.std.proofs.Common.{◌++◌, ◌≡◌, take}
-use Rattle.std.specs.List.{flat_map}
+use Rattle.std.{proofs.Common.{◌++◌, ◌≡◌, take}, specs.List.{flat_map}}
 use Rattle.fc_record.specs.Printing.{list_line}
 use Rattle.fc_record.proofs.printing.lists.push_lists.Given as goal
 

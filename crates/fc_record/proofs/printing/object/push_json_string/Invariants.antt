@@ -1,6 +1,5 @@
 -- What was printed, and what is to be printed of the bytes that are left, is the whole.
-use Rattle.std.proofs.Common.{◌++◌, ◌==◌, ◌||◌, ◌∷◌, ◌≡◌, [], drop, if◌then◌else◌}
-use Rattle.std.specs.List.{flat_map}
+use Rattle.std.{proofs.Common.{◌++◌, ◌==◌, ◌||◌, ◌∷◌, ◌≡◌, [], drop, if◌then◌else◌}, specs.List.{flat_map}}
 use Rattle.fc_record.specs.Tables.{json_string}
 use Rattle.fc_record.proofs.printing.object.push_json_string.Given as goal
 

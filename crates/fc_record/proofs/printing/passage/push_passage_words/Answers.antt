@@ -1,9 +1,6 @@
-use Rattle.std.proofs.Common.{◌++◌, ◌∙◌, ◌≡◌, ap, map, OnOk, rules, slice_index, take}
-use Rattle.std.proofs.lemmas.Result.{on_ok_weaker}
-use Rattle.fc_card.specs.{renaming_text}
-use Rattle.fc_text.specs.Notation.{cell_letters, column_digits}
-use Rattle.fc_record.specs.Printing.{passage_words}
-use Rattle.fc_record.proofs.LineLemmas.{seven_parts}
+use Rattle.std.proofs.{Common.{◌++◌, ◌∙◌, ◌≡◌, ap, map, OnOk, rules, slice_index, take}, lemmas.Result.{on_ok_weaker}}
+use Rattle.{fc_card.specs.{renaming_text}, fc_text.specs.Notation.{cell_letters, column_digits}}
+use Rattle.fc_record.{proofs.LineLemmas.{seven_parts}, specs.Printing.{passage_words}}
 use Rattle.fc_record.proofs.printing.passage.push_passage_words.Goals as goal
 
 pub returns : goal.returns

@@ -1,8 +1,5 @@
-use Rattle.std.proofs.Common.{◌+◌}
-use Rattle.std.specs.Fmt.{decimal}
-use Rattle.std.specs.Option.{option_map}
-use Rattle.fc_record.proofs.ObjectLemmas.{refusal_pushed, six-pushed}
-use Rattle.fc_record.specs.Printing.{name_of}
+use Rattle.std.{proofs.Common.{◌+◌}, specs.{Fmt.{decimal}, Option.{option_map}}}
+use Rattle.fc_record.{proofs.ObjectLemmas.{refusal_pushed, six-pushed}, specs.Printing.{name_of}}
 use Rattle.fc_record.proofs.printing.refusal.push_refusal_object.Goals as goal
 
 pub returns : goal.returns

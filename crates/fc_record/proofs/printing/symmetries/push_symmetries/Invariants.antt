@@ -1,6 +1,4 @@
-use Rattle.std.proofs.Common.{◌++◌, ◌≡◌, take}
-use Rattle.std.specs.List.{flat_map}
-use Rattle.std.specs.Option.{option_map}
+use Rattle.std.{proofs.Common.{◌++◌, ◌≡◌, take}, specs.{List.{flat_map}, Option.{option_map}}}
 use Rattle.fc_record.specs.Printing.{name_of, symmetry_line}
 use Rattle.fc_record.proofs.printing.symmetries.push_symmetries.Given as goal
 

@@ -1,6 +1,5 @@
 use Rattle.std.proofs.Common.{◌++◌, ◌≡◌, length}
-use Rattle.fc_record.proofs.TextLineLemmas.{apart}
-use Rattle.fc_record.specs.Tables.{side_by_side}
+use Rattle.fc_record.{proofs.TextLineLemmas.{apart}, specs.Tables.{side_by_side}}
 use Rattle.fc_record.proofs.printing.table.push_side_by_side.Given as goal
 
 abbrev pub invariant-loop-end : goal.invariant-loop-end

@@ -1,5 +1,4 @@
-use Rattle.std.proofs.Common.{◌++◌, ◌+◌, ◌≡◌, drop}
-use Rattle.std.specs.Option.{option_map}
+use Rattle.std.{proofs.Common.{◌++◌, ◌+◌, ◌≡◌, drop}, specs.Option.{option_map}}
 use Rattle.fc_record.specs.Printing.{name_of, numbered_lines, verdict_line}
 use Rattle.fc_record.proofs.printing.verdict.push_verdict_lines.Given as goal
 

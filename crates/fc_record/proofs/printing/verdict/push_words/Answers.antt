@@ -1,7 +1,6 @@
 use Rattle.std.proofs.Common.{◌++◌, ◌∙◌, ◌≡◌, ap, if◌then◌else◌, OnOk, subst, sym}
 use Rattle.fc_board.specs.{Moves.{move_count}, Play.{OnlyLegal, Won}}
-use Rattle.fc_record.specs.Printing.{verdict_words}
-use Rattle.fc_record.specs.inside.{verdict_of}
+use Rattle.fc_record.specs.{inside.{verdict_of}, Printing.{verdict_words}}
 use Rattle.fc_record.proofs.printing.verdict.push_words.Goals as goal
 
 pub returns-in-Ok : goal.returns-in-Ok

@@ -1,9 +1,6 @@
-use Rattle.std.proofs.Common.{◌∙◌, All, ap, arith, length, subst, sym}
-use Rattle.std.proofs.lemmas.List.Elements.{All-tail}
+use Rattle.std.proofs.{Common.{◌∙◌, All, ap, arith, length, subst, sym}, lemmas.List.Elements.{All-tail}}
 use Rattle.std.specs.Option.{option_map, unwrap_or}
-use Rattle.fc_text.proofs.NextLineLemmas.{line_within}
-use Rattle.fc_text.specs.Lines.{IsPieceOf, piece_of}
-use Rattle.fc_text.specs.Left.{lines_left}
+use Rattle.fc_text.{proofs.NextLineLemmas.{line_within}, specs.{Left.{lines_left}, Lines.{IsPieceOf, piece_of}}}
 use Rattle.fc_record.proofs.ContentsLemmas.{first_list-here, first_list-later}
 use Rattle.fc_record.proofs.record.body.first_list_line.Goals as goal
 

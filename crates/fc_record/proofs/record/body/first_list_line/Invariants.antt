@@ -1,9 +1,7 @@
 -- No line so far is a list.
-use Rattle.std.proofs.Common.{◌≡◌, All}
-use Rattle.std.specs.List.{find}
-use Rattle.fc_text.specs.Lines.{IsPieceOf, lines_from}
+use Rattle.std.{proofs.Common.{◌≡◌, All}, specs.List.{find}}
+use Rattle.fc_text.specs.{Left.{lines_left}, Lines.{IsPieceOf, lines_from}}
 use Rattle.fc_record.specs.Grammar.{begins_with, list_mark}
-use Rattle.fc_text.specs.Left.{lines_left}
 use Rattle.fc_record.proofs.record.body.first_list_line.Given as goal
 
 abbrev pub invariant-loop-line : goal.invariant-loop-line

@@ -1,8 +1,7 @@
 use Rattle.std.proofs.Common.{◌+◌, ◌^◌, ◌≡◌, ◌≤◌, arith, subst, sym}
 use Rattle.fc_text.specs.Notation.{ListFault}
-use Rattle.fc_record.proofs.ContentsLemmas.{fault-near, IfFaultOf-weaker, unread-first}
-use Rattle.fc_record.{proofs.ContentsLemmas.{unread-small}, specs.Grammar.{list_fault}}
-use Rattle.fc_record.specs.inside.{IfFaultOf, IsFirstFault, unread_for}
+use Rattle.fc_record.proofs.ContentsLemmas.{fault-near, IfFaultOf-weaker, unread-first, unread-small}
+use Rattle.fc_record.specs.{Grammar.{list_fault}, inside.{IfFaultOf, IsFirstFault, unread_for}}
 use Rattle.fc_record.proofs.record.body.read_after.Goals as goal
 
 pub unread_list-requires-clause-fault : goal.unread_list-requires-clause-fault

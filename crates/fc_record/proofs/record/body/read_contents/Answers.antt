@@ -1,7 +1,5 @@
-use Rattle.std.proofs.Common.{◌∙◌, ◌≤◌, arith, length, List, min, sym, take, ℕ}
-use Rattle.std.proofs.lemmas.List.{length-take}
-use Rattle.fc_record.proofs.ContentsLemmas.{fault_within}
-use Rattle.fc_record.proofs.PrintedPartLemmas.{part_spells, part_starts, part_text}
+use Rattle.std.proofs.{Common.{◌∙◌, ◌≤◌, arith, length, List, min, sym, take, ℕ}, lemmas.List.{length-take}}
+use Rattle.fc_record.proofs.{ContentsLemmas.{fault_within}, PrintedPartLemmas.{part_spells, part_starts, part_text}}
 use Rattle.fc_record.proofs.record.body.read_contents.Goals as goal
 
 short : (k : ℕ) (bytes : List ℕ) → length (take k bytes) ≤ length bytes

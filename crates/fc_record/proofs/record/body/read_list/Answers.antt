@@ -1,7 +1,6 @@
 -- A list is read in the form that its marks say.
-use Rattle.std.proofs.Common.{◌+◌, ◌-◌, ◌∙◌, ◌≡◌, ◌≤◌, ap, arith, Bool, drop, false, if◌then◌else◌}
-use Rattle.std.proofs.Common.{length, List, Ok, Result, sym, take, true, ℕ}
-use Rattle.std.proofs.lemmas.List.{take_rest}
+use Rattle.std.proofs.Common.{◌+◌, ◌-◌, ◌∙◌, ◌≡◌, ◌≤◌, ap, arith, Bool, drop, false, if◌then◌else◌, length, List, Ok}
+use Rattle.std.proofs.{Common.{Result, sym, take, true, ℕ}, lemmas.List.{take_rest}}
 use Rattle.fc_board.specs.{Games.{Game}, Moves.{MoveList, OneCard, Runs}}
 use Rattle.fc_text.proofs.{RunTokenLemmas.{runs-Reads}, TokenLemmas.{moves-Reads}}
 use Rattle.fc_text.specs.{Notation.{IsRunToken, IsToken}, reader.{move_named, run_named}}

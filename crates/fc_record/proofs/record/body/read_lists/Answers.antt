@@ -1,11 +1,10 @@
 use Rattle.std.proofs.Common.{◌++◌, ◌+◌, ◌∙◌, ◌∷◌, ◌≡◌, [], All, ap, arith, map, rules, subst, sym}
 use Rattle.std.proofs.lemmas.List.Elements.{All-append, All-cons, All-nil, All-tail}
-use Rattle.{fc_board.specs.Moves.{ListFits}, fc_record.specs.Grammar.{lists_of}}
+use Rattle.fc_board.specs.Moves.{ListFits}
+use Rattle.fc_text.{proofs.{LineLemmas.{lines_from-moved}, NextLineLemmas.{line_within}}, specs.Left.{lines_left}}
 use Rattle.fc_text.specs.Lines.{IsPieceOf, lines_from, moved, piece_of}
-use Rattle.fc_text.proofs.LineLemmas.{lines_from-moved}
-use Rattle.fc_text.proofs.NextLineLemmas.{line_within}
-use Rattle.fc_text.specs.Left.{lines_left}
 use Rattle.fc_record.proofs.ContentsLemmas.{after_seen, after_seen-none, empty-skipped, list-read}
+use Rattle.fc_record.specs.Grammar.{lists_of}
 use Rattle.fc_record.proofs.record.body.read_lists.Goals as goal
 
 pub loop-line-init : goal.loop-line-init

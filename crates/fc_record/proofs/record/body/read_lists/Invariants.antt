@@ -1,9 +1,7 @@
 -- The lists so far, and then what the lines that are left say.
 use Rattle.std.proofs.Common.{◌≡◌, All, map}
-use Rattle.{fc_record.specs.Grammar.{lists_of}, fc_text.specs.Lines.{IsPieceOf, lines_from, moved}}
-use Rattle.fc_text.specs.Left.{lines_left}
-use Rattle.fc_record.proofs.ContentsLemmas.{after_seen}
-use Rattle.fc_record.specs.inside.Fitting.{AllFit}
+use Rattle.fc_text.specs.{Left.{lines_left}, Lines.{IsPieceOf, lines_from, moved}}
+use Rattle.fc_record.{proofs.ContentsLemmas.{after_seen}, specs.{Grammar.{lists_of}, inside.Fitting.{AllFit}}}
 use Rattle.fc_record.proofs.record.body.read_lists.Given as goal
 
 abbrev pub invariant-loop-line : goal.invariant-loop-line

@@ -1,9 +1,7 @@
-use Rattle.std.proofs.Common.{◌+◌, ◌∙◌, ap, sym}
-use Rattle.std.proofs.lemmas.List.{take_rest}
-use Rattle.std.proofs.lemmas.Result.{err_from_is_err_and}
-use Rattle.{fc_record.specs.Grammar.{lists_of}, fc_text.specs.Lines.{lines_from}}
-use Rattle.fc_text.proofs.ReadingLemmas.{faultless-from_Spells, Spells-board_of}
+use Rattle.std.proofs.{Common.{◌+◌, ◌∙◌, ap, sym}, lemmas.{List.{take_rest}, Result.{err_from_is_err_and}}}
+use Rattle.fc_text.{proofs.ReadingLemmas.{faultless-from_Spells, Spells-board_of}, specs.Lines.{lines_from}}
 use Rattle.fc_record.proofs.ContentsLemmas.{contents-at_fault, contents-read, IfFaultOf-weaker}
+use Rattle.fc_record.specs.Grammar.{lists_of}
 use Rattle.fc_record.proofs.record.body.with_lists.Goals as goal
 
 pub returns-in_err-lists-clause-fault : goal.returns-in_err-lists-clause-fault

@@ -1,9 +1,7 @@
 -- What is spelled so has two words: that of the variant and the name.
-use Rattle.std.proofs.Common.{◌<◌, ◌==◌, ◌∙◌, ◌∷◌, ◌≡◌, [], ap, arith, drop, false, length, List}
-use Rattle.std.proofs.Common.{Ok, subst, sym, ℕ}
+use Rattle.std.proofs.Common.{◌<◌, ◌==◌, ◌∙◌, ◌∷◌, ◌≡◌, [], ap, arith, drop, false, length, List, Ok, subst, sym, ℕ}
 use Rattle.fc_text.specs.{Bytes.{is_gap}, Lines.{words_from}}
-use Rattle.fc_record.specs.Grammar.{heading_of_words, heading_seen}
-use Rattle.fc_record.proofs.HeadingLemmas.{line_read}
+use Rattle.fc_record.{proofs.HeadingLemmas.{line_read}, specs.Grammar.{heading_of_words, heading_seen}}
 use Rattle.fc_record.proofs.record.header.printed_header.Goals as goal
 
 has_some : (name : List ℕ) → false ≡ (length name == 0) → 0 < length name

@@ -1,12 +1,8 @@
-use Rattle.std.proofs.Common.{◌++◌, ◌+◌, ◌∙◌, ◌≡◌, ap, append-nil, append_assoc, drop, subst, sym}
-use Rattle.std.proofs.Common.{take_all}
-use Rattle.std.proofs.lemmas.List.{drop_all, drop_more}
-use Rattle.std.specs.Prelude.{Err, IfErr, Ok, OnOk, Result}
-use Rattle.fc_board.proofs.ListLemmas.{HasPlayed-more, refused_next, verdict-Stops}
-use Rattle.fc_board.proofs.RunPlayLemmas.{several}
-use Rattle.fc_board.specs.{Boards.{IsWellFormed}, Moves.{ListFits, OneCard, RunFits, Runs}}
+use Rattle.std.proofs.Common.{◌++◌, ◌+◌, ◌∙◌, ◌≡◌, ap, append-nil, append_assoc, drop, subst, sym, take_all}
+use Rattle.std.{proofs.lemmas.List.{drop_all, drop_more}, specs.Prelude.{Err, IfErr, Ok, OnOk, Result}}
+use Rattle.fc_board.proofs.{ListLemmas.{HasPlayed-more, refused_next, verdict-Stops}, RunPlayLemmas.{several}}
+use Rattle.fc_board.specs.{Boards.{IsWellFormed}, laws.ListWords.{RunPlays}, Moves.{ListFits, OneCard, RunFits, Runs}}
 use Rattle.fc_board.specs.{Play.{expansion_of, expansions}, Steps.{run_refusal, RunStep}}
-use Rattle.fc_board.specs.laws.ListWords.{RunPlays}
 use Rattle.fc_record.proofs.LineLemmas.{expansions-next, one_card_moves-Fit, played-verdict}
 use Rattle.fc_record.proofs.record.move_list.expand_runs.Given as given
 use Rattle.fc_record.proofs.record.move_list.expand_runs.Goals as goal

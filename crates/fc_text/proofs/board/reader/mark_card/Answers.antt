@@ -1,5 +1,4 @@
-use Rattle.std.proofs.Common.{◌≡◌, ◌≤◌, arith, refl, ℕ}
-use Rattle.std.proofs.lemmas.Bool.{both_ways}
+use Rattle.std.proofs.{Common.{◌≡◌, ◌≤◌, arith, refl, ℕ}, lemmas.Bool.{both_ways}}
 use Rattle.fc_text.proofs.SeeingLemmas.{counted_seen, not_seen, seen_again, was_seen}
 use Rattle.fc_text.proofs.board.reader.mark_card.Goals as goal
 

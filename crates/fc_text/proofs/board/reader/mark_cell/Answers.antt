@@ -1,5 +1,4 @@
-use Rattle.std.proofs.Common.{[], arith, refl}
-use Rattle.fc_text.proofs.SeeingLemmas.{counted_seen}
+use Rattle.{fc_text.proofs.SeeingLemmas.{counted_seen}, std.proofs.Common.{[], arith, refl}}
 use Rattle.fc_text.proofs.board.reader.mark_cell.Goals as goal
 
 pub returns-in-None : goal.returns-in-None

@@ -1,5 +1,4 @@
-use Rattle.std.proofs.Common.{◌≤◌, refl, subst, sym}
-use Rattle.std.proofs.lemmas.Bool.{both_ways}
+use Rattle.std.proofs.{Common.{◌≤◌, refl, subst, sym}, lemmas.Bool.{both_ways}}
 use Rattle.fc_card.specs.{CountsNoneUpTo, CountsUpTo}
 use Rattle.fc_text.proofs.SeeingLemmas.{counted_seen, home_counted, home_not_seen, home_was_seen}
 use Rattle.fc_text.proofs.board.reader.mark_foundation.Goals as goal

@@ -1,5 +1,5 @@
-use Rattle.std.proofs.Common.{◌*◌, ◌+◌, ◌-◌, ◌<◌, ◌∙◌, ◌∷◌, ◌≡◌, ◌≤◌, [], ap, ap₂, arith, drop}
-use Rattle.std.proofs.Common.{length, List, None, Option, refl, slice_index_or, Some, sym, take, ℕ}
+use Rattle.std.proofs.Common.{◌*◌, ◌+◌, ◌-◌, ◌<◌, ◌∙◌, ◌∷◌, ◌≡◌, ◌≤◌, [], ap, ap₂, arith, drop, length, List, None}
+use Rattle.std.proofs.Common.{Option, refl, slice_index_or, Some, sym, take, ℕ}
 use Rattle.std.specs.Option.{option_and_then, option_map, SomeIff}
 use Rattle.fc_card.specs.{card_of, IsCard}
 use Rattle.fc_text.proofs.CardLemmas.{rank-below, suit-below}

@@ -1,10 +1,7 @@
-use Rattle.std.proofs.Common.{◌<◌, ◌∙◌, ◌∷◌, ◌≡◌, ◌≢◌, ◌≤◌, ◌⊎◌, [], ap, arith, cond, drop, inl}
-use Rattle.std.proofs.Common.{inr, length, List, None, Option, refl, slice_index_or, sym, take, ℕ}
-use Rattle.std.proofs.lemmas.Bool.{eq-eqb, ne_eqb}
-use Rattle.std.proofs.lemmas.List.{take_rest}
-use Rattle.std.specs.Option.{option_and_then, option_map}
-use Rattle.fc_text.specs.Bytes.{dash}
-use Rattle.fc_text.specs.Spelling.{foundation_spelled, height_spelled, suit_spelled}
+use Rattle.std.proofs.Common.{◌<◌, ◌∙◌, ◌∷◌, ◌≡◌, ◌≢◌, ◌≤◌, ◌⊎◌, [], ap, arith, cond, drop, inl, inr, length, List}
+use Rattle.std.proofs.{Common.{None, Option, refl, slice_index_or, sym, take, ℕ}, lemmas.Bool.{eq-eqb, ne_eqb}}
+use Rattle.std.{proofs.lemmas.List.{take_rest}, specs.Option.{option_and_then, option_map}}
+use Rattle.fc_text.specs.{Bytes.{dash}, Spelling.{foundation_spelled, height_spelled, suit_spelled}}
 use Rattle.fc_text.specs.declared.board.spelling.Foundation.{Foundation}
 use Rattle.fc_text.proofs.board.spelling.foundation_spelled.Goals as goal
 use Rattle.fc_text.proofs.board.spelling.foundation_spelled.Goals.{then-word-lt2-via-else-word-lt2+then-word-ne45}

@@ -1,6 +1,5 @@
 use Rattle.std.proofs.Common.{◌∷◌, [], arith}
-use Rattle.fc_text.proofs.LetterLemmas.{fourth_is_none, fourth_is_some}
-use Rattle.fc_text.proofs.CardLemmas.{rank-below}
+use Rattle.fc_text.proofs.{CardLemmas.{rank-below}, LetterLemmas.{fourth_is_none, fourth_is_some}}
 use Rattle.fc_text.specs.Spelling.{rank_spelled}
 use Rattle.fc_text.proofs.board.spelling.rank_of_letter.Goals as goal
 

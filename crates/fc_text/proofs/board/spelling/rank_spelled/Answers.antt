@@ -1,5 +1,4 @@
-use Rattle.std.proofs.Common.{◌<◌, ◌∷◌, ◌≡◌, ◌≤◌, [], arith, inl, inr, length, List, None}
-use Rattle.std.proofs.Common.{slice_index_or, ℕ}
+use Rattle.std.proofs.Common.{◌<◌, ◌∷◌, ◌≡◌, ◌≤◌, [], arith, inl, inr, length, List, None, slice_index_or, ℕ}
 use Rattle.std.proofs.lemmas.Bool.{cases_eq, ne_eqb}
 use Rattle.fc_text.specs.Spelling.{rank_spelled}
 use Rattle.fc_text.proofs.board.spelling.rank_spelled.Goals as goal

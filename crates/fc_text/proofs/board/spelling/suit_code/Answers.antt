@@ -1,6 +1,5 @@
 use Rattle.std.proofs.Common.{◌≤◌, refl, subst, sym}
-use Rattle.fc_text.proofs.LetterLemmas.{at_letter, at_most}
-use Rattle.fc_text.specs.reader.{suit_code}
+use Rattle.fc_text.{proofs.LetterLemmas.{at_letter, at_most}, specs.reader.{suit_code}}
 use Rattle.fc_text.proofs.board.spelling.suit_code.Goals as goal
 
 pub returns-clause-code : goal.returns-clause-code

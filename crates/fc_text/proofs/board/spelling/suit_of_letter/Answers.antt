@@ -1,6 +1,5 @@
 use Rattle.std.proofs.Common.{◌∷◌, [], arith}
-use Rattle.fc_text.proofs.LetterLemmas.{high_is_none, low_is_some}
-use Rattle.fc_text.proofs.CardLemmas.{suit-below}
+use Rattle.fc_text.proofs.{CardLemmas.{suit-below}, LetterLemmas.{high_is_none, low_is_some}}
 use Rattle.fc_text.specs.Spelling.{suit_spelled}
 use Rattle.fc_text.proofs.board.spelling.suit_of_letter.Goals as goal
 

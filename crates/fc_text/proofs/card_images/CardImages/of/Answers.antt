@@ -1,5 +1,4 @@
-use Rattle.std.proofs.Common.{arith, rules}
-use Rattle.fc_card.specs.{IsRenaming}
+use Rattle.{fc_card.specs.{IsRenaming}, std.proofs.Common.{arith, rules}}
 use Rattle.fc_text.proofs.BoardViewLemmas.{numbers-renamed, renamed-AreNumbers}
 use Rattle.fc_text.proofs.card_images.CardImages.of.Goals as goal
 

@@ -1,5 +1,4 @@
-use Rattle.std.proofs.Common.{ap, arith, length, rules}
-use Rattle.fc_text.proofs.NextLineLemmas.{next_line}
+use Rattle.{fc_text.proofs.NextLineLemmas.{next_line}, std.proofs.Common.{ap, arith, length, rules}}
 use Rattle.fc_text.proofs.lines.LinesIterator.next.Goals as goal
 
 pub returns-clause-steps : goal.returns-clause-steps

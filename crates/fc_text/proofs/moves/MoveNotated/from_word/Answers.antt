@@ -1,7 +1,6 @@
 use Rattle.std.proofs.Common.{◌≤◌, arith}
 use Rattle.fc_text.proofs.TokenLemmas.{moves-Reads, read-none, read-some, token_in_either_case}
-use Rattle.fc_text.specs.Notation.{IsToken}
-use Rattle.fc_text.specs.reader.{move_named}
+use Rattle.fc_text.specs.{Notation.{IsToken}, reader.{move_named}}
 use Rattle.fc_text.proofs.moves.MoveNotated.from_word.Goals as goal
 
 pub returns-clause-token : goal.returns-clause-token

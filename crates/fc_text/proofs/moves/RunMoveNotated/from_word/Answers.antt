@@ -1,8 +1,6 @@
 use Rattle.std.proofs.Common.{◌≤◌, arith}
-use Rattle.fc_text.proofs.RunTokenLemmas.{run_token_in_either_case, runs-Reads}
-use Rattle.fc_text.proofs.TokenLemmas.{read-none, read-some}
-use Rattle.fc_text.specs.Notation.{IsRunToken}
-use Rattle.fc_text.specs.reader.{run_named}
+use Rattle.fc_text.proofs.{RunTokenLemmas.{run_token_in_either_case, runs-Reads}, TokenLemmas.{read-none, read-some}}
+use Rattle.fc_text.specs.{Notation.{IsRunToken}, reader.{run_named}}
 use Rattle.fc_text.proofs.moves.RunMoveNotated.from_word.Goals as goal
 
 pub returns-clause-token : goal.returns-clause-token

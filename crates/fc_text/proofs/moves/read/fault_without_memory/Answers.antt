@@ -1,8 +1,7 @@
-use Rattle.std.proofs.Common.{◌++◌, ◌+◌, ◌∙◌, ◌∷◌, ◌≡◌, [], ap, arith, length, length-append, refl}
-use Rattle.std.proofs.Common.{rules, subst}
-use Rattle.fc_text.specs.Notation.{BadTokenAt, most_moves}
+use Rattle.std.proofs.Common.{◌++◌, ◌+◌, ◌∙◌, ◌∷◌, ◌≡◌, [], ap, arith, length, length-append, refl, rules, subst}
 use Rattle.fc_text.proofs.ListedLemmas.{bad_or_too_many, listed_or_bad, one_bad_token}
 use Rattle.fc_text.proofs.ReadMovesLemmas.{none_read, read_all, read_bad, read_next, read_too_many}
+use Rattle.fc_text.specs.Notation.{BadTokenAt, most_moves}
 use Rattle.fc_text.specs.declared.fault.MovesFault.TheVariants.{BadToken}
 use Rattle.fc_text.proofs.moves.read.fault_without_memory.Goals as goal
 

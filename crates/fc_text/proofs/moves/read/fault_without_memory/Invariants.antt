@@ -1,6 +1,5 @@
 use Rattle.std.proofs.Common.{◌≡◌, length, List, map, ℕ}
-use Rattle.fc_text.specs.{Lines.{Piece, words_from}, Notation.{separates_tokens}}
-use Rattle.fc_text.specs.Left.{tokens_left}
+use Rattle.fc_text.specs.{Left.{tokens_left}, Lines.{Piece, words_from}, Notation.{separates_tokens}}
 use Rattle.fc_text.specs.reader.{ReadSoFar}
 use Rattle.fc_text.proofs.moves.read.fault_without_memory.Given as goal
 

@@ -1,5 +1,4 @@
-use Rattle.std.proofs.Common.{rules}
-use Rattle.fc_text.proofs.ReadMovesLemmas.{pair_named}
+use Rattle.{fc_text.proofs.ReadMovesLemmas.{pair_named}, std.proofs.Common.{rules}}
 use Rattle.fc_text.proofs.moves.read.first_pair.Goals as goal
 
 pub returns : goal.returns

@@ -1,11 +1,9 @@
 use Rattle.std.proofs.Common.{◌++◌, ◌∷◌, ◌≡◌, ◌≤◌, [], ap, arith, Err, length, rules, subst}
 use Rattle.std.proofs.lemmas.List.Elements.{All-weaker}
-use Rattle.fc_board.specs.Games.{eight_off}
+use Rattle.{fc_board.specs.Games.{eight_off}, fc_text.specs.declared.fault.MovesFault.TheVariants.{BadToken}}
 use Rattle.fc_text.proofs.ListedLemmas.{bad_or_too_many, listed-hold, listed_or_bad, one_bad_token}
-use Rattle.fc_text.proofs.ReadMovesLemmas.{begins_not_empty, read_all, read_bad, read_next}
-use Rattle.fc_text.proofs.ReadMovesLemmas.{read_too_many, reads_from, some_word}
-use Rattle.fc_text.specs.Notation.{BadTokenAt, most_moves, TooManyAt}
-use Rattle.fc_text.specs.declared.fault.MovesFault.TheVariants.{BadToken}
+use Rattle.fc_text.proofs.ReadMovesLemmas.{begins_not_empty, read_all, read_bad, read_next, read_too_many, reads_from}
+use Rattle.fc_text.{proofs.ReadMovesLemmas.{some_word}, specs.Notation.{BadTokenAt, most_moves, TooManyAt}}
 use Rattle.fc_text.proofs.moves.read.read_list.Goals as goal
 
 pub loop-token-init : goal.loop-token-init

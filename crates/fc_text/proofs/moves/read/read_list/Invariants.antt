@@ -1,7 +1,5 @@
 use Rattle.std.proofs.Common.{map}
-use Rattle.fc_text.specs.{Lines.{words_from}, Notation.{separates_tokens}}
-use Rattle.fc_text.specs.Left.{tokens_left}
-use Rattle.fc_text.specs.reader.{ReadSoFar}
+use Rattle.fc_text.specs.{Left.{tokens_left}, Lines.{words_from}, Notation.{separates_tokens}, reader.{ReadSoFar}}
 use Rattle.fc_text.proofs.moves.read.read_list.Given as goal
 
 abbrev pub invariant-loop-token : goal.invariant-loop-token

@@ -1,8 +1,6 @@
-use Rattle.std.proofs.Common.{◌++◌, ◌∷◌, ◌≡◌, [], arith, drop, false, is_none, length, rules, subst}
-use Rattle.std.proofs.Common.{sym}
+use Rattle.std.proofs.Common.{◌++◌, ◌∷◌, ◌≡◌, [], arith, drop, false, is_none, length, rules, subst, sym}
 use Rattle.std.proofs.lemmas.List.{take_rest}
-use Rattle.fc_text.specs.Notation.{most_moves}
-use Rattle.fc_text.proofs.ReadMovesLemmas.{begins_with_token, if_err, IsLeft, pair_read}
+use Rattle.fc_text.{proofs.ReadMovesLemmas.{begins_with_token, if_err, IsLeft, pair_read}, specs.Notation.{most_moves}}
 use Rattle.fc_text.proofs.moves.read.read_pairs.Goals as goal
 
 pub returns-in_err-reserve-clause-some : goal.returns-in_err-reserve-clause-some

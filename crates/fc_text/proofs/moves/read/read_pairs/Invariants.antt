@@ -1,5 +1,4 @@
-use Rattle.std.proofs.Common.{length}
-use Rattle.fc_text.proofs.ReadMovesLemmas.{IsLeft}
+use Rattle.{fc_text.proofs.ReadMovesLemmas.{IsLeft}, std.proofs.Common.{length}}
 use Rattle.fc_text.proofs.moves.read.read_pairs.Given as goal
 
 abbrev pub invariant-loop-named : goal.invariant-loop-named

@@ -1,11 +1,8 @@
-use Rattle.std.proofs.Common.{◌++◌, ◌∙◌, ◌∷◌, ◌≡◌, ap, get_or, map, sym}
-use Rattle.std.proofs.lemmas.List.{take_all}
+use Rattle.std.proofs.{Common.{◌++◌, ◌∙◌, ◌∷◌, ◌≡◌, ap, get_or, map, sym}, lemmas.List.{take_all}}
 use Rattle.std.specs.List.{join_with_byte}
-use Rattle.fc_text.specs.Bytes.{blank}
-use Rattle.fc_text.proofs.PrintLemmas.{first_put, next_put}
+use Rattle.fc_text.{proofs.PrintLemmas.{first_put, next_put}, specs.Bytes.{blank}}
 use Rattle.fc_text.proofs.moves.write.push_list.Goals as goal
-use Rattle.fc_text.proofs.moves.write.push_list.Goals.{else-index-eq0+in_ok-push_next}
-use Rattle.fc_text.proofs.moves.write.push_list.Goals.{then-index-eq0+in_ok-push_token}
+use Rattle.fc_text.proofs.moves.write.push_list.Goals.{else-index-eq0+in_ok-push_next, then-index-eq0+in_ok-push_token}
 
 pub loop-index-preserved : goal.loop-index-preserved
 loop-index-preserved g c =

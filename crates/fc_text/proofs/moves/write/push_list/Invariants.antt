@@ -1,5 +1,4 @@
-use Rattle.std.proofs.Common.{◌++◌, ◌≡◌, map, take}
-use Rattle.std.specs.List.{join_with_byte}
+use Rattle.std.{proofs.Common.{◌++◌, ◌≡◌, map, take}, specs.List.{join_with_byte}}
 use Rattle.fc_text.specs.Bytes.{blank}
 use Rattle.fc_text.proofs.moves.write.push_list.Given as goal
 

@@ -1,5 +1,4 @@
-use Rattle.fc_text.proofs.NextTokenLemmas.{all_at_spans}
-use Rattle.fc_text.specs.Notation.{separates_tokens}
+use Rattle.fc_text.{proofs.NextTokenLemmas.{all_at_spans}, specs.Notation.{separates_tokens}}
 use Rattle.fc_text.proofs.tokens.Tokens.new.Goals as goal
 
 pub returns-clause-spans : goal.returns-clause-spans

@@ -1,9 +1,7 @@
-use Rattle.std.proofs.Common.{◌+◌, ◌∙◌, ◌≡◌, ap, arith, drop, drop-drop, length, List, map, not}
-use Rattle.std.proofs.Common.{rules, ℕ}
-use Rattle.std.proofs.lemmas.List.{take_rest}
-use Rattle.std.specs.List.{prefix_len}
-use Rattle.fc_text.proofs.NextTokenLemmas.{next_with_end, no_next_word}
-use Rattle.fc_text.specs.{Lines.{with_end}, Notation.{separates_tokens}}
+use Rattle.std.proofs.Common.{◌+◌, ◌∙◌, ◌≡◌, ap, arith, drop, drop-drop, length, List, map, not, rules, ℕ}
+use Rattle.std.{proofs.lemmas.List.{take_rest}, specs.List.{prefix_len}}
+use Rattle.fc_text.{proofs.NextTokenLemmas.{next_with_end, no_next_word}, specs.Lines.{with_end}}
+use Rattle.fc_text.specs.Notation.{separates_tokens}
 use Rattle.fc_text.proofs.tokens.TokensIterator.next.Goals as goal
 
 starts : (text rest : List ℕ) (at gap : ℕ) → rest ≡ drop at text → gap ≡ prefix_len separates_tokens rest → at + gap ≡ at + prefix_len separates_tokens (drop at text)

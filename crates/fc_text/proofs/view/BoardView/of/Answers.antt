@@ -1,7 +1,6 @@
 use Rattle.std.proofs.Common.{◌∙◌, subst, sym}
 use Rattle.fc_board.proofs.BoardLemmas.{parts_same}
-use Rattle.fc_text.proofs.WriterLemmas.{few_cells, printable}
-use Rattle.fc_text.specs.writer.{IsPrintable}
+use Rattle.fc_text.{proofs.WriterLemmas.{few_cells, printable}, specs.writer.{IsPrintable}}
 use Rattle.fc_text.proofs.view.BoardView.of.Goals as goal
 
 pub of_parts-requires : goal.of_parts-requires

@@ -1,8 +1,6 @@
 use Rattle.std.proofs.Common.{◌∙◌, ◌≡◌, ap, map, subst, sym}
-use Rattle.fc_board.specs.Passages.{renamed_column}
-use Rattle.fc_board.specs.inside.{board_of_laid}
-use Rattle.fc_text.proofs.BoardViewLemmas.{columns-identity}
-use Rattle.fc_text.specs.writer.{IsPrintable}
+use Rattle.fc_board.specs.{inside.{board_of_laid}, Passages.{renamed_column}}
+use Rattle.fc_text.{proofs.BoardViewLemmas.{columns-identity}, specs.writer.{IsPrintable}}
 use Rattle.fc_text.proofs.view.BoardView.of_parts.Given as given
 use Rattle.fc_text.proofs.view.BoardView.of_parts.Goals as goal
 

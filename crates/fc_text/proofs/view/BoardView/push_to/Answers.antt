@@ -1,8 +1,7 @@
 -- The board is put after what was there, and what is left of the room is cut off.
-use Rattle.std.proofs.Common.{◌++◌, ◌+◌, ◌∙◌, ◌≡◌, ◌≤◌, ap, ap₂, arith, length, List, rules, sym}
-use Rattle.std.proofs.Common.{take, ℕ}
-use Rattle.std.proofs.Math.Seq.{take-append-add}
+use Rattle.std.proofs.Common.{◌++◌, ◌+◌, ◌∙◌, ◌≡◌, ◌≤◌, ap, ap₂, arith, length, List, rules, sym, take, ℕ}
 use Rattle.std.proofs.lemmas.List.{length-append, length-take, take-append-le, take-take, take_all}
+use Rattle.std.proofs.Math.Seq.{take-append-add}
 use Rattle.fc_text.proofs.view.BoardView.push_to.Given as given
 use Rattle.fc_text.proofs.view.BoardView.push_to.Goals as goal
 

@@ -1,6 +1,4 @@
-use Rattle.std.proofs.Common.{map, subst, sym}
-use Rattle.fc_board.specs.Passages.{renamed_column}
-use Rattle.fc_board.specs.inside.{board_of_laid}
+use Rattle.{fc_board.specs.{inside.{board_of_laid}, Passages.{renamed_column}}, std.proofs.Common.{map, subst, sym}}
 use Rattle.fc_text.specs.writer.{IsPrintable}
 use Rattle.fc_text.proofs.view.BoardView.renamed.Goals as goal
 

@@ -1,5 +1,4 @@
-use Rattle.arrayvec.proofs.ArrayVecLemmas.{items-with_items}
-use Rattle.arrayvec.specs.ArrayVec.{array_vec_len}
+use Rattle.arrayvec.{proofs.ArrayVecLemmas.{items-with_items}, specs.ArrayVec.{array_vec_len}}
 use Rattle.std.proofs.Common.{◌∙◌, ◌≡◌, ap, rules, sym, take}
 use Rattle.fc_text.proofs.view.BoardView.text.Goals as goal
 

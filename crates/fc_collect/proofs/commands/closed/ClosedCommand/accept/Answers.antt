@@ -1,6 +1,5 @@
 -- The key is kept, and the board with its name.
-use Rattle.std.proofs.{Common.{◌++◌, ◌∷◌, [], subst, sym}, lemmas.Slice.Zip.{all_zipped_more}}
-use Rattle.std.specs.List.{AllZip}
+use Rattle.std.{proofs.{Common.{◌++◌, ◌∷◌, [], subst, sym}, lemmas.Slice.Zip.{all_zipped_more}}, specs.List.{AllZip}}
 use Rattle.fc_record.specs.Grammar.{contents_seen, heading_seen}
 use Rattle.fc_collect.proofs.{GroupNameLemmas.{AreKeys-more}, KeyedLemmas.{own-key}}
 use Rattle.fc_collect.specs.inside.{KeepsBoard, member_of}

@@ -1,6 +1,5 @@
 use Rattle.std.proofs.Common.{◌∷◌, [], codes}
-use Rattle.fc_record.specs.Tables.{json_string}
-use Rattle.fc_collect.proofs.ClosedLemmas.{five-pushed, three-pushed}
+use Rattle.{fc_collect.proofs.ClosedLemmas.{five-pushed, three-pushed}, fc_record.specs.Tables.{json_string}}
 use Rattle.fc_collect.proofs.commands.closed.FindingObjectPrintsFinding.print_flawed.Goals as goal
 
 pub returns-in_ok-extend_from_slice-in-Won-2 : goal.returns-in_ok-extend_from_slice-in-Won-2

@@ -1,5 +1,4 @@
-use Rattle.std.proofs.Common.{◌-◌, ◌∙◌, ap, length, refl}
-use Rattle.std.specs.List.{count_by}
+use Rattle.std.{proofs.Common.{◌-◌, ◌∙◌, ap, length, refl}, specs.List.{count_by}}
 use Rattle.fc_collect.proofs.TallyLemmas.{figures-found}
 use Rattle.fc_collect.proofs.commands.count.Tally.figures.Goals as goal
 

@@ -1,6 +1,5 @@
 use Rattle.std.proofs.lemmas.Result.{err_from_is_err_and}
-use Rattle.fc_collect.proofs.WritingLemmas.{SendsSome-none}
-use Rattle.fc_collect.specs.Groups.{group_lines}
+use Rattle.fc_collect.{proofs.WritingLemmas.{SendsSome-none}, specs.Groups.{group_lines}}
 use Rattle.fc_collect.proofs.commands.group.GroupLinesGathering.send_group.Goals as goal
 
 pub returns-in_err-push_group-clause-sent : goal.returns-in_err-push_group-clause-sent

@@ -1,8 +1,7 @@
 -- A later member is printed by the first one, whose canonical text is kept.
 use Rattle.std.proofs.{Common.{refl}, lemmas.Result.{on_ok_weaker}}
 use Rattle.fc_record.specs.Grammar.{contents_seen, heading_seen}
-use Rattle.fc_collect.proofs.SameLemmas.{canon-kept, first-kept, same-printed}
-use Rattle.fc_collect.specs.inside.{member_of}
+use Rattle.fc_collect.{proofs.SameLemmas.{canon-kept, first-kept, same-printed}, specs.inside.{member_of}}
 use Rattle.fc_collect.proofs.commands.same.SameLinesCommand.accept.Goals as goal
 
 pub returns-in-Some-clause-printed : goal.returns-in-Some-clause-printed

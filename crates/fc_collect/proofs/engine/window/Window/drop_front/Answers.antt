@@ -1,5 +1,4 @@
-use Rattle.std.proofs.Common.{ap, arith, length, length-take}
-use Rattle.fc_collect.proofs.WindowLemmas.{dropped_held}
+use Rattle.{fc_collect.proofs.WindowLemmas.{dropped_held}, std.proofs.Common.{ap, arith, length, length-take}}
 use Rattle.fc_collect.proofs.engine.window.Window.drop_front.Goals as goal
 
 pub returns : goal.returns

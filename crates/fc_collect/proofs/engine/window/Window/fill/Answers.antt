@@ -1,9 +1,7 @@
-use Rattle.std.proofs.Common.{◌+◌, ◌-◌, ◌∙◌, ◌≡◌, ◌≤◌, ap, arith, length, length-take-le, List}
-use Rattle.std.proofs.Common.{subst, sym, take, ℕ}
+use Rattle.std.proofs.Common.{◌+◌, ◌-◌, ◌∙◌, ◌≡◌, ◌≤◌, ap, arith, length, length-take-le, List, subst, sym, take, ℕ}
 use Rattle.std.proofs.lemmas.List.{with_items_is}
+use Rattle.fc_collect.{proofs.WindowLemmas.{ends_given, filled_held, length_put}, specs.inside.{FillsWindow}}
 use Rattle.fc_collect.specs.Streams.{inner_of}
-use Rattle.fc_collect.proofs.WindowLemmas.{ends_given, filled_held, length_put}
-use Rattle.fc_collect.specs.inside.{FillsWindow}
 use Rattle.fc_collect.proofs.engine.window.Window.fill.Goals as goal
 use borrow.Rule.Slice.PartMut.{put_mid}
 

@@ -1,6 +1,5 @@
 use Rattle.std.proofs.Common.{◌∙◌, ap, IfErr, subst, sym}
-use Rattle.fc_board.specs.{Moves.{OneCard, Runs}, Play.{RefusedAt}}
-use Rattle.fc_record.specs.inside.Fitting.{list_seen}
+use Rattle.{fc_board.specs.{Moves.{OneCard, Runs}, Play.{RefusedAt}}, fc_record.specs.inside.Fitting.{list_seen}}
 use Rattle.fc_record.proofs.record.move_list.MoveList.play_on.Goals as goal
 
 pub returns-in-OneCard-clause-refused : goal.returns-in-OneCard-clause-refused

@@ -1,6 +1,5 @@
 use Rattle.std.proofs.Common.{◌∙◌, ◌≡◌, ap, Bool, false, if◌then◌else◌, refl, sym, true}
-use Rattle.{fc_board.specs.Play.{OnlyLegal, Won}, fc_record.specs.Tables.{is_win}}
-use Rattle.fc_record.specs.inside.{verdict_of}
+use Rattle.{fc_board.specs.Play.{OnlyLegal, Won}, fc_record.specs.{inside.{verdict_of}, Tables.{is_win}}}
 use Rattle.fc_record.proofs.record.move_list.MoveList.wins.Goals as goal
 
 is_win-played : (won : Bool) → is_win (if won then Won else OnlyLegal) ≡ won

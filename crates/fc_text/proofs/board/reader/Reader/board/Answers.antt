@@ -1,7 +1,6 @@
 use Rattle.std.proofs.Common.{◌∙◌, ◌≡◌}
 use Rattle.fc_board.specs.inside.{board_of_laid, columns_from}
-use Rattle.fc_text.proofs.board.reader.Reader.board.Given.{Over}
-use Rattle.fc_text.proofs.FinishLemmas.{ends_up, lies_as_known, past_cells}
+use Rattle.fc_text.proofs.{board.reader.Reader.board.Given.{Over}, FinishLemmas.{ends_up, lies_as_known, past_cells}}
 use Rattle.fc_text.{proofs.KeptLemmas.{few_cards}, specs.reader.{board_known}}
 use Rattle.fc_text.proofs.board.reader.Reader.board.Goals as goal
 use Rattle.fc_text.proofs.board.reader.Reader.board.Goals.{After-known_heights}

@@ -1,5 +1,4 @@
-use Rattle.std.proofs.Common.{ap}
-use Rattle.fc_text.{proofs.SeeingLemmas.{none_seen}, specs.reader.{nothing_known}}
+use Rattle.{fc_text.{proofs.SeeingLemmas.{none_seen}, specs.reader.{nothing_known}}, std.proofs.Common.{ap}}
 use Rattle.fc_text.proofs.board.reader.Reader.new.Goals as goal
 
 pub returns : goal.returns

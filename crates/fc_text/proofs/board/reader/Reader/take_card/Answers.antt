@@ -1,5 +1,4 @@
-use Rattle.std.proofs.Common.{sym}
-use Rattle.fc_text.proofs.CardLemmas.{card_spelled-IsCard}
+use Rattle.{fc_text.proofs.CardLemmas.{card_spelled-IsCard}, std.proofs.Common.{sym}}
 use Rattle.fc_text.proofs.board.reader.Reader.take_card.Goals as goal
 
 pub put_card-requires : goal.put_card-requires

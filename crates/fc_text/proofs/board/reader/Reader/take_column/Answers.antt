@@ -1,5 +1,4 @@
-use Rattle.std.proofs.Common.{arith}
-use Rattle.fc_text.proofs.KeptLemmas.{few_cards, IsKept-column, no_column, takes_column}
+use Rattle.{fc_text.proofs.KeptLemmas.{few_cards, IsKept-column, no_column, takes_column}, std.proofs.Common.{arith}}
 use Rattle.fc_text.proofs.board.reader.Reader.take_column.Goals as goal
 
 pub overflow_cast-self : goal.overflow_cast-self
