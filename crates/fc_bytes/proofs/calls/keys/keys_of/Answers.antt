@@ -1,5 +1,4 @@
-use Rattle.std.proofs.{Common.{◌≡◌, arith, length, subst}}
-use Rattle.std.proofs.lemmas.List.{get_or_default}
+use Rattle.std.proofs.{Common.{◌≡◌, arith, length, subst}, lemmas.List.{get_or_default}}
 use Rattle.fc_bytes.{proofs.PassageDecoded.{keys_next}, specs.{HasKey, HaveKeys}}
 use Rattle.fc_bytes.proofs.calls.keys.keys_of.Goals as goal
 
