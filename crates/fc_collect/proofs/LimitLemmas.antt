@@ -16,12 +16,6 @@ IsNumbered most text = text.number ≤ most
 abbrev Small : RecordText → Type 0
 Small text = (length text.bytes ≤ 65536) × (text.number ≤ 65536)
 
-pub standard-within : (collection : List ℕ) → IsWithinLimits standard collection ↔ ((length collection ≤ 16777216) × All Small (cut nothing collection))
-standard-within collection = (
-  λ within. (omega (arith, within.bytes), All-weaker (IsSmall standard) Small (λ text small. (small.bytes, small.number)) (cut nothing collection) within.texts),
-  λ (few, small). record { bytes = omega (arith, few); texts = All-weaker Small (IsSmall standard) (λ text one. record { bytes = one.0; number = one.1 }) (cut nothing collection) small },
-)
-
 -- ---- few bytes hold few texts: a header takes two bytes at least, with the line feed before it
 cut_more : (text : RecordText) (byte : ℕ) (rest : List ℕ) → cut text (byte ∷ rest) ≡ finished_by text byte ++ cut (begun_by text byte) rest
 cut_more text byte rest = append_assoc (finished_by text byte) (finished (begun_by text byte) rest) (begun (begun_by text byte) rest ∷ [])

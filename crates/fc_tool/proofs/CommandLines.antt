@@ -1,29 +1,23 @@
 -- What clap's specification computes for command lines that are written out.
-use Rattle.clap.specs.declared.builder.value_parser.ValueParser.{ValueParser}
-use Rattle.clap.specs.{declared.error.kind.ErrorKind.{ErrorKind}, Kinds.{or_else}}
-use Rattle.clap.specs.Words.{fault_of, IsAmong, Kinds, subcommand_of, Text}
-use Rattle.std.proofs.Common.{◌||◌, ◌∙◌, ◌∷◌, ◌≡◌, ◌≢◌, [], ap, Bool, codes, if◌then◌else◌, inl}
-use Rattle.std.proofs.Common.{inr, List, map, Option, option_and_then, refl, Some, subst, sym, true}
-use Rattle.std.specs.{Borrow.{Bor}, List.{list_any}, Str.{bytes_eq}}
+use Rattle.clap.specs.declared.{builder.value_parser.ValueParser.{ValueParser}, error.kind.ErrorKind.{ErrorKind}}
+use Rattle.clap.specs.{Kinds.{or_else}, Words.{fault_of, IsAmong, Kinds, subcommand_of, Text}}
+use Rattle.std.proofs.Common.{◌||◌, ◌∙◌, ◌∷◌, ◌≡◌, ◌≢◌, [], ap, Bool, codes, if◌then◌else◌, inl, inr, List, map, Option}
+use Rattle.std.{proofs.Common.{option_and_then, refl, Some, subst, sym, true}, specs.{Borrow.{Bor}, List.{list_any}}}
+use Rattle.std.specs.Str.{bytes_eq}
 use Rattle.clap.specs.declared.builder.value_parser.ValueParser.TheVariants as parser
-use Rattle.clap.proofs.OnLiterals.{clap_on_literals}
-use Rattle.clap.specs.declared.error.kind.ErrorKind.TheVariants.{DisplayHelp}
-use Rattle.clap.specs.declared.error.kind.ErrorKind.TheVariants.{DisplayHelpOnMissingArgumentOrSubcommand}
-use Rattle.clap.specs.declared.error.kind.ErrorKind.TheVariants.{InvalidValue}
-use Rattle.clap.specs.declared.error.kind.ErrorKind.TheVariants.{MissingRequiredArgument}
-use Rattle.clap.specs.declared.error.kind.ErrorKind.TheVariants.{UnknownArgument, ValueValidation}
-use Rattle.fc_board.specs.declared.rule.Variant.TheVariants.{BakersGame, EightOff, FreeCell}
-use Rattle.fc_board.specs.declared.rule.Variant.{Variant}
+use Rattle.clap.{proofs.OnLiterals.{clap_on_literals}, specs.declared.error.kind.ErrorKind.TheVariants.{DisplayHelp}}
+use Rattle.clap.specs.declared.error.kind.ErrorKind.TheVariants.{DisplayHelpOnMissingArgumentOrSubcommand, InvalidValue}
+use Rattle.clap.specs.declared.error.kind.ErrorKind.TheVariants.{MissingRequiredArgument, UnknownArgument}
+use Rattle.clap.specs.declared.error.kind.ErrorKind.TheVariants.{ValueValidation}
+use Rattle.fc_board.specs.declared.rule.Variant.{TheVariants.{BakersGame, EightOff, FreeCell}, Variant}
 use Rattle.fc_collect.specs.{declared.commands.Format.TheVariants.{Header, Json}, Limits.{largest}}
-use Rattle.fc_import.specs.declared.options.Noted.{Noted, TheVariants.{Changes, Strict}}
-use Rattle.fc_import.specs.declared.options.LinesAre.{LinesAre, TheVariants.{Columns, Rows}}
-use Rattle.fc_tool.specs.{command_of, deal_request, dealt_names, limits_from, plain_options}
-use Rattle.fc_tool.specs.{plain_request, program, reading_request, request_of, TakesAlone}
-use Rattle.fc_tool.specs.{variant_names}
-use Rattle.fc_tool.specs.declared.request.{Request.{Request}, Task.{Task, TheVariants.{Canon}}}
-use Rattle.fc_tool.specs.declared.request.Task.TheVariants.{Check, Closed, Count, Deal, Expand}
-use Rattle.fc_tool.specs.declared.request.Task.TheVariants.{Group, Import, Same, Share, Show}
-use Rattle.fc_tool.specs.declared.request.Task.TheVariants.{Symmetries, Table, Unique}
+use Rattle.fc_import.specs.declared.options.{LinesAre.{LinesAre, TheVariants.{Columns, Rows}}, Noted.{Noted}}
+use Rattle.fc_import.specs.declared.options.Noted.TheVariants.{Changes, Strict}
+use Rattle.fc_tool.specs.{command_of, deal_request, dealt_names, limits_from, plain_options, plain_request, program}
+use Rattle.fc_tool.specs.{reading_request, request_of, TakesAlone, variant_names}
+use Rattle.fc_tool.specs.declared.request.{Request.{Request}, Task.{Task, TheVariants.{Canon, Check, Closed, Count}}}
+use Rattle.fc_tool.specs.declared.request.Task.TheVariants.{Deal, Expand, Group, Import, Same, Share, Show, Symmetries}
+use Rattle.fc_tool.specs.declared.request.Task.TheVariants.{Table, Unique}
 
 -- the request of the command that the words name
 abbrev pub asked_by : ValueParser → ValueParser → List Text → Option Request

@@ -1,11 +1,9 @@
 -- Texts that go out one after another.
-use Rattle.std.proofs.Common.{◌++◌, ◌∙◌, ap₂, append_assoc, Err, List, Ok, Option, Result}
-use Rattle.std.proofs.Common.{ℕ}
+use Rattle.std.proofs.Common.{◌++◌, ◌∙◌, append_assoc, ap₂, Err, List, Ok, Option, Result, ℕ}
 use Rattle.std.proofs.KnownBytes.{Appends-trans}
-use Rattle.fc_collect.specs.declared.streams.faults.RunFault.{RunFault, TheVariants.{Memory, Read}}
-use Rattle.fc_collect.specs.declared.streams.faults.RunFault.TheVariants.{ReaderNeverEnds, TooLarge}
-use Rattle.fc_collect.specs.declared.streams.faults.RunFault.TheVariants.{Write}
 use Rattle.fc_collect.specs.Promises.{WritesText, WritingFits}
+use Rattle.fc_collect.specs.declared.streams.faults.RunFault.{RunFault, TheVariants.{Memory, Read, ReaderNeverEnds}}
+use Rattle.fc_collect.specs.declared.streams.faults.RunFault.TheVariants.{TooLarge, Write}
 
 -- one text went out whole, and another after it
 pub then_written : {A : Type 0} (first text : List ℕ) (a b c : Option (List ℕ)) (result : Result A RunFault) → WritesText {A = Unit {0}} first a b (Ok tt) → WritesText text b c result → WritesText (first ++ text) a c result

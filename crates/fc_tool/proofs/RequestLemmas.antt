@@ -1,22 +1,17 @@
 -- What is so of each request that words make: it has a job, and a run can count up to its limits.
 use Rattle.clap.specs.Words.{first_of, Row, subcommand_of, Text}
-use Rattle.std.proofs.Common.{◌∙◌, ◌≡◌, ◌≤◌, ap, arith, Bool, codes, Err, false, is_some, IsSome}
-use Rattle.std.proofs.Common.{List, None, Ok, Option, option_and_then, option_map, refl, Result}
-use Rattle.std.proofs.Common.{Some, subst, sym, true, ℕ}
+use Rattle.std.proofs.Common.{◌∙◌, ◌≡◌, ◌≤◌, ap, arith, Bool, codes, Err, false, is_some, IsSome, List, None, Ok}
+use Rattle.std.proofs.Common.{Option, option_and_then, option_map, refl, Result, Some, subst, sym, true, ℕ}
 use Rattle.std.proofs.lemmas.Option.{option_and_then_some, same_Some}
-use Rattle.fc_board.specs.declared.rule.Variant.TheVariants.{BakersGame, EightOff, FreeCell}
-use Rattle.fc_board.specs.declared.rule.Variant.{Variant}
+use Rattle.fc_board.specs.declared.rule.Variant.{TheVariants.{BakersGame, EightOff, FreeCell}, Variant}
 use Rattle.fc_collect.specs.Limits.{AreCountable, most_countable, standard}
-use Rattle.fc_collect.specs.declared.commands.{Format.{Format}, RunKind.{RunKind}}
-use Rattle.fc_collect.specs.declared.streams.limits.Limits.{Limits}
-use Rattle.fc_tool.{proofs.WordLemmas.{bounded}, specs.{any_size_in, deal_request, format_in}}
-use Rattle.fc_tool.specs.{IsCountable, job_of, job_of_task, limits_from, limits_in, limits_named}
-use Rattle.fc_tool.specs.{number_in, plain_options, plain_request, program, Reads, request_for}
-use Rattle.fc_tool.specs.{request_of, run_of_task, start_named, task_named, variant_in}
-use Rattle.fc_tool.specs.declared.request.{Options.{Options}, Request.{Request}, Task.{Task}}
-use Rattle.fc_tool.specs.declared.request.Task.TheVariants.{Canon, Check, Closed, Count, Deal}
-use Rattle.fc_tool.specs.declared.request.Task.TheVariants.{Expand, Group, Import, Same, Share}
-use Rattle.fc_tool.specs.declared.request.Task.TheVariants.{Show, Symmetries, Table, Unique}
+use Rattle.fc_collect.specs.declared.{commands.{Format.{Format}, RunKind.{RunKind}}, streams.limits.Limits.{Limits}}
+use Rattle.fc_tool.{proofs.WordLemmas.{bounded}, specs.{any_size_in, deal_request, format_in, IsCountable, job_of}}
+use Rattle.fc_tool.specs.{job_of_task, limits_from, limits_in, limits_named, number_in, plain_options, plain_request}
+use Rattle.fc_tool.specs.{program, Reads, request_for, request_of, run_of_task, start_named, task_named, variant_in}
+use Rattle.fc_tool.specs.declared.request.{Options.{Options}, Request.{Request}, Task.{Task, TheVariants.{Canon}}}
+use Rattle.fc_tool.specs.declared.request.Task.TheVariants.{Check, Closed, Count, Deal, Expand, Group, Import, Same}
+use Rattle.fc_tool.specs.declared.request.Task.TheVariants.{Share, Show, Symmetries, Table, Unique}
 use Rattle.fc_tool.specs.declared.request.WordsFault.{WordsFault}
 use Rattle.fc_tool.specs.declared.program.Job.TheVariants as job
 

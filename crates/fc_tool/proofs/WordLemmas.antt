@@ -1,31 +1,19 @@
 -- From what clap's calls give to the definitions of a request.
-use Rattle.clap.proofs.ValueTestLemmas.{Accepts-accepts, accepts-Accepts}
-use Rattle.clap.proofs.WalkLemmas.{first_value-rows}
-use Rattle.clap.specs.ValueTests.{is_signed_in}
-use Rattle.clap.specs.Values.{IsSignedIn}
-use Rattle.clap.specs.Words.{App, FailsBy, fault_of, first_of, first_value, HasKind, HasMatchesOf}
-use Rattle.clap.specs.Words.{is_simple, is_simple_and_free, IsAmong, kind_of, Kinds, rows_of}
-use Rattle.clap.specs.Words.{subcommand_rows_of, Text}
-use Rattle.clap.specs.declared.builder.value_parser.ValueParser.{ValueParser}
-use Rattle.clap.specs.declared.error.Error.{Error}
-use Rattle.clap.specs.declared.error.kind.ErrorKind.TheVariants.{OutOfMemory}
-use Rattle.clap.specs.declared.parser.matches.ArgMatches.{ArgMatches}
-use Rattle.clap.specs.declared.parser.matches.Found.{Found}
-use Rattle.std.proofs.Common.{◌∙◌, ◌≡◌, ◌≤◌, ap, ap₂, arith, Bool, codes, cond, Err, false}
-use Rattle.std.proofs.Common.{FitsSigned, inl, inr, List, None, of_z, Ok, Option, option_and_then}
-use Rattle.std.proofs.Common.{option_map, refl, Result, Some, subst, suc, sym, to_z, true, zero, ℕ}
-use Rattle.std.proofs.Common.{ℤ}
-use Rattle.std.proofs.lemmas.Int.{ints, to_z-of_z}
-use Rattle.std.specs.Borrow.{Bor}
-use Rattle.std.specs.Int.{FitsUnsignedBits, w64}
-use Rattle.std.specs.Prelude.{◌≤ℤ◌, neg_ℤ, negsuc, pos, unsigned_abs}
-use Rattle.std.specs.Result.{OkIff, result_ok}
-use Rattle.std.specs.Str.Parse.{digits_value, IsNumeral, ParsesSigned, signed_digits_value}
+use Rattle.clap.proofs.{ValueTestLemmas.{Accepts-accepts, accepts-Accepts}, WalkLemmas.{first_value-rows}}
+use Rattle.clap.specs.declared.{builder.value_parser.ValueParser.{ValueParser}, error.Error.{Error}}
+use Rattle.clap.specs.declared.{error.kind.ErrorKind.TheVariants.{OutOfMemory}, parser.matches.ArgMatches.{ArgMatches}}
+use Rattle.clap.specs.{declared.parser.matches.Found.{Found}, Values.{IsSignedIn}, ValueTests.{is_signed_in}}
+use Rattle.clap.specs.Words.{App, FailsBy, fault_of, first_of, first_value, HasKind, HasMatchesOf, is_simple}
+use Rattle.clap.specs.Words.{is_simple_and_free, IsAmong, kind_of, Kinds, rows_of, subcommand_rows_of, Text}
+use Rattle.std.proofs.Common.{◌∙◌, ◌≡◌, ◌≤◌, ap, ap₂, arith, Bool, codes, cond, Err, false, FitsSigned, inl, inr, List}
+use Rattle.std.proofs.Common.{None, of_z, Ok, Option, option_and_then, option_map, refl, Result, Some, subst, suc, sym}
+use Rattle.std.{proofs.{Common.{to_z, true, zero, ℤ, ℕ}, lemmas.Int.{ints, to_z-of_z}}, specs.Borrow.{Bor}}
+use Rattle.std.specs.{Int.{FitsUnsignedBits, w64}, Prelude.{◌≤ℤ◌, neg_ℤ, negsuc, pos, unsigned_abs}}
+use Rattle.std.specs.{Result.{OkIff, result_ok}, Str.Parse.{digits_value, IsNumeral, ParsesSigned, signed_digits_value}}
 use Rattle.std.specs.Str.Parse.{starts_with_minus, without_leading_sign}
-use Rattle.fc_tool.specs.{Answers, any_size_in, is_true, limits_in, limits_named, number_between}
-use Rattle.fc_tool.specs.{number_in, program, request_of, variant_in, variant_of_argument}
-use Rattle.fc_tool.specs.declared.request.WordsFault.TheVariants.{Parser}
-use Rattle.fc_tool.specs.declared.request.Request.{Request}
+use Rattle.fc_tool.specs.{Answers, any_size_in, is_true, limits_in, limits_named, number_between, number_in, program}
+use Rattle.fc_tool.specs.{request_of, variant_in, variant_of_argument}
+use Rattle.fc_tool.specs.declared.request.{Request.{Request}, WordsFault.TheVariants.{Parser}}
 use Rattle.clap.specs.declared.builder.value_parser.ValueParser.TheVariants as parser
 
 -- what `get_str` reads is what the rows give

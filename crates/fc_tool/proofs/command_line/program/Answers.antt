@@ -1,10 +1,8 @@
-use Rattle.clap.specs.Words.{shape_of, with_subcommand}
-use Rattle.clap.specs.declared.builder.value_parser.ValueParser.{ValueParser}
-use Rattle.std.proofs.Common.{◌+◌, ◌<◌, ◌∙◌, ◌∷◌, ◌≡◌, [], ap, get_or, sym, take, ℕ}
+use Rattle.clap.specs.{declared.builder.value_parser.ValueParser.{ValueParser}, Words.{shape_of, with_subcommand}}
+use Rattle.std.proofs.{Common.{◌+◌, ◌<◌, ◌∙◌, ◌∷◌, ◌≡◌, [], ap, get_or, sym, take, ℕ}, lemmas.List.Sums.{fold-append}}
 use Rattle.std.proofs.lemmas.List.{take_more}
-use Rattle.std.proofs.lemmas.List.Sums.{fold-append}
-use Rattle.fc_tool.specs.declared.request.Task.TheVariants.{Show}
 use Rattle.fc_tool.specs.{bare_program, command_of, command_with, program_of, rules_of, tasks}
+use Rattle.fc_tool.specs.declared.request.Task.TheVariants.{Show}
 use Rattle.fc_tool.proofs.command_line.program.Goals as goal
 
 -- one task more has its command too

@@ -1,6 +1,5 @@
-use Rattle.clap.specs.Words.{app_of}
+use Rattle.{clap.specs.Words.{app_of}, fc_tool.specs.{program_of, tasks}}
 use Rattle.std.proofs.Common.{◌≡◌, take}
-use Rattle.fc_tool.specs.{program_of, tasks}
 use Rattle.fc_tool.proofs.command_line.program.Given as goal
 
 -- the command line has the commands of the tasks so far

@@ -1,6 +1,5 @@
 use Rattle.std.proofs.Common.{◌∙◌, rules}
-use Rattle.fc_tool.proofs.WordLemmas.{answered, is_free_program, is_simple_program, refused}
-use Rattle.fc_tool.specs.{program}
+use Rattle.fc_tool.{proofs.WordLemmas.{answered, is_free_program, is_simple_program, refused}, specs.{program}}
 use Rattle.fc_tool.proofs.command_line.read_words.Goals as goal
 
 pub returns-in-Ok-try_get_matches_from : goal.returns-in-Ok-try_get_matches_from

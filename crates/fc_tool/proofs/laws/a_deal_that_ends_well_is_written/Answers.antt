@@ -1,11 +1,9 @@
-use Rattle.std.proofs.Common.{◌++◌, ◌∷◌, ◌≡◌, [], ap, arith, drop, Err, inl, inr, List, Ok, Result}
-use Rattle.std.{proofs.Common.{subst, subst₂, sym, ℕ}, specs.Io.KnownBytes.{Appends}}
-use Rattle.std.specs.Prelude.{⊤, if◌then◌else◌, is_ok}
-use Rattle.{fc_board.specs.Games.{Game}, fc_text.specs.Printed.{text_of}}
+use Rattle.std.proofs.Common.{◌++◌, ◌∷◌, ◌≡◌, [], ap, arith, drop, Err, inl, inr, List, Ok, Result, subst, subst₂, sym}
+use Rattle.std.{proofs.Common.{ℕ}, specs.{Io.KnownBytes.{Appends}, Prelude.{⊤, if◌then◌else◌, is_ok}}}
+use Rattle.{fc_board.specs.Games.{Game}, fc_text.specs.Printed.{text_of}, fc_tool.specs.{EndsDealing, fault_line}}
 use Rattle.fc_deal.specs.{deal, dealt_board, IsDealNumber}
 use Rattle.fc_collect.specs.{Promises.{WritesText}, Streams.{inner_of, Stream}}
 use Rattle.fc_collect.specs.declared.streams.faults.RunFault.{RunFault}
-use Rattle.fc_tool.specs.{EndsDealing, fault_line}
 use Rattle.fc_tool.proofs.laws.a_deal_that_ends_well_is_written.Goals as goal
 
 -- the status where a text was to be written

@@ -1,7 +1,6 @@
 use Rattle.{clap.specs.Words.{Text}, fc_board.specs.declared.rule.Variant.TheVariants.{FreeCell}}
-use Rattle.std.proofs.Common.{◌++◌, ◌<◌, ◌∙◌, ◌∷◌, ◌≡◌, ◌≢◌, [], ap, append-nil, arith, Err, List}
-use Rattle.std.proofs.Common.{None, Ok, Option, Result, Some, subst, sym, ℕ}
-use Rattle.std.proofs.lemmas.Option.{same_Some}
+use Rattle.std.proofs.Common.{◌++◌, ◌<◌, ◌∙◌, ◌∷◌, ◌≡◌, ◌≢◌, [], ap, append-nil, arith, Err, List, None, Ok, Option}
+use Rattle.std.proofs.{Common.{Result, Some, subst, sym, ℕ}, lemmas.Option.{same_Some}}
 use Rattle.fc_collect.specs.{Limits.{standard}, Records.{records_from}}
 use Rattle.fc_collect.specs.Runs.{ending_of_kind, output_of_kind, TransfersWithin}
 use Rattle.fc_collect.specs.Streams.{bytes_of, inner_of, Stream}
@@ -10,9 +9,8 @@ use Rattle.fc_collect.specs.declared.streams.faults.{RunFault.{RunFault}, Summar
 use Rattle.fc_tool.proofs.RequestLemmas.{run_is}
 use Rattle.fc_tool.specs.declared.program.Job.TheVariants as job
 use Rattle.clap.specs.Words.{kind_of}
-use Rattle.fc_tool.{proofs.CommandLines.{among_none, by_default, task_accepted}, specs.{command_of}}
-use Rattle.fc_tool.specs.{Ended, EndsBy, EndsJob, job_of, plain_options, plain_request, Reads}
-use Rattle.fc_tool.specs.{run_of_task, status_of}
+use Rattle.fc_tool.{proofs.CommandLines.{among_none, by_default, task_accepted}, specs.{command_of, Ended, EndsBy}}
+use Rattle.fc_tool.specs.{EndsJob, job_of, plain_options, plain_request, Reads, run_of_task, status_of}
 use Rattle.fc_tool.specs.declared.request.{Request.{Request}, Task.{Task, TheVariants.{Deal}}}
 use Rattle.fc_tool.specs.declared.request.WordsFault.{TheVariants.{Memory, Parser}, WordsFault}
 use Rattle.fc_tool.proofs.laws.a_program_that_ends_well_has_written_what_is_due.Goals as goal

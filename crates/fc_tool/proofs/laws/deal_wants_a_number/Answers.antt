@@ -1,5 +1,4 @@
-use Rattle.fc_tool.proofs.CommandLines.{fault_of_large_number, fault_of_no_number, fault_of_word}
-use Rattle.fc_tool.proofs.CommandLines.{only_kind, some_kind}
+use Rattle.fc_tool.proofs.CommandLines.{fault_of_large_number, fault_of_no_number, fault_of_word, only_kind, some_kind}
 use Rattle.fc_tool.proofs.laws.deal_wants_a_number.Goals as goal
 
 pub returns-clause-nothing : goal.returns-clause-nothing

@@ -1,5 +1,4 @@
-use Rattle.std.proofs.Common.{refl, Some}
-use Rattle.fc_tool.proofs.RequestLemmas.{sound_request}
+use Rattle.{fc_tool.proofs.RequestLemmas.{sound_request}, std.proofs.Common.{refl, Some}}
 use Rattle.fc_tool.proofs.laws.each_request_has_a_job.Goals as goal
 
 pub returns : goal.returns

@@ -1,6 +1,6 @@
 use Rattle.std.proofs.Common.{◌∙◌}
-use Rattle.fc_tool.proofs.CommandLines.{by_closed_json, by_header, by_header_json, by_json}
-use Rattle.fc_tool.proofs.CommandLines.{by_table_json, fault_of_header, fault_of_json, some_kind}
+use Rattle.fc_tool.proofs.CommandLines.{by_closed_json, by_header, by_header_json, by_json, by_table_json}
+use Rattle.fc_tool.proofs.CommandLines.{fault_of_header, fault_of_json, some_kind}
 use Rattle.fc_tool.proofs.laws.formats_are_asked_for.Goals as goal
 
 pub returns-clause-count : goal.returns-clause-count

@@ -1,6 +1,4 @@
-use Rattle.std.proofs.Common.{ap}
-use Rattle.fc_tool.specs.{job_of_task}
-use Rattle.fc_tool.proofs.RequestLemmas.{run_is}
+use Rattle.{fc_tool.{proofs.RequestLemmas.{run_is}, specs.{job_of_task}}, std.proofs.Common.{ap}}
 use Rattle.fc_tool.proofs.laws.jobs_are_what_requests_ask_for.Goals as goal
 
 pub returns-clause-run : goal.returns-clause-run

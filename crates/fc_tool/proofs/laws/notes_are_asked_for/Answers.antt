@@ -1,6 +1,5 @@
 use Rattle.std.proofs.Common.{◌∙◌}
-use Rattle.fc_tool.proofs.CommandLines.{by_explain, by_strict, by_strict_explain, fault_of_strict}
-use Rattle.fc_tool.proofs.CommandLines.{some_kind}
+use Rattle.fc_tool.proofs.CommandLines.{by_explain, by_strict, by_strict_explain, fault_of_strict, some_kind}
 use Rattle.fc_tool.proofs.laws.notes_are_asked_for.Goals as goal
 
 pub returns-clause-explain : goal.returns-clause-explain

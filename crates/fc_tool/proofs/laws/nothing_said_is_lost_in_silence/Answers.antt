@@ -1,9 +1,7 @@
-use Rattle.std.proofs.Common.{◌≡◌, arith, Err, List, Ok, Option, Result, subst, ℕ}
-use Rattle.std.specs.Io.KnownBytes.{Appends}
+use Rattle.std.{proofs.Common.{◌≡◌, arith, Err, List, Ok, Option, Result, subst, ℕ}, specs.Io.KnownBytes.{Appends}}
 use Rattle.fc_collect.specs.{Promises.{WritesAsCounted, WritesText}, Streams.{counts_of}}
 use Rattle.fc_collect.specs.declared.streams.{counted.Counted.{Counted}, faults.RunFault.{RunFault}}
-use Rattle.fc_collect.specs.declared.streams.faults.RunFault.TheVariants.{Memory, Read}
-use Rattle.fc_collect.specs.declared.streams.faults.RunFault.TheVariants.{ReaderNeverEnds, TooLarge}
+use Rattle.fc_collect.specs.declared.streams.faults.RunFault.TheVariants.{Memory, Read, ReaderNeverEnds, TooLarge}
 use Rattle.fc_collect.specs.declared.streams.faults.RunFault.TheVariants.{Write}
 use Rattle.fc_tool.proofs.laws.nothing_said_is_lost_in_silence.Goals as goal
 

@@ -1,8 +1,7 @@
 use Rattle.clap.specs.{declared.error.kind.ErrorKind.TheVariants.{ValueValidation}, Words.{kind_of}}
 use Rattle.std.proofs.Common.{◌∙◌}
-use Rattle.fc_tool.proofs.CommandLines.{among_none, by_first_record, by_start}
-use Rattle.fc_tool.proofs.CommandLines.{fault_of_largest_byte, fault_of_record_0, only_kind}
-use Rattle.fc_tool.proofs.CommandLines.{start_accepted}
+use Rattle.fc_tool.proofs.CommandLines.{among_none, by_first_record, by_start, fault_of_largest_byte, fault_of_record_0}
+use Rattle.fc_tool.proofs.CommandLines.{only_kind, start_accepted}
 use Rattle.fc_tool.proofs.laws.pieces_begin_where_they_say.Goals as goal
 
 pub returns-clause-both : goal.returns-clause-both

@@ -1,6 +1,5 @@
-use Rattle.fc_tool.proofs.CommandLines.{fault_of_byte, fault_of_closed_piece}
-use Rattle.fc_tool.proofs.CommandLines.{fault_of_counted_piece, fault_of_piece, only_kind}
-use Rattle.fc_tool.proofs.CommandLines.{some_kind}
+use Rattle.fc_tool.proofs.CommandLines.{fault_of_byte, fault_of_closed_piece, fault_of_counted_piece, fault_of_piece}
+use Rattle.fc_tool.proofs.CommandLines.{only_kind, some_kind}
 use Rattle.fc_tool.proofs.laws.some_commands_take_no_piece.Goals as goal
 
 pub returns-clause-no_record : goal.returns-clause-no_record

@@ -1,6 +1,5 @@
 use Rattle.std.proofs.Common.{◌++◌, ◌∙◌, ◌≡◌, ap, refl, subst}
-use Rattle.fc_collect.specs.{Promises.{WritesText}, Streams.{inner_of}}
-use Rattle.fc_tool.specs.{fault_line}
+use Rattle.{fc_collect.specs.{Promises.{WritesText}, Streams.{inner_of}}, fc_tool.specs.{fault_line}}
 use Rattle.fc_tool.proofs.program.import.Goals as goal
 
 pub returns : goal.returns

@@ -1,6 +1,5 @@
 use Rattle.std.proofs.Common.{◌<◌, length, subst, sym}
-use Rattle.{fc_bytes.specs.{class_hash.{HasChildHashes}, OfLegalMoves}}
-use Rattle.fcanon_c.specs.{game_at, renamings_at}
+use Rattle.{fc_bytes.specs.{class_hash.{HasChildHashes}, OfLegalMoves}, fcanon_c.specs.{game_at, renamings_at}}
 use Rattle.fcanon_c.proofs.children.fcanon_known_child_hashes.Goals as goal
 
 pub returns-in-0-clause-done : goal.returns-in-0-clause-done

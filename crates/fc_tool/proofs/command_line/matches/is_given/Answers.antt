@@ -1,6 +1,5 @@
-use Rattle.clap.specs.Words.{found_of}
+use Rattle.{clap.specs.Words.{found_of}, fc_tool.proofs.WordLemmas.{flag_read}}
 use Rattle.std.proofs.Common.{◌∙◌, None, Some}
-use Rattle.fc_tool.proofs.WordLemmas.{flag_read}
 use Rattle.fc_tool.proofs.command_line.matches.is_given.Goals as goal
 
 pub returns-in-Some : goal.returns-in-Some

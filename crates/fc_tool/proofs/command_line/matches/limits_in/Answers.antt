@@ -1,6 +1,5 @@
-use Rattle.clap.specs.Words.{found_of}
+use Rattle.{clap.specs.Words.{found_of}, fc_tool.proofs.WordLemmas.{limits_read}}
 use Rattle.std.proofs.Common.{◌∙◌, option_map}
-use Rattle.fc_tool.proofs.WordLemmas.{limits_read}
 use Rattle.fc_tool.proofs.command_line.matches.limits_in.Goals as goal
 
 pub returns : goal.returns

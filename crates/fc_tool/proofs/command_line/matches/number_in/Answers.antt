@@ -1,6 +1,5 @@
-use Rattle.clap.specs.Words.{found_of}
+use Rattle.{clap.specs.Words.{found_of}, fc_tool.proofs.WordLemmas.{bounded, number_read}}
 use Rattle.std.proofs.Common.{◌∙◌, rules, sym}
-use Rattle.fc_tool.proofs.WordLemmas.{bounded, number_read}
 use Rattle.fc_tool.proofs.command_line.matches.number_in.Goals as goal
 
 pub returns-in_err-get_str : goal.returns-in_err-get_str

@@ -1,6 +1,4 @@
-use Rattle.clap.specs.Words.{found_of}
-use Rattle.std.proofs.Common.{rules}
-use Rattle.fc_tool.proofs.WordLemmas.{variant_read}
+use Rattle.{clap.specs.Words.{found_of}, fc_tool.proofs.WordLemmas.{variant_read}, std.proofs.Common.{rules}}
 use Rattle.fc_tool.proofs.command_line.matches.variant_in.Goals as goal
 
 pub returns-in_err-get_str : goal.returns-in_err-get_str

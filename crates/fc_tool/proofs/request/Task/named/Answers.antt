@@ -1,6 +1,5 @@
-use Rattle.std.proofs.Common.{◌+◌, ◌<◌, ◌∙◌, ◌≡◌, ap, arith, cond, drop, false, get_or, List}
-use Rattle.std.proofs.{Common.{Option, Some, sym, ℕ}, lemmas.List.{drop_all, drop_more}}
-use Rattle.std.specs.{List.{find}, Str.{bytes_eq}}
+use Rattle.std.proofs.Common.{◌+◌, ◌<◌, ◌∙◌, ◌≡◌, ap, arith, cond, drop, false, get_or, List, Option, Some, sym, ℕ}
+use Rattle.std.{proofs.lemmas.List.{drop_all, drop_more}, specs.{List.{find}, Str.{bytes_eq}}}
 use Rattle.fc_tool.specs.{command_of, declared.request.Task.{Task, TheVariants.{Show}}, tasks}
 use Rattle.fc_tool.proofs.request.Task.named.Goals as goal
 

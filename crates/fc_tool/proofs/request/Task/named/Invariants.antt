@@ -1,5 +1,4 @@
-use Rattle.std.proofs.Common.{◌≡◌, drop}
-use Rattle.std.specs.{List.{find}, Str.{bytes_eq}}
+use Rattle.std.{proofs.Common.{◌≡◌, drop}, specs.{List.{find}, Str.{bytes_eq}}}
 use Rattle.fc_tool.specs.{command_of, task_named, tasks}
 use Rattle.fc_tool.proofs.request.Task.named.Given as goal
 
