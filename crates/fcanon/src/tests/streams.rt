@@ -106,7 +106,7 @@ struct Ran {
     writer: Taking,
 }
 
-// What comes of a run by the call of its own command, or by that of all.
+// What comes of a run, by the call of its own command if it has one.
 fn result_of(
     alloc: Global,
     kind: RunKind,
@@ -122,21 +122,6 @@ fn result_of(
         RunKind::Canon => run_canon(alloc, variant, input, output),
         RunKind::Check => run_check(alloc, variant, input, output),
         RunKind::Expand => run_expand(alloc, variant, input, output),
-        _ => other_of(alloc, kind, input, output),
-    }
-}
-
-fn other_of(
-    alloc: Global,
-    kind: RunKind,
-    input: &mut Counted<Pieces<'_>>,
-    output: &mut Counted<Taking>,
-) -> Result<Summary, RunFault>
-    requires input_low { HasRoom input.old }
-    requires output_low { HasRoom output.old }
-{
-    let variant = Variant::FreeCell;
-    match kind {
         RunKind::Group => run_group(alloc, variant, input, output),
         RunKind::Share => run_share(alloc, variant, input, output),
         RunKind::Unique => run_unique(alloc, variant, input, output),
