@@ -174,7 +174,7 @@ fn lines_in<R: Rule>(alloc: Global, layout: Layout, board: &Board<R>) -> Result<
     let mut cards = Vec::with_capacity(alloc, MOST)?;
     match layout {
         Layout::Columns | Layout::ColumnsInLine => push_columns(&mut cards, board)?,
-        Layout::Rows => push_rows(alloc, &mut cards, board, true)?,
+        Layout::Rows(_) => push_rows(alloc, &mut cards, board, true)?,
         Layout::Deal => {
             push_rows(alloc, &mut cards, board, false)?;
             push_end(&mut cards)?;

@@ -11,7 +11,7 @@ ghost use Rattle.fc_record.specs.{Printing.{header_text, list_line}, RecordTexts
 ghost use Rattle.fc_import.specs.{Import.{HasNoHeader, IsPrinted}, inside.{AreWhole, IsMade}};
 ghost use Rattle.fc_import.specs.inside.{KeepsFirst, Takes, TakesAsItIs, TakesFirst, TakesName};
 
-use crate::layout::{Drafted, Layout, draft_of, read_rows};
+use crate::layout::{Drafted, Layout, draft_of, read_rows, strips_of};
 use crate::line::line_len;
 use crate::lists::{ListRead, moves_on};
 use crate::made::{Form, Made};
@@ -19,6 +19,7 @@ use crate::options::{ImportOptions, LinesAre};
 use crate::piece::{FIRST_RULE, Piece, PieceKind, SOLVED};
 use crate::reasons::{NO_CARD, board_reason, move_reason, word_reason};
 use crate::spelled::is_same;
+use crate::strips::Strips;
 use crate::titles::{title_of, variant_titled};
 use fc_board::{Board, Rule};
 use fc_text::{BoardFault, Lines, read_board};
@@ -59,6 +60,8 @@ const REWRITTEN: &[u8] = b"these moves are rewritten in fcanon's notation";
 
 /// How many bytes a deal has in lines of cards: two for each card, and one after it.
 const DEAL_LEN: usize = 52 * 3;
+
+const DEALT: Strips = Strips::Bytes { base: 0, unit: 3 };
 
 /// How much of a solution was there that has no move yet.
 #[derive(Clone, Copy)]
@@ -272,7 +275,7 @@ impl<R: Rule> Importer<R> {
                     None => return Ok(false),
                 }
             }
-            (Layout::Rows, LinesAre::Unsaid | LinesAre::Rows) => match read_rows::<R>(lines) {
+            (Layout::Rows(_), LinesAre::Unsaid | LinesAre::Rows) => match read_rows::<R>(lines) {
                 Some(board) => self.take_read(lines, board, layout)?,
                 None => return Ok(false),
             },
@@ -356,7 +359,7 @@ impl<R: Rule> Importer<R> {
     fn take_no_board(&mut self, lines: &[u8], piece: &Piece) -> Result<(), AllocError>
         ensures { OnOk result (Takes R.VARIANT R.game lines.now self.old.made self.new.made) }
     {
-        if matches!(self.solution, Solution::Rule) && self.is_drawn_again(lines)? {
+        if matches!(self.solution, Solution::Rule) && self.is_drawn_again(lines, piece)? {
             self.solution = Solution::Board;
             return Ok(());
         }
@@ -371,13 +374,18 @@ impl<R: Rule> Importer<R> {
 
     // Passes lines that are the last board once more, in rows or in columns, as a solver draws it.
     // Returns whether they are.
-    fn is_drawn_again(&mut self, lines: &[u8]) -> Result<bool, AllocError>
+    fn is_drawn_again(&mut self, lines: &[u8], piece: &Piece) -> Result<bool, AllocError>
         ensures taken { IfOk result (λ taken. IsTrue taken
             → Takes R.VARIANT R.game lines.now self.old.made self.new.made) }
         ensures kept { IfOk result (λ taken. taken ≡ false → self.new.made ≡ self.old.made) }
     {
-        if self.made.see_again(self.alloc, lines, Layout::Rows)? {
-            return Ok(true);
+        for strips in strips_of(lines, piece) {
+            if self
+                .made
+                .see_again(self.alloc, lines, Layout::Rows(strips))?
+            {
+                return Ok(true);
+            }
         }
         self.made.see_again(self.alloc, lines, Layout::Columns)
     }
@@ -610,7 +618,7 @@ fn deal_layout(text: &[u8]) -> Option<Layout> {
     let is_last = matches!(text.get(DEAL_LEN), None | Some(b'\n' | b'@'));
     match lines.saturating_add(usize::from(is_cut)) {
         8 if is_whole && is_last => Some(Layout::Columns),
-        7 if is_whole && is_last && are_rows => Some(Layout::Rows),
+        7 if is_whole && is_last && are_rows => Some(Layout::Rows(DEALT)),
         _ => None,
     }
 }

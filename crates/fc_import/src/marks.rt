@@ -17,8 +17,6 @@ pub(crate) struct Shape {
     /// first mark for no card, and how many tabs.
     pub(crate) indent: usize,
     pub(crate) tabs: usize,
-    /// Whether the line begins with a bar.
-    pub(crate) has_bar: bool,
     /// The places without a card before the first card, and before the last one.
     pub(crate) lead: usize,
     pub(crate) gaps: usize,
@@ -46,7 +44,6 @@ impl Shape {
             label,
             indent: 0,
             tabs: 0,
-            has_bar: false,
             lead: 0,
             gaps: 0,
             marks: 0,
@@ -184,7 +181,6 @@ impl Front {
             (_, false) if is_after_label => self.shape.see_other(at),
             (b'|', false) => {
                 self.is_begun = true;
-                self.shape.has_bar = true;
             }
             _ => {
                 self.empties = self.empties.saturating_add(usize::from(self.is_open));

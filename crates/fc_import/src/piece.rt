@@ -62,6 +62,12 @@ pub(crate) struct PieceLine {
 }
 
 impl PieceLine {
+    /// The line in the text of its piece, before a comment.
+    pub(crate) fn of<'a>(&self, text: &'a [u8]) -> &'a [u8] {
+        let end = self.start.saturating_add(self.len);
+        uncommented(text.get(self.start..end).unwrap_or(b""))
+    }
+
     /// Where the first word is that names no card, and is none of its label.
     pub(crate) fn other_word(&self) -> Option<usize> {
         match self.shape.others {
