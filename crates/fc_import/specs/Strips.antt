@@ -1,7 +1,8 @@
 -- Under which columns the cards of rows stand.
-use Rattle.std.specs.{List.{list_all, list_any}, Prelude.{◌&&◌, ◌*◌, ◌+◌, ◌==◌, ◌||◌, [], Bool}}
-use Rattle.std.specs.Prelude.{count_by, false, if◌then◌else◌, length, List, nat_lt, None, not}
-use Rattle.std.specs.Prelude.{Option, slice_index_or, Some, take, true, ℕ}
+use Rattle.std.specs.{List.{count_by, list_all, list_any}, Option.{option_or}}
+use Rattle.std.specs.Prelude.{◌%◌, ◌&&◌, ◌-◌, ◌/◌, ◌==◌, ◌||◌, [], Bool, false, if◌then◌else◌}
+use Rattle.std.specs.Prelude.{length, List, min, nat_lt, None, not, Option, slice_index_or, Some}
+use Rattle.std.specs.Prelude.{take, true, ℕ}
 use Rattle.{fc_board.specs.Boards.{Board}, fc_card.specs.{places, Types.{Card, Pile, Text}}}
 use Rattle.fc_text.specs.{Bytes.{dash, tab}, Lines.{lines_from, Piece, words}}
 use Rattle.fc_text.specs.Notation.{separates_tokens}
@@ -23,32 +24,50 @@ is_mark byte = parts_fields byte || byte == dash || byte == 0x2A || byte == 0x2E
 abbrev pub is_dealt : Board → Bool
 is_dealt board = list_all (λ number. length (slice_index_or board.columns number []) == (if nat_lt number 4 then 7 else 6)) (places 8)
 
+-- counted up to 65,535
+abbrev pub words_in : Text → ℕ
+words_in text = min (length (words separates_tokens text)) 65535
+
 -- a line has strips of bytes if no mark tells of other places; and of words if none parts fields and it has so many words between blanks, or the rows are a deal's
 abbrev pub has_strips : Strips → Board → (line : Text) → Bool
 has_strips (Bytes base unit) board line = not (list_any is_mark line)
 has_strips (Fields base) board line = true
-has_strips (Words base count) board line = count_by parts_fields line == 0 && (length (words separates_tokens line) == count || is_dealt board)
+has_strips (Words base count) board line = count_by parts_fields line == 0 && (words_in line == count || is_dealt board)
 
--- a word is in the strip of the column of this number if it begins where that does, or ends two bytes on; or if as many marks that part fields, or words between blanks, come before it
-abbrev pub is_in_strip : Strips → (number : ℕ) → (line : Text) → Piece × ℕ → Bool
-is_in_strip (Bytes base unit) number line word = word.0.start == base + unit * number || word.1 == base + unit * number + 2
-is_in_strip (Fields base) number line word = count_by parts_fields (take word.0.start line) == base + number
-is_in_strip (Words base count) number line word = length (words separates_tokens (take word.0.start line)) == base + number
+abbrev pub whole_strips : (base unit place : ℕ) → Option ℕ
+whole_strips base unit place = if unit == 0 || nat_lt place base || not ((place - base) % unit == 0) then None else Some ((place - base) / unit)
+
+-- the strip that a word is in: where it begins, or its last two bytes; or by the marks that part fields, or the words between blanks, that come before it
+abbrev pub strip_of : Strips → (line : Text) → Piece × ℕ → Option ℕ
+strip_of (Bytes base unit) line word = option_or (whole_strips base unit word.0.start) (whole_strips base unit (word.1 - 2))
+strip_of (Fields base) line word = whole_strips base 1 (count_by parts_fields (take word.0.start line))
+strip_of (Words base count) line word = whole_strips base 1 (words_in (take word.0.start line))
 
 -- -------- Whether the rows tell under which column each card stands. From: this project's profile.
 
-abbrev pub is_of : Option Card → Pile → Bool
-is_of None column = false
-is_of (Some card) column = list_any (λ other. other == card) column
+abbrev pub has_card : Pile → Card → Bool
+has_card column card = list_any (λ other. other == card) column
 
--- the word names no card of the column of this number, or is in its strip
-abbrev pub is_below : Strips → (has : Bool) → List Pile → (line : Text) → (word : Piece × ℕ) → (number : ℕ) → Bool
-is_below strips has columns line word number = not (is_of (named_card word.0.bytes) (slice_index_or columns number [])) || (has && is_in_strip strips number line word)
+abbrev pub holds : Card → Option Card → Bool
+holds card None = false
+holds card (Some other) = other == card
+
+abbrev pub is_under : List Pile → Card → (strip : Option ℕ) → Bool
+is_under columns card None = false
+is_under columns card (Some number) = has_card (slice_index_or columns number []) card
+
+-- the card is in a cell, or in the column in whose strip the word is
+abbrev pub is_told : Option Card → Board → (strip : Option ℕ) → Bool
+is_told None board strip = true
+is_told (Some card) board strip = list_any (holds card) board.cells || is_under board.columns card strip
+
+abbrev pub is_below : Strips → (has_strips : Bool) → Board → (line : Text) → (word : Piece × ℕ) → Bool
+is_below strips has board line word = is_told (named_card word.0.bytes) board (if has then strip_of strips line word else None)
 
 abbrev pub are_below : Strips → Board → (line : Text) → Bool
 are_below strips board line =
     let has = has_strips strips board (uncommented line) in
-    list_all (λ word. list_all (is_below strips has board.columns (uncommented line) word) (places 8)) (words_of line)
+    list_all (is_below strips has board (uncommented line)) (words_of line)
 
 -- each word of rows that names a card of a column is in that column's strip
 abbrev pub tells_columns : Layout → (piece : Text) → Board → Bool

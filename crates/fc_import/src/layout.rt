@@ -8,7 +8,7 @@ use crate::options::LinesAre;
 use crate::piece::{Piece, PieceLine};
 use crate::playable::{MOST_DEALT, is_playable};
 use crate::scan::{Placed, named_card};
-use crate::strips::{Strips, fields_in, is_dealt, is_in_strip, tells_columns, words_in};
+use crate::strips::{Strips, fields_in, is_dealt, strip_of, tells_columns, words_in};
 use crate::words::{Word, Words};
 use arrayvec::ArrayVec;
 use fc_board::{Board, Height, Rule, no_cards};
@@ -408,23 +408,13 @@ fn put_row_in(
     columns: &mut [ArrayVec<Card, 52>; 8],
 ) -> Option<()> {
     for word in Words::new(line) {
-        let column = columns.get_mut(column_of(strips, line, &word)?)?;
+        let column = columns.get_mut(strip_of(strips, line, &word)?)?;
         if column.len() != row || column.is_full() {
             return None;
         }
         let _ = column.try_push(named_card(word.text)?);
     }
     Some(())
-}
-
-// The column in whose strip a word is.
-fn column_of(strips: Strips, line: &[u8], word: &Word<'_>) -> Option<usize> {
-    for number in 0..8 {
-        if is_in_strip(strips, number, line, word) {
-            return Some(number);
-        }
-    }
-    None
 }
 
 /// The strips that the first row may have.

@@ -1,9 +1,8 @@
 //! Under which columns the cards of rows stand: each column has a strip of each line.
-ghost use Rattle.std.specs.{List.{count_by, list_all, list_any}, Prelude.{◌==◌, ◌≡◌, length}};
-ghost use Rattle.{fc_card.specs.{places}, fc_text.specs.Lines.{words}};
-ghost use Rattle.fc_text.specs.Notation.{separates_tokens};
-ghost use Rattle.fc_import.specs.{Seen.{piece_of}, Strips.{are_below, has_strips, is_below}};
-ghost use Rattle.fc_import.specs.Strips.{is_dealt, is_in_strip, is_mark, parts_fields, tells_columns};
+ghost use Rattle.std.specs.{List.{count_by, list_any}, Prelude.{◌≡◌, [], slice_index_or}};
+ghost use Rattle.fc_import.specs.{Seen.{piece_of}, Strips.{are_below, has_card, has_strips, holds}};
+ghost use Rattle.fc_import.specs.Strips.{is_below, is_dealt, is_mark, parts_fields, strip_of};
+ghost use Rattle.fc_import.specs.Strips.{tells_columns, whole_strips, words_in};
 
 use crate::layout::Layout;
 use crate::scan::named_card;
@@ -52,8 +51,8 @@ fn are_below<R: Rule>(strips: Strips, line: &[u8], board: &Board<R>) -> bool
     true
 }
 
-// Whether the word, of a line that has strips or not, is in the strip of each column whose card it
-// names.
+// Whether the word, of a line that has strips or not, names no card of a column, or one of the column
+// in whose strip it is.
 fn is_below<R: Rule>(
     strips: Strips,
     has_strips: bool,
@@ -61,26 +60,50 @@ fn is_below<R: Rule>(
     word: &Word<'_>,
     board: &Board<R>,
 ) -> bool
-    ensures { result ≡ list_all
-        (is_below strips has_strips board.now.columns line.now (piece_of word.now)) (places 8) }
+    ensures { result ≡ is_below strips has_strips board.now line.now (piece_of word.now) }
 {
     let Some(card) = named_card(word.text) else {
         return true;
     };
-    // The board has eight columns.
-    let _ = board.heights();
-    for number in 0..8 {
-        if has_card(board.column(number), card)
-            && !(has_strips && is_in_strip(strips, number, line, word))
-        {
-            return false;
+    if is_in_cell(board.cells(), card) {
+        return true;
+    }
+    match strip_of(strips, line, word) {
+        Some(number) => has_strips && is_in_column(board, number, card),
+        None => false,
+    }
+}
+
+fn is_in_cell(cells: &[Option<Card>], card: Card) -> bool
+    ensures { result ≡ list_any (holds card) cells.now }
+{
+    for cell in cells {
+        if holds(*cell, card) {
+            return true;
         }
     }
-    true
+    false
+}
+
+fn holds(cell: Option<Card>, card: Card) -> bool
+    ensures { result ≡ holds card cell }
+{
+    match cell {
+        Some(other) => other == card,
+        None => false,
+    }
+}
+
+fn is_in_column<R: Rule>(board: &Board<R>, number: usize, card: Card) -> bool
+    ensures { result ≡ has_card (slice_index_or board.now.columns number []) card }
+{
+    // The board has eight columns.
+    let _ = board.heights();
+    number < 8 && has_card(board.column(number), card)
 }
 
 fn has_card(column: &[Card], card: Card) -> bool
-    ensures { result ≡ list_any (λ other. other == card) column.now }
+    ensures { result ≡ has_card column.now card }
 {
     for other in column {
         if *other == card {
@@ -103,20 +126,30 @@ fn has_strips<R: Rule>(strips: Strips, line: &[u8], board: &Board<R>) -> bool
     }
 }
 
-/// Whether a word of the line is in the strip of the column of this number.
-pub(crate) fn is_in_strip(strips: Strips, number: usize, line: &[u8], word: &Word<'_>) -> bool
-    requires { number < 8 }
-    ensures { result ≡ is_in_strip strips number line.now (piece_of word.now) }
+/// The number of the column in whose strip a word of the line is.
+pub(crate) fn strip_of(strips: Strips, line: &[u8], word: &Word<'_>) -> Option<usize>
+    ensures { result ≡ strip_of strips line.now (piece_of word.now) }
 {
     let before = &line[..word.start.min(line.len())];
     match strips {
-        Strips::Bytes { base, unit } => {
-            let place = usize::from(base) + usize::from(unit) * number;
-            word.start == place || word.end == place + 2
-        }
-        Strips::Fields { base } => fields_in(before) == usize::from(base) + number,
-        Strips::Words { base, .. } => words_in(before) == usize::from(base) + number,
+        Strips::Bytes { base, unit } => match whole_strips(base, unit, word.start) {
+            Some(number) => Some(number),
+            None => whole_strips(base, unit, word.end.saturating_sub(2)),
+        },
+        Strips::Fields { base } => whole_strips(base, 1, fields_in(before)),
+        Strips::Words { base, .. } => whole_strips(base, 1, words_in(before)),
     }
+}
+
+// How many strips there are before this place, if they are whole.
+fn whole_strips(base: u16, unit: u16, place: usize) -> Option<usize>
+    ensures { result ≡ whole_strips base unit place }
+{
+    let (base, unit) = (usize::from(base), usize::from(unit));
+    if unit == 0 || place < base || (place - base) % unit != 0 {
+        return None;
+    }
+    Some((place - base) / unit)
 }
 
 /// Whether each column has as many cards as a deal puts there.
@@ -144,11 +177,15 @@ pub(crate) fn fields_in(text: &[u8]) -> usize
     count
 }
 
-/// How many words between blanks the text has.
+/// How many words between blanks the text has, counted up to 65,535.
 pub(crate) fn words_in(text: &[u8]) -> usize
-    ensures { result ≡ length (words separates_tokens text.now) }
+    ensures { result ≡ words_in text.now }
 {
-    Tokens::new(text).count()
+    let mut count: u16 = 0;
+    for _word in Tokens::new(text) {
+        count = count.saturating_add(1);
+    }
+    usize::from(count)
 }
 
 // Whether the line has a mark that parts fields or may stand for no card.

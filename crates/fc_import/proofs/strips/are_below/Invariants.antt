@@ -1,0 +1,8 @@
+use Rattle.std.{proofs.Common.{◌≡◌}, specs.List.{list_all}}
+use Rattle.fc_import.specs.{Scan.{uncommented}, Seen.{words_left}, Strips.{are_below, has_strips, is_below}}
+use Rattle.fc_import.proofs.strips.are_below.Given as goal
+
+abbrev pub invariant-loop-word : goal.invariant-loop-word
+invariant-loop-word g l =
+    list_all (is_below l.strips l.has_strips l.board l.line) (words_left l.word-iterator)
+    ≡ are_below l.fn.strips l.fn.board l.fn.line
