@@ -418,9 +418,9 @@ impl<R: Rule> Made<R> {
             → IsReadAs self.now.options.lines_are R.game piece.now board.now) }
     {
         let lines_are = self.options.lines_are;
-        if may_be(lines_are, layout, piece) {
+        if may_be(lines_are, layout, piece) && tells_columns(layout, piece, board) {
             let is_laid = are_in(alloc, layout, piece, named, board)?;
-            if is_laid && tells_columns(layout, piece, board) {
+            if is_laid {
                 return Ok(true);
             }
         }
