@@ -1,10 +1,10 @@
 -- Under which columns the cards of rows stand.
 use Rattle.std.specs.{List.{count_by, list_all, list_any}, Option.{option_or}}
-use Rattle.std.specs.Prelude.{◌%◌, ◌&&◌, ◌-◌, ◌/◌, ◌==◌, ◌||◌, [], Bool, false, if◌then◌else◌}
+use Rattle.std.specs.Prelude.{◌%◌, ◌&&◌, ◌++◌, ◌-◌, ◌/◌, ◌==◌, ◌||◌, ◌∷◌, [], Bool, codes, false, if◌then◌else◌}
 use Rattle.std.specs.Prelude.{length, List, min, nat_lt, None, not, Option, slice_index_or, Some}
 use Rattle.std.specs.Prelude.{take, true, ℕ}
 use Rattle.{fc_board.specs.Boards.{Board}, fc_card.specs.{places, Types.{Card, Pile, Text}}}
-use Rattle.fc_text.specs.{Bytes.{dash, tab}, Lines.{lines_from, Piece, words}}
+use Rattle.fc_text.specs.{Bytes.{tab}, Lines.{lines_from, Piece, words}}
 use Rattle.fc_text.specs.Notation.{separates_tokens}
 use Rattle.fc_import.specs.Scan.{named_card, uncommented, words_of}
 use Rattle.fc_import.specs.declared.layout.Layout.{Layout, TheVariants.{Rows}}
@@ -14,11 +14,11 @@ use Rattle.fc_import.specs.declared.strips.Strips.{Strips, TheVariants.{Bytes, F
 
 -- a comma, a semicolon, a bar, a slash and a tab
 abbrev pub parts_fields : ℕ → Bool
-parts_fields byte = byte == 0x2C || byte == 0x3B || byte == 0x7C || byte == 0x2F || byte == tab
+parts_fields byte = list_any (λ mark. mark == byte) (codes ",;|/" ++ tab ∷ [])
 
--- and those that may stand for no card: a dash, a star, a dot, a low line, brackets and quotation marks
+-- and those that may stand for no card
 abbrev pub is_mark : ℕ → Bool
-is_mark byte = parts_fields byte || byte == dash || byte == 0x2A || byte == 0x2E || byte == 0x5F || byte == 0x5B || byte == 0x5D || byte == 0x22 || byte == 0x27
+is_mark byte = parts_fields byte || list_any (λ mark. mark == byte) (codes "-*._[]\"'")
 
 -- seven cards in each of four columns, and six in the others
 abbrev pub is_dealt : Board → Bool

@@ -1,6 +1,6 @@
 //! Under which columns the cards of rows stand: each column has a strip of each line.
 ghost use Rattle.std.specs.{List.{count_by, list_any}, Prelude.{◌≡◌, [], slice_index_or}};
-ghost use Rattle.fc_import.specs.{Seen.{piece_of}, Strips.{are_below, has_card, has_strips, holds}};
+ghost use Rattle.fc_import.specs.{Seen.{piece_of}, Strips.{are_below, has_card, has_strips}};
 ghost use Rattle.fc_import.specs.Strips.{is_below, is_dealt, is_mark, parts_fields, strip_of};
 ghost use Rattle.fc_import.specs.Strips.{tells_columns, whole_strips, words_in};
 
@@ -65,31 +65,11 @@ fn is_below<R: Rule>(
     let Some(card) = named_card(word.text) else {
         return true;
     };
-    if is_in_cell(board.cells(), card) {
+    if board.cells().contains(&Some(card)) {
         return true;
     }
     match strip_of(strips, line, word) {
         Some(number) => has_strips && is_in_column(board, number, card),
-        None => false,
-    }
-}
-
-fn is_in_cell(cells: &[Option<Card>], card: Card) -> bool
-    ensures { result ≡ list_any (holds card) cells.now }
-{
-    for cell in cells {
-        if holds(*cell, card) {
-            return true;
-        }
-    }
-    false
-}
-
-fn holds(cell: Option<Card>, card: Card) -> bool
-    ensures { result ≡ holds card cell }
-{
-    match cell {
-        Some(other) => other == card,
         None => false,
     }
 }
@@ -99,18 +79,7 @@ fn is_in_column<R: Rule>(board: &Board<R>, number: usize, card: Card) -> bool
 {
     // The board has eight columns.
     let _ = board.heights();
-    number < 8 && has_card(board.column(number), card)
-}
-
-fn has_card(column: &[Card], card: Card) -> bool
-    ensures { result ≡ has_card column.now card }
-{
-    for other in column {
-        if *other == card {
-            return true;
-        }
-    }
-    false
+    number < 8 && board.column(number).contains(&card)
 }
 
 // Whether the line has strips of this kind.
@@ -172,7 +141,7 @@ pub(crate) fn fields_in(text: &[u8]) -> usize
 {
     let mut count = 0;
     for byte in text {
-        count += usize::from(parts_fields(*byte));
+        count += usize::from(b",;|/\t".contains(byte));
     }
     count
 }
@@ -193,21 +162,9 @@ fn has_mark(line: &[u8]) -> bool
     ensures { result ≡ list_any is_mark line.now }
 {
     for byte in line {
-        if is_mark(*byte) {
+        if b",;|/\t-*._[]\"'".contains(byte) {
             return true;
         }
     }
     false
-}
-
-fn is_mark(byte: u8) -> bool
-    ensures { result ≡ is_mark byte }
-{
-    parts_fields(byte) || matches!(byte, b'-' | b'*' | b'.' | b'_' | b'[' | b']' | b'"' | b'\'')
-}
-
-fn parts_fields(byte: u8) -> bool
-    ensures { result ≡ parts_fields byte }
-{
-    matches!(byte, b',' | b';' | b'|' | b'/' | b'\t')
 }
