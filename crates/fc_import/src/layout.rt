@@ -8,7 +8,7 @@ use crate::options::LinesAre;
 use crate::piece::{Piece, PieceLine};
 use crate::playable::{MOST_DEALT, is_playable};
 use crate::scan::{Placed, named_card};
-use crate::strips::{Strips, fields_in, is_dealt, strip_of, tells_columns, words_in};
+use crate::strips::{Strips, fields_in, strip_of, tells_columns, words_in};
 use crate::words::{Word, Words};
 use arrayvec::ArrayVec;
 use fc_board::{Board, Height, Rule, no_cards};
@@ -109,22 +109,12 @@ fn rows_of<R: Rule>(text: &[u8], piece: &Piece) -> Option<(Board<R>, Layout)> {
     for strips in strips_of(text, piece) {
         let layout = Layout::Rows(strips);
         if let Some(board) = board_in(text, piece, layout) {
-            if is_clear(strips, piece, &board) && tells_columns(layout, text, &board) {
+            if tells_columns(layout, text, &board) {
                 return Some((board, layout));
             }
         }
     }
     None
-}
-
-// Whether no gaps may be left out: by bytes some are to be seen, or none is there but in the last row
-// of a deal; and words are regular.
-fn is_clear<R: Rule>(strips: Strips, piece: &Piece, board: &Board<R>) -> bool {
-    match strips {
-        Strips::Bytes { .. } => shows_gaps(board),
-        Strips::Fields { .. } => true,
-        Strips::Words { .. } => is_regular(piece),
-    }
 }
 
 fn if_playable<R: Rule>(board: Option<Board<R>>, layout: Layout) -> Drafted<R> {
@@ -417,44 +407,44 @@ fn put_row_in(
     Some(())
 }
 
-/// The strips that the first row may have.
-pub(crate) fn strips_of(text: &[u8], piece: &Piece) -> [Strips; 4] {
+/// The strips that the rows may have, by the first one: of fields, and of words where these are
+/// regular, so that no blanks tell of a gap, or else of bytes.
+pub(crate) fn strips_of(text: &[u8], piece: &Piece) -> [Strips; 3] {
     let [row, ..] = piece.rows.as_slice() else {
-        return [Strips::Fields { base: 0 }; 4];
+        return [Strips::Fields { base: 0 }; 3];
     };
     let line = row.of(text);
-    let ((base, unit), (end, step)) = (bytes_of(line, false), bytes_of(line, true));
-    let before = &line[..usize::from(base).min(line.len())];
-    [
-        Strips::Fields {
-            base: short(fields_in(before).saturating_sub(row.shape.lead)),
-        },
-        Strips::Bytes { base, unit },
-        Strips::Bytes {
-            base: end,
-            unit: step,
-        },
-        Strips::Words {
-            base: short(words_in(before).saturating_sub(row.shape.lead)),
-            count: short(words_in(line)),
-        },
-    ]
+    let start = match Words::new(line).next() {
+        Some(word) => word.start,
+        None => 0,
+    };
+    let before = &line[..start.min(line.len())];
+    let fields = Strips::Fields {
+        base: short(fields_in(before).saturating_sub(row.shape.lead)),
+    };
+    if !is_regular(piece) {
+        return [fields, bytes_of(line, 0), bytes_of(line, 2)];
+    }
+    let words = Strips::Words {
+        base: short(words_in(before).saturating_sub(row.shape.lead)),
+        count: short(words_in(line)),
+    };
+    [fields, words, words]
 }
 
 fn short(number: usize) -> u16 {
     number.min(60_000) as u16
 }
 
-// Where the first card of a row begins, or its last two bytes, and how far two cards are from one
-// another at least.
-fn bytes_of(line: &[u8], by_ends: bool) -> (u16, u16) {
-    let (mut base, mut unit) = (0, u16::MAX);
-    let mut before: Option<u16> = None;
+// The strips from the first card of a row on, as wide as two cards are close: each card begins where
+// its strip does, or ends so many bytes on.
+fn bytes_of(line: &[u8], len: usize) -> Strips {
+    let (mut base, mut unit) = (0, usize::MAX);
+    let mut before: Option<usize> = None;
     for word in Words::new(line) {
-        let at = if by_ends {
-            short(word.end.saturating_sub(2))
-        } else {
-            short(word.start)
+        let at = match len {
+            0 => word.start,
+            _ => word.end.saturating_sub(len),
         };
         match before {
             Some(before) => unit = unit.min(at.saturating_sub(before)),
@@ -462,26 +452,10 @@ fn bytes_of(line: &[u8], by_ends: bool) -> (u16, u16) {
         }
         before = Some(at);
     }
-    (base, unit)
-}
-
-// Whether a row of the board has a gap, or none is short but for the last one of a deal: else gaps
-// may be left out.
-fn shows_gaps<R: Rule>(board: &Board<R>) -> bool {
-    // The board has eight columns.
-    let _ = board.heights();
-    let most = board.column(0).len();
-    let mut before = most;
-    let mut are_full = true;
-    for number in 0..8 {
-        let height = board.column(number).len();
-        if height > before {
-            return true;
-        }
-        are_full = are_full && (height == most || height == 0);
-        before = height;
+    Strips::Bytes {
+        base: short(base),
+        unit: short(unit),
     }
-    are_full || is_dealt(board)
 }
 
 // Whether marks part the cards of each line.

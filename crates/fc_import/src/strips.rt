@@ -121,8 +121,8 @@ fn whole_strips(base: u16, unit: u16, place: usize) -> Option<usize>
     Some((place - base) / unit)
 }
 
-/// Whether each column has as many cards as a deal puts there.
-pub(crate) fn is_dealt<R: Rule>(board: &Board<R>) -> bool
+// Whether each column has as many cards as a deal puts there.
+fn is_dealt<R: Rule>(board: &Board<R>) -> bool
     ensures { result ≡ is_dealt board.now }
 {
     // The board has eight columns.
