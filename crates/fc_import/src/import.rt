@@ -225,7 +225,7 @@ impl<R: Rule> Importer<R> {
     // What the text begins with, and reads that. A number alone is a move where a solution begins.
     fn look_at(&self, text: &[u8], piece: &mut Piece) -> Result<PieceKind, AllocError> {
         let kind = piece.read::<R>(text)?;
-        if kind == PieceKind::Prose && piece.is_number && self.ends_without_moves() {
+        if kind == PieceKind::Prose && piece.held.is_number && self.ends_without_moves() {
             piece.go_on_with_moves::<R>(text)?;
             return Ok(PieceKind::Moves);
         }
@@ -237,7 +237,7 @@ impl<R: Rule> Importer<R> {
         if kind == PieceKind::Board && self.goes_on_with_boards() {
             boards_len(text)
         } else {
-            piece.len
+            piece.held.len
         }
     }
 
@@ -364,11 +364,9 @@ impl<R: Rule> Importer<R> {
             return Ok(());
         }
         match (first_misplaced(piece), read_board::<R>(lines)) {
-            (Misplaced::Label(at), _) => self.refuse_word(lines, at, NO_LABEL),
-            (Misplaced::Height(at), _) => self.refuse_word(lines, at, NO_HEIGHT),
-            (Misplaced::Word(at), _) => self.refuse_word(lines, at, NO_CARD),
-            (Misplaced::Nothing, Ok(_)) => self.refuse(lines, NO_BOARD),
-            (Misplaced::Nothing, Err(fault)) => self.refuse_fault(lines, fault),
+            (Some((at, words)), _) => self.refuse_word(lines, at, words),
+            (None, Ok(_)) => self.refuse(lines, NO_BOARD),
+            (None, Err(fault)) => self.refuse_fault(lines, fault),
         }
     }
 
@@ -508,7 +506,7 @@ impl<R: Rule> Importer<R> {
         let Some(board) = &self.made.last else {
             return self.made.refuse_list(self.alloc, lines, 0, NO_BOARD_BEFORE);
         };
-        if let Some(at) = piece.foreign {
+        if let Some(at) = piece.held.foreign {
             let words = word_reason(self.alloc, lines, at, NO_MOVE)?;
             return self
                 .made
@@ -541,33 +539,24 @@ impl<R: Rule> Importer<R> {
     }
 }
 
-/// Where the first word is that has no place in a board.
-#[derive(Clone, Copy)]
-enum Misplaced {
-    Nothing,
-    Label(usize),
-    Word(usize),
-    Height(usize),
-}
-
-// The first word of the lines that has no place in a board.
-fn first_misplaced(piece: &Piece) -> Misplaced {
-    let in_cells = match &piece.cells {
+// Where the first word of the lines is that has no place in a board, and what is said of it.
+fn first_misplaced(piece: &Piece) -> Option<(usize, &'static [u8])> {
+    let in_cells = match &piece.held.cells {
         Some(line) => line.other_word(),
         None => None,
     };
     for (row, line) in piece.rows.as_slice().iter().enumerate() {
         match (in_cells, line.other_word()) {
-            (Some(at), _) if at < line.start => return Misplaced::Word(at),
-            _ if !line.may_be_column(row) => return Misplaced::Label(line.start),
-            (_, Some(at)) => return Misplaced::Word(at),
+            (Some(at), _) if at < line.start => return Some((at, NO_CARD)),
+            _ if !line.may_be_column(row) => return Some((line.start, NO_LABEL)),
+            (_, Some(at)) => return Some((at, NO_CARD)),
             _ => {}
         }
     }
-    match (in_cells, piece.bad_height) {
-        (Some(at), _) => Misplaced::Word(at),
-        (None, Some(at)) => Misplaced::Height(at),
-        (None, None) => Misplaced::Nothing,
+    match (in_cells, piece.held.bad_height) {
+        (Some(at), _) => Some((at, NO_CARD)),
+        (None, Some(at)) => Some((at, NO_HEIGHT)),
+        (None, None) => None,
     }
 }
 

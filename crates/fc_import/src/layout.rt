@@ -5,7 +5,7 @@ ghost use Rattle.std.specs.Prelude.{All, drop, IsNone, IsTrue};
 
 use crate::labels::LabelKind;
 use crate::options::LinesAre;
-use crate::piece::{Piece, PieceLine};
+use crate::piece::Piece;
 use crate::playable::{MOST_DEALT, is_playable};
 use crate::scan::{Placed, named_card};
 use crate::strips::{Strips, fields_in, strip_of, tells_columns, words_in};
@@ -167,12 +167,8 @@ fn has_labels(text: &[u8], piece: &Piece) -> bool {
 // Whether a line of cards begins with a colon.
 fn has_colon(text: &[u8], piece: &Piece) -> bool {
     let rows = piece.rows.as_slice();
-    rows.iter().any(|line| begins_with_colon(text, line))
-}
-
-fn begins_with_colon(text: &[u8], line: &PieceLine) -> bool {
-    let bytes = text.get(line.start..).unwrap_or(b"");
-    bytes.trim_ascii_start().starts_with(b":")
+    rows.iter()
+        .any(|line| line.of(text).trim_ascii_start().starts_with(b":"))
 }
 
 // The layout of lines that are no rows: one of them may have all columns.
@@ -238,7 +234,7 @@ fn least_tabs(piece: &Piece) -> usize {
 
 // The board of the piece in this layout, if it is one.
 fn board_in<R: Rule>(text: &[u8], piece: &Piece, layout: Layout) -> Option<Board<R>> {
-    if piece.bad_height.is_some() {
+    if piece.held.bad_height.is_some() {
         return None;
     }
     let cells = cells_of::<R>(piece)?;
@@ -301,7 +297,7 @@ fn are_free(cells: &[Option<Card>]) -> bool
 }
 
 fn heights_of(piece: &Piece) -> Option<[Height; 4]> {
-    let [clubs, diamonds, hearts, spades] = piece.heights;
+    let [clubs, diamonds, hearts, spades] = piece.held.heights;
     Some([
         Height::new(clubs)?,
         Height::new(diamonds)?,
@@ -314,7 +310,7 @@ fn heights_of(piece: &Piece) -> Option<[Height; 4]> {
 // cell between.
 fn cells_of<R: Rule>(piece: &Piece) -> Option<[Option<Card>; 8]> {
     let mut cells = [None; 8];
-    let Some(line) = &piece.cells else {
+    let Some(line) = &piece.held.cells else {
         return Some(cells);
     };
     let placed = piece.placed(line);
