@@ -24,8 +24,8 @@ use Rattle.fc_collect.specs.declared.streams.faults.Summary.{Summary}
 use Rattle.fc_import.specs.{Labels.{says_column}, Notes.{after, after_heading, counted}}
 use Rattle.fc_import.specs.Notes.{first_state, IsNote, line_feeds, SaysUnless, State}
 use Rattle.fc_import.specs.Scan.{HasFewCards, is_in_words, is_list, is_number_alone, IsProse}
-use Rattle.fc_import.specs.Scan.{IsQuiet, lists_moves, said_in, words_of}
-use Rattle.fc_import.specs.{Strips.{tells_columns}, Words.{ended, named_in, named_lines, text_read}}
+use Rattle.fc_import.specs.{Scan.{IsQuiet, lists_moves, said_in, words_of}, Strips.{tells_columns}}
+use Rattle.fc_import.specs.Words.{ended, named_in, named_lines, text_read}
 use Rattle.fc_import.specs.declared.{
   layout.Layout.{Layout, TheVariants.{Columns, ColumnsInLine, Deal, Rows}},
   options.{ImportOptions.{ImportOptions}, LinesAre.{LinesAre}},

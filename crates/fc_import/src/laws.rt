@@ -15,16 +15,15 @@ ghost use Rattle.fc_import.specs.Import.{ListNeedsNoNote, Makes, may_be, most_de
 ghost use Rattle.fc_import.specs.{Import.{Reading, refusals, StaysLast}, inside.{of_columns}};
 ghost use Rattle.fc_import.specs.Notes.{name_by, Place, place_text, SaysUnless, State};
 ghost use Rattle.fc_import.specs.Scan.{HasFewCards, is_list, IsQuiet, moves_in, named_card};
-ghost use Rattle.fc_import.specs.Scan.{named_cards, said_in};
-ghost use Rattle.fc_import.specs.{Strips.{tells_columns}, Words.{decoded, named_in, named_lines}};
-ghost use Rattle.fc_import.specs.Words.{text_read};
-ghost use Rattle.fc_import.specs.declared.layout.Layout.TheVariants.{Columns, ColumnsInLine, Deal};
-ghost use Rattle.fc_import.specs.declared.layout.Layout.TheVariants.{Rows};
-ghost use Rattle.fc_import.specs.declared.options.ImportOptions.{ImportOptions};
-ghost use Rattle.fc_import.specs.declared.options.LinesAre.TheVariants.{Columns as AsColumns};
-ghost use Rattle.fc_import.specs.declared.options.LinesAre.TheVariants.{Rows as AsRows};
-ghost use Rattle.fc_import.specs.declared.options.Noted.TheVariants.{Changes, Doubts, Strict};
-ghost use Rattle.fc_import.specs.declared.strips.Strips.{Strips, TheVariants.{Bytes, Fields, Words}};
+ghost use Rattle.fc_import.specs.{Scan.{named_cards, said_in}, Strips.{tells_columns}};
+ghost use Rattle.fc_import.specs.Words.{decoded, named_in, named_lines, text_read};
+ghost use Rattle.fc_import.specs.declared.{
+  layout.Layout.TheVariants.{Columns, ColumnsInLine, Deal, Rows},
+  options.ImportOptions.{ImportOptions},
+  options.LinesAre.TheVariants.{Columns as AsColumns, Rows as AsRows},
+  options.Noted.TheVariants.{Changes, Doubts, Strict},
+  strips.Strips.{Strips, TheVariants.{Bytes, Fields, Words}},
+};
 
 /// The two letters of each card name it, also in the other order. `10` is the ten, a word of
 /// another length or with another letter names nothing, and `1` is the ace. A board's name is no

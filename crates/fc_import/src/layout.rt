@@ -67,15 +67,12 @@ pub(crate) fn draft_of<R: Rule>(text: &[u8], piece: &Piece, lines_are: LinesAre)
     if lines_are == LinesAre::Unsaid && may_be_columns {
         return columns_or_rows(text, piece);
     }
-    let rows = if lines_are == LinesAre::Columns && may_be_columns {
-        None
-    } else {
-        rows_of(text, piece)
-    };
-    match rows {
-        Some((board, layout)) if lines_are != LinesAre::Columns => if_playable(Some(board), layout),
-        None if lines_are == LinesAre::Columns && !has_gaps(piece) => {
+    match (lines_are, rows_of(text, piece)) {
+        (LinesAre::Columns, rows) if may_be_columns || !has_gaps(piece) && rows.is_none() => {
             if_playable(board_in(text, piece, Layout::Columns), Layout::Columns)
+        }
+        (LinesAre::Unsaid | LinesAre::Rows, Some((board, layout))) => {
+            if_playable(Some(board), layout)
         }
         _ => Drafted::NoBoard,
     }
@@ -84,7 +81,8 @@ pub(crate) fn draft_of<R: Rule>(text: &[u8], piece: &Piece, lines_are: LinesAre)
 // The board that the lines are as columns or as rows.
 fn columns_or_rows<R: Rule>(text: &[u8], piece: &Piece) -> Drafted<R> {
     let columns: Option<Board<R>> = board_in(text, piece, Layout::Columns);
-    let rows = if columns.is_some() && has_unplayable_row::<R>(piece) {
+    let are_many = piece.rows.len() > MOST_DEALT && !are_full(piece) && !is_parted(piece);
+    let rows = if columns.is_some() && are_many {
         None
     } else {
         rows_of(text, piece)
@@ -140,22 +138,11 @@ fn may_be_squeezed(piece: &Piece) -> bool {
     piece.rows.len() < 8 && last < first
 }
 
-// Whether no play could have put the cards of an eighth row on those above them.
-fn has_unplayable_row<R: Rule>(piece: &Piece) -> bool {
-    let mut above: Option<Card> = None;
-    for (row, line) in piece.rows.as_slice().iter().enumerate() {
-        let first = match piece.placed(line) {
-            [first, ..] => first.card,
-            [] => None,
-        };
-        if let (Some(card), Some(above)) = (first, above) {
-            if row >= MOST_DEALT && !R::builds(card, above) {
-                return true;
-            }
-        }
-        above = first;
-    }
-    false
+// Whether all lines have as many places as the first.
+fn are_full(piece: &Piece) -> bool {
+    let most = first_row(piece).len();
+    let rows = piece.rows.as_slice();
+    rows.iter().all(|line| piece.placed(line).len() == most)
 }
 
 // Whether a line of cards has a label, or begins with a colon.
@@ -200,8 +187,7 @@ fn are_short(piece: &Piece) -> bool {
 // Whether a line has a place without a card that is not in front of all lines: columns have no such
 // gaps.
 fn has_gaps(piece: &Piece) -> bool {
-    let lead = least_lead(piece);
-    let tabs = least_tabs(piece);
+    let (lead, tabs) = least_lead(piece);
     for line in piece.rows.as_slice() {
         let has_marks = line.shape.marks > lead && piece.placed(line).len() > 1;
         if line.shape.gaps > lead || line.shape.tabs > tabs || has_marks {
@@ -213,23 +199,19 @@ fn has_gaps(piece: &Piece) -> bool {
 
 // Whether a line has an empty field that is not in front of all lines: columns have none.
 fn has_empty_fields(piece: &Piece) -> bool {
-    let lead = least_lead(piece);
+    let (lead, _) = least_lead(piece);
     let rows = piece.rows.as_slice();
     rows.iter().any(|line| line.shape.gaps > lead)
 }
 
-// How many places without a card all lines of cards begin with, as bullets.
-fn least_lead(piece: &Piece) -> usize {
-    let rows = piece.rows.as_slice();
-    rows.iter()
-        .fold(usize::MAX, |least, line| least.min(line.shape.lead))
-}
-
-// How many tabs all lines of cards begin with.
-fn least_tabs(piece: &Piece) -> usize {
-    let rows = piece.rows.as_slice();
-    rows.iter()
-        .fold(usize::MAX, |least, line| least.min(line.shape.tabs))
+// How many places without a card all lines of cards begin with, as bullets, and how many tabs.
+fn least_lead(piece: &Piece) -> (usize, usize) {
+    let (mut lead, mut tabs) = (usize::MAX, usize::MAX);
+    for line in piece.rows.as_slice() {
+        lead = lead.min(line.shape.lead);
+        tabs = tabs.min(line.shape.tabs);
+    }
+    (lead, tabs)
 }
 
 // The board of the piece in this layout, if it is one.

@@ -574,13 +574,10 @@ fn said_of_height(word: &[u8], suit: Option<usize>) -> Said {
         return Said::Height(usize::from(card.suit().number()), card.rank().number());
     }
     match (suit, word) {
-        (None, [letter]) => match suit_of(*letter) {
-            Some(place) => Said::Suit(place),
-            None => Said::Bad,
-        },
-        (None, [letter, b'0']) => match suit_of(*letter) {
-            Some(place) => Said::Height(place, 0),
-            None => Said::Bad,
+        (None, [letter, height @ ..]) => match (suit_of(*letter), height) {
+            (Some(place), []) => Said::Suit(place),
+            (Some(place), b"0") => Said::Height(place, 0),
+            _ => Said::Bad,
         },
         (Some(place), _) => match height_of(word) {
             Some(height) => Said::Height(place, height),
