@@ -1,5 +1,5 @@
 use Rattle.std.{proofs.Common.{◌≡◌}, specs.List.{list_all}}
-use Rattle.fc_import.specs.{Scan.{uncommented}, Seen.{words_left}, Strips.{are_below, has_strips, is_below}}
+use Rattle.fc_import.specs.{Seen.{words_left}, Strips.{are_below, is_below}}
 use Rattle.fc_import.proofs.strips.are_below.Given as goal
 
 -- the words that are left are so exactly if all are
