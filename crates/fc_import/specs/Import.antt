@@ -24,7 +24,7 @@ use Rattle.fc_collect.specs.declared.streams.faults.Summary.{Summary}
 use Rattle.fc_import.specs.{Labels.{says_column}, Notes.{after, after_heading, counted}}
 use Rattle.fc_import.specs.Notes.{first_state, IsNote, line_feeds, SaysUnless, State}
 use Rattle.fc_import.specs.Scan.{HasFewCards, is_in_words, is_list, is_number_alone, IsProse}
-use Rattle.fc_import.specs.Scan.{IsQuiet, lists_moves, said_in, words_of}
+use Rattle.fc_import.specs.{Scan.{IsQuiet, lists_moves, said_in, words_of}, Strips.{tells_columns}}
 use Rattle.fc_import.specs.Words.{ended, named_in, named_lines, text_read}
 use Rattle.fc_import.specs.declared.{
   layout.Layout.{Layout, TheVariants.{Columns, ColumnsInLine, Deal, Rows}},
@@ -47,7 +47,7 @@ in_row board row = flat_map (λ column. option_to_list (slice_get column row)) b
 -- the cards of the columns as lines name them in this layout, with an end after those of each line
 abbrev pub lines_in : Layout → Board → List ℕ
 lines_in Columns board = flat_map ended board.columns
-lines_in Rows board = flat_map (λ row. ended (in_row board row)) (places 52)
+lines_in (Rows strips) board = flat_map (λ row. ended (in_row board row)) (places 52)
 lines_in ColumnsInLine board = flat_map ended board.columns
 lines_in Deal board = ended (flat_map (in_row board) (places 52))
 
@@ -123,15 +123,15 @@ AreIn layout piece board =
 
 -- lines that are said to be columns are no rows; and of lines that are said to be rows one must say that it is a column's, if they are columns
 abbrev pub may_be : LinesAre → Layout → (piece : Text) → Bool
-may_be AsColumns Rows piece = false
+may_be AsColumns (Rows strips) piece = false
 may_be AsRows Columns piece = list_any (λ line. says_column line.bytes) (lines_from 0 piece)
 may_be lines_are layout piece = true
 
--- the lines are the board as it is printed; or they spell it out, and may be columns; or they name its cards in a layout that they may have
+-- the lines are the board as it is printed; or they spell it out, and may be columns; or they name its cards in a layout that they may have, where rows tell under which columns these stand
 pub data IsReadAs (lines_are : LinesAre) (game : Game) (piece : Text) (board : Board) : Type 0 where
   printed : piece ≡ text_of board → IsReadAs lines_are game piece board
   spelled : may_be lines_are Columns piece ≡ true → SpellsOut game piece board → IsReadAs lines_are game piece board
-  laid : (layout : Layout) → may_be lines_are layout piece ≡ true → AreIn layout piece board → IsReadAs lines_are game piece board
+  laid : (layout : Layout) → may_be lines_are layout piece ≡ true → tells_columns layout piece board ≡ true → AreIn layout piece board → IsReadAs lines_are game piece board
 
 -- how many cards a deal puts into a column at most
 abbrev pub most_dealt : ℕ

@@ -4,5 +4,6 @@ pub mod Seen
 pub mod Labels
 pub mod Words
 pub mod Notes
+pub mod Strips
 pub mod Import
 pub mod inside

@@ -71,18 +71,7 @@ fn push_cards(cards: &mut Vec<Card>, text: &[u8]) -> Result<(), AllocError>
         (map with_end (words_from parts_words 0 text.now))) }
 {
     for word in Words::new(text) {
-        push_named(cards, word.text)?;
-    }
-    Ok(())
-}
-
-// Appends the card that the word names, if it names one.
-fn push_named(cards: &mut Vec<Card>, word: &[u8]) -> Result<(), AllocError>
-    ensures { OnOk result
-        (cards.new.items ≡ cards.old.items ++ option_to_list (named_card word.now)) }
-{
-    if let Some(card) = named_card(word) {
-        cards.push(card)?;
+        push_some(cards, named_card(word.text))?;
     }
     Ok(())
 }
@@ -174,7 +163,7 @@ fn lines_in<R: Rule>(alloc: Global, layout: Layout, board: &Board<R>) -> Result<
     let mut cards = Vec::with_capacity(alloc, MOST)?;
     match layout {
         Layout::Columns | Layout::ColumnsInLine => push_columns(&mut cards, board)?,
-        Layout::Rows => push_rows(alloc, &mut cards, board, true)?,
+        Layout::Rows(_) => push_rows(alloc, &mut cards, board, true)?,
         Layout::Deal => {
             push_rows(alloc, &mut cards, board, false)?;
             push_end(&mut cards)?;
@@ -269,9 +258,7 @@ fn cards_in_cells(alloc: Global, cells: &[Option<Card>]) -> Result<Vec<Card>, Al
 {
     let mut cards = Vec::new(alloc);
     for cell in cells {
-        if let Some(card) = *cell {
-            cards.push(card)?;
-        }
+        push_some(&mut cards, *cell)?;
     }
     Ok(cards)
 }

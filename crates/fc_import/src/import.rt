@@ -11,7 +11,7 @@ ghost use Rattle.fc_record.specs.{Printing.{header_text, list_line}, RecordTexts
 ghost use Rattle.fc_import.specs.{Import.{HasNoHeader, IsPrinted}, inside.{AreWhole, IsMade}};
 ghost use Rattle.fc_import.specs.inside.{KeepsFirst, Takes, TakesAsItIs, TakesFirst, TakesName};
 
-use crate::layout::{Drafted, Layout, draft_of, read_rows};
+use crate::layout::{Drafted, Layout, draft_of, read_rows, strips_of};
 use crate::line::line_len;
 use crate::lists::{ListRead, moves_on};
 use crate::made::{Form, Made};
@@ -19,6 +19,7 @@ use crate::options::{ImportOptions, LinesAre};
 use crate::piece::{FIRST_RULE, Piece, PieceKind, SOLVED};
 use crate::reasons::{NO_CARD, board_reason, move_reason, word_reason};
 use crate::spelled::is_same;
+use crate::strips::Strips;
 use crate::titles::{title_of, variant_titled};
 use fc_board::{Board, Rule};
 use fc_text::{BoardFault, Lines, read_board};
@@ -59,6 +60,8 @@ const REWRITTEN: &[u8] = b"these moves are rewritten in fcanon's notation";
 
 /// How many bytes a deal has in lines of cards: two for each card, and one after it.
 const DEAL_LEN: usize = 52 * 3;
+
+const DEALT: Strips = Strips::Bytes { base: 0, unit: 3 };
 
 /// How much of a solution was there that has no move yet.
 #[derive(Clone, Copy)]
@@ -222,7 +225,7 @@ impl<R: Rule> Importer<R> {
     // What the text begins with, and reads that. A number alone is a move where a solution begins.
     fn look_at(&self, text: &[u8], piece: &mut Piece) -> Result<PieceKind, AllocError> {
         let kind = piece.read::<R>(text)?;
-        if kind == PieceKind::Prose && piece.is_number && self.ends_without_moves() {
+        if kind == PieceKind::Prose && piece.held.is_number && self.ends_without_moves() {
             piece.go_on_with_moves::<R>(text)?;
             return Ok(PieceKind::Moves);
         }
@@ -234,7 +237,7 @@ impl<R: Rule> Importer<R> {
         if kind == PieceKind::Board && self.goes_on_with_boards() {
             boards_len(text)
         } else {
-            piece.len
+            piece.held.len
         }
     }
 
@@ -272,7 +275,7 @@ impl<R: Rule> Importer<R> {
                     None => return Ok(false),
                 }
             }
-            (Layout::Rows, LinesAre::Unsaid | LinesAre::Rows) => match read_rows::<R>(lines) {
+            (Layout::Rows(_), LinesAre::Unsaid | LinesAre::Rows) => match read_rows::<R>(lines) {
                 Some(board) => self.take_read(lines, board, layout)?,
                 None => return Ok(false),
             },
@@ -356,28 +359,31 @@ impl<R: Rule> Importer<R> {
     fn take_no_board(&mut self, lines: &[u8], piece: &Piece) -> Result<(), AllocError>
         ensures { OnOk result (Takes R.VARIANT R.game lines.now self.old.made self.new.made) }
     {
-        if matches!(self.solution, Solution::Rule) && self.is_drawn_again(lines)? {
+        if matches!(self.solution, Solution::Rule) && self.is_drawn_again(lines, piece)? {
             self.solution = Solution::Board;
             return Ok(());
         }
         match (first_misplaced(piece), read_board::<R>(lines)) {
-            (Misplaced::Label(at), _) => self.refuse_word(lines, at, NO_LABEL),
-            (Misplaced::Height(at), _) => self.refuse_word(lines, at, NO_HEIGHT),
-            (Misplaced::Word(at), _) => self.refuse_word(lines, at, NO_CARD),
-            (Misplaced::Nothing, Ok(_)) => self.refuse(lines, NO_BOARD),
-            (Misplaced::Nothing, Err(fault)) => self.refuse_fault(lines, fault),
+            (Some((at, words)), _) => self.refuse_word(lines, at, words),
+            (None, Ok(_)) => self.refuse(lines, NO_BOARD),
+            (None, Err(fault)) => self.refuse_fault(lines, fault),
         }
     }
 
     // Passes lines that are the last board once more, in rows or in columns, as a solver draws it.
     // Returns whether they are.
-    fn is_drawn_again(&mut self, lines: &[u8]) -> Result<bool, AllocError>
+    fn is_drawn_again(&mut self, lines: &[u8], piece: &Piece) -> Result<bool, AllocError>
         ensures taken { IfOk result (λ taken. IsTrue taken
             → Takes R.VARIANT R.game lines.now self.old.made self.new.made) }
         ensures kept { IfOk result (λ taken. taken ≡ false → self.new.made ≡ self.old.made) }
     {
-        if self.made.see_again(self.alloc, lines, Layout::Rows)? {
-            return Ok(true);
+        for strips in strips_of(lines, piece) {
+            if self
+                .made
+                .see_again(self.alloc, lines, Layout::Rows(strips))?
+            {
+                return Ok(true);
+            }
         }
         self.made.see_again(self.alloc, lines, Layout::Columns)
     }
@@ -500,7 +506,7 @@ impl<R: Rule> Importer<R> {
         let Some(board) = &self.made.last else {
             return self.made.refuse_list(self.alloc, lines, 0, NO_BOARD_BEFORE);
         };
-        if let Some(at) = piece.foreign {
+        if let Some(at) = piece.held.foreign {
             let words = word_reason(self.alloc, lines, at, NO_MOVE)?;
             return self
                 .made
@@ -533,33 +539,24 @@ impl<R: Rule> Importer<R> {
     }
 }
 
-/// Where the first word is that has no place in a board.
-#[derive(Clone, Copy)]
-enum Misplaced {
-    Nothing,
-    Label(usize),
-    Word(usize),
-    Height(usize),
-}
-
-// The first word of the lines that has no place in a board.
-fn first_misplaced(piece: &Piece) -> Misplaced {
-    let in_cells = match &piece.cells {
+// Where the first word of the lines is that has no place in a board, and what is said of it.
+fn first_misplaced(piece: &Piece) -> Option<(usize, &'static [u8])> {
+    let in_cells = match &piece.held.cells {
         Some(line) => line.other_word(),
         None => None,
     };
     for (row, line) in piece.rows.as_slice().iter().enumerate() {
         match (in_cells, line.other_word()) {
-            (Some(at), _) if at < line.start => return Misplaced::Word(at),
-            _ if !line.may_be_column(row) => return Misplaced::Label(line.start),
-            (_, Some(at)) => return Misplaced::Word(at),
+            (Some(at), _) if at < line.start => return Some((at, NO_CARD)),
+            _ if !line.may_be_column(row) => return Some((line.start, NO_LABEL)),
+            (_, Some(at)) => return Some((at, NO_CARD)),
             _ => {}
         }
     }
-    match (in_cells, piece.bad_height) {
-        (Some(at), _) => Misplaced::Word(at),
-        (None, Some(at)) => Misplaced::Height(at),
-        (None, None) => Misplaced::Nothing,
+    match (in_cells, piece.held.bad_height) {
+        (Some(at), _) => Some((at, NO_CARD)),
+        (None, Some(at)) => Some((at, NO_HEIGHT)),
+        (None, None) => None,
     }
 }
 
@@ -610,7 +607,7 @@ fn deal_layout(text: &[u8]) -> Option<Layout> {
     let is_last = matches!(text.get(DEAL_LEN), None | Some(b'\n' | b'@'));
     match lines.saturating_add(usize::from(is_cut)) {
         8 if is_whole && is_last => Some(Layout::Columns),
-        7 if is_whole && is_last && are_rows => Some(Layout::Rows),
+        7 if is_whole && is_last && are_rows => Some(Layout::Rows(DEALT)),
         _ => None,
     }
 }

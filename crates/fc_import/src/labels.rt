@@ -11,9 +11,10 @@ use crate::solver::{count_words, word_at};
 use crate::words::{Word, Words, before_mark, uncommented};
 
 /// What a label says that its line is.
-#[derive(Clone, Copy, PartialEq, Eq, Debug)]
+#[derive(Clone, Copy, PartialEq, Eq, Debug, Default)]
 pub(crate) enum LabelKind {
     /// There is none, or a colon alone.
+    #[default]
     Bare,
     /// The column of this number, from 1 to 8.
     Column(u8),

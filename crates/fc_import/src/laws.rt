@@ -15,14 +15,15 @@ ghost use Rattle.fc_import.specs.Import.{ListNeedsNoNote, Makes, may_be, most_de
 ghost use Rattle.fc_import.specs.{Import.{Reading, refusals, StaysLast}, inside.{of_columns}};
 ghost use Rattle.fc_import.specs.Notes.{name_by, Place, place_text, SaysUnless, State};
 ghost use Rattle.fc_import.specs.Scan.{HasFewCards, is_list, IsQuiet, moves_in, named_card};
-ghost use Rattle.fc_import.specs.Scan.{named_cards, said_in};
+ghost use Rattle.fc_import.specs.{Scan.{named_cards, said_in}, Strips.{tells_columns}};
 ghost use Rattle.fc_import.specs.Words.{decoded, named_in, named_lines, text_read};
-ghost use Rattle.fc_import.specs.declared.layout.Layout.TheVariants.{Columns, ColumnsInLine, Deal};
-ghost use Rattle.fc_import.specs.declared.layout.Layout.TheVariants.{Rows};
-ghost use Rattle.fc_import.specs.declared.options.ImportOptions.{ImportOptions};
-ghost use Rattle.fc_import.specs.declared.options.LinesAre.TheVariants.{Columns as AsColumns};
-ghost use Rattle.fc_import.specs.declared.options.LinesAre.TheVariants.{Rows as AsRows};
-ghost use Rattle.fc_import.specs.declared.options.Noted.TheVariants.{Changes, Doubts, Strict};
+ghost use Rattle.fc_import.specs.declared.{
+  layout.Layout.TheVariants.{Columns, ColumnsInLine, Deal, Rows},
+  options.ImportOptions.{ImportOptions},
+  options.LinesAre.TheVariants.{Columns as AsColumns, Rows as AsRows},
+  options.Noted.TheVariants.{Changes, Doubts, Strict},
+  strips.Strips.{Strips, TheVariants.{Bytes, Fields, Words}},
+};
 
 /// The two letters of each card name it, also in the other order. `10` is the ten, a word of
 /// another length or with another letter names nothing, and `1` is the ace. A board's name is no
@@ -114,7 +115,7 @@ pub fn solutions_are_whole()
 pub fn lines_are_in_layouts()
     ensures columns { lines_in Columns
         (of_columns ((51 ∷ 47 ∷ []) ∷ [] ∷ (50 ∷ []) ∷ [])) ≡ 51 ∷ 47 ∷ 52 ∷ 50 ∷ 52 ∷ [] }
-    ensures rows { lines_in Rows
+    ensures rows { lines_in (Rows (Fields 0))
         (of_columns ((51 ∷ 47 ∷ []) ∷ [] ∷ (50 ∷ []) ∷ [])) ≡ 51 ∷ 50 ∷ 52 ∷ 47 ∷ 52 ∷ [] }
     ensures columns_in_line { lines_in ColumnsInLine
         (of_columns ((51 ∷ 47 ∷ []) ∷ [] ∷ (50 ∷ []) ∷ [])) ≡ 51 ∷ 47 ∷ 52 ∷ 50 ∷ 52 ∷ [] }
@@ -127,12 +128,32 @@ pub fn lines_are_in_layouts()
         (of_columns ((50 ∷ []) ∷ (51 ∷ []) ∷ [])) }
     ensures parted { AreIn ColumnsInLine (codes "[KH];KS/QH|QS")
         (of_columns ((50 ∷ []) ∷ (51 ∷ []) ∷ (46 ∷ []) ∷ (47 ∷ []) ∷ [])) }
-    ensures no_rows { (piece : Text) → may_be AsColumns Rows piece ≡ false }
+    ensures no_rows { (strips : Strips) (piece : Text)
+        → may_be AsColumns (Rows strips) piece ≡ false }
     ensures no_columns { may_be AsRows Columns (codes "KH KS") ≡ false }
     ensures cells_alone { may_be AsRows Columns (codes "Freecells: KH") ≡ false }
     ensures numbered { may_be AsRows Columns (codes "1. KH KS") ≡ true }
     ensures labelled { may_be AsRows Columns (codes "Column 1: KH KS") ≡ true }
     ensures marked { may_be AsRows Columns (codes ": KH KS") ≡ true }
+{}
+
+/// Rows tell under which columns their cards stand: by bytes where no mark stands for a card, by
+/// fields, or by words of which each line has as many. One column to the left they are not told.
+pub fn rows_tell_columns()
+    ensures bytes { tells_columns (Rows (Bytes 1 4)) (codes " KH  KS" ++ line_feed ∷ codes "    10H")
+        (of_columns ((50 ∷ []) ∷ (51 ∷ 38 ∷ []) ∷ [])) ≡ true }
+    ensures bytes_left { tells_columns (Rows (Bytes 0 3)) (codes "KH KS" ++ line_feed ∷ codes "   QH")
+        (of_columns ((50 ∷ 46 ∷ []) ∷ (51 ∷ []) ∷ [])) ≡ false }
+    ensures marked { tells_columns (Rows (Bytes 0 3)) (codes "KH KS" ++ line_feed ∷ codes "-  QH")
+        (of_columns ((50 ∷ []) ∷ (51 ∷ 46 ∷ []) ∷ [])) ≡ false }
+    ensures fields { tells_columns (Rows (Fields 0)) (codes "KH,KS" ++ line_feed ∷ codes ",QH")
+        (of_columns ((50 ∷ []) ∷ (51 ∷ 46 ∷ []) ∷ [])) ≡ true }
+    ensures fields_left { tells_columns (Rows (Fields 0)) (codes "KH,KS" ++ line_feed ∷ codes ",QH")
+        (of_columns ((50 ∷ 46 ∷ []) ∷ (51 ∷ []) ∷ [])) ≡ false }
+    ensures words { tells_columns (Rows (Words 0 2)) (codes "KH KS" ++ line_feed ∷ codes "- QH")
+        (of_columns ((50 ∷ []) ∷ (51 ∷ 46 ∷ []) ∷ [])) ≡ true }
+    ensures words_lack { tells_columns (Rows (Words 0 2)) (codes "KH KS" ++ line_feed ∷ codes "QH")
+        (of_columns ((50 ∷ 46 ∷ []) ∷ (51 ∷ []) ∷ [])) ≡ false }
 {}
 
 /// Each sign of a suit, filled or outlined, is the letter of its suit, before the rank too; a

@@ -5,9 +5,11 @@ ghost use Rattle.std.specs.Prelude.{All, drop, IsNone, IsTrue};
 
 use crate::labels::LabelKind;
 use crate::options::LinesAre;
-use crate::piece::{Piece, PieceLine};
+use crate::piece::Piece;
 use crate::playable::{MOST_DEALT, is_playable};
-use crate::scan::Placed;
+use crate::scan::{Placed, named_card};
+use crate::strips::{Strips, fields_in, strip_of, tells_columns, words_in};
+use crate::words::{Word, Words};
 use arrayvec::ArrayVec;
 use fc_board::{Board, Height, Rule, no_cards};
 use fc_card::Card;
@@ -18,8 +20,8 @@ use fc_text::read_board;
 pub(crate) enum Layout {
     /// Each line is a column.
     Columns,
-    /// Each line is a row of the columns' cards.
-    Rows,
+    /// Each line is a row of the columns' cards, which stand in these strips.
+    Rows(Strips),
     /// One line has the columns, parted by marks.
     ColumnsInLine,
     /// One line has the cards in the order of dealing.
@@ -30,7 +32,7 @@ pub(crate) enum Layout {
 pub(crate) fn layout_words(layout: Layout) -> &'static [u8] {
     match layout {
         Layout::Columns => b"these lines are read as columns",
-        Layout::Rows => b"the lines of cards are rows, now columns",
+        Layout::Rows(_) => b"the lines of cards are rows, now columns",
         Layout::ColumnsInLine => b"this line is cut into columns at its marks",
         Layout::Deal => b"these cards are dealt in rows of eight, now columns",
     }
@@ -51,64 +53,73 @@ pub(crate) enum Drafted<R: Rule> {
 /// The board that the lines are in one of the layouts that their shape allows.
 pub(crate) fn draft_of<R: Rule>(text: &[u8], piece: &Piece, lines_are: LinesAre) -> Drafted<R> {
     let has_labels = has_labels(text, piece);
-    let are_lines = piece.rows.len() > 1 || lines_are == LinesAre::Rows;
-    let may_be_rows = !has_labels && are_lines && are_short(piece);
-    let grid = if may_be_rows { grid_of(piece) } else { None };
-    let loses_places = match (may_be_rows, lines_are) {
-        (true, LinesAre::Columns) => has_gaps(piece, grid),
-        (true, _) => false,
-        (false, _) => piece.rows.len() > 1 && has_empty_fields(piece),
-    };
-    if loses_places {
-        return Drafted::NoBoard;
-    }
-    let (first, second) = match (may_be_rows, lines_are) {
-        (false, _) if piece.rows.len() == 1 && !has_colon(text, piece) => {
-            layout_of_line(first_row(piece))
+    let are_lines = piece.rows.len() > 1;
+    let may_be_rows = !has_labels && are_short(piece) && (are_lines || lines_are == LinesAre::Rows);
+    if !may_be_rows {
+        let layout = layout_of_lines(text, piece);
+        let is_said = lines_are == LinesAre::Rows && layout == Layout::Columns && !has_labels;
+        if is_said || are_lines && has_empty_fields(piece) {
+            return Drafted::NoBoard;
         }
-        (false, _) | (_, LinesAre::Columns) => (Layout::Columns, None),
-        (true, _) => layouts_of_lines(piece, lines_are, grid),
-    };
-    if lines_are == LinesAre::Rows && first == Layout::Columns && !has_labels {
-        return Drafted::NoBoard;
+        return if_playable(board_in(text, piece, layout), layout);
     }
-    draft_in::<R>(piece, grid, first, second)
-}
-
-// The board that the lines are in the first layout, or in the second one if there is one.
-fn draft_in<R: Rule>(
-    piece: &Piece,
-    grid: Option<Grid>,
-    first: Layout,
-    second: Option<Layout>,
-) -> Drafted<R> {
-    let columns: Option<Board<R>> = board_in(piece, first, grid);
-    let rows: Option<Board<R>> = match second {
-        Some(_) if columns.is_some() && has_unplayable_row::<R>(piece) => None,
-        Some(layout) => board_in(piece, layout, grid),
-        None => None,
-    };
-    match (columns, rows, second) {
-        (Some(_), None, Some(_)) if may_be_squeezed(piece) => Drafted::Question,
-        (Some(board), None, _) => if_playable(board, first),
-        (None, Some(board), Some(layout)) => if_playable(board, layout),
-        (Some(columns), Some(rows), Some(layout)) => {
-            match (is_playable(&columns), is_playable(&rows)) {
-                (true, false) => Drafted::Board(columns, first),
-                (false, true) => Drafted::Board(rows, layout),
-                (true, true) => Drafted::Question,
-                (false, false) => Drafted::Unplayable,
-            }
+    let may_be_columns = !has_gaps(piece) && is_regular(piece);
+    if lines_are == LinesAre::Unsaid && may_be_columns {
+        return columns_or_rows(text, piece);
+    }
+    match (lines_are, rows_of(text, piece)) {
+        (LinesAre::Columns, rows) if may_be_columns || !has_gaps(piece) && rows.is_none() => {
+            if_playable(board_in(text, piece, Layout::Columns), Layout::Columns)
+        }
+        (LinesAre::Unsaid | LinesAre::Rows, Some((board, layout))) => {
+            if_playable(Some(board), layout)
         }
         _ => Drafted::NoBoard,
     }
 }
 
-fn if_playable<R: Rule>(board: Board<R>, layout: Layout) -> Drafted<R> {
-    if is_playable(&board) {
-        Drafted::Board(board, layout)
+// The board that the lines are as columns or as rows.
+fn columns_or_rows<R: Rule>(text: &[u8], piece: &Piece) -> Drafted<R> {
+    let columns: Option<Board<R>> = board_in(text, piece, Layout::Columns);
+    let are_many = piece.rows.len() > MOST_DEALT && !are_full(piece) && !is_parted(piece);
+    let rows = if columns.is_some() && are_many {
+        None
     } else {
-        Drafted::Unplayable
+        rows_of(text, piece)
+    };
+    match (columns, rows) {
+        (Some(_), None) if may_be_squeezed(piece) => Drafted::Question,
+        (columns, None) => if_playable(columns, Layout::Columns),
+        (None, Some((board, layout))) => if_playable(Some(board), layout),
+        (Some(columns), Some((rows, layout))) => {
+            match (is_playable(&columns), is_playable(&rows)) {
+                (true, false) => Drafted::Board(columns, Layout::Columns),
+                (false, true) => Drafted::Board(rows, layout),
+                (true, true) => Drafted::Question,
+                (false, false) => Drafted::Unplayable,
+            }
+        }
+    }
+}
+
+// The board of the lines as rows, and the layout that tells under which columns their cards stand.
+fn rows_of<R: Rule>(text: &[u8], piece: &Piece) -> Option<(Board<R>, Layout)> {
+    for strips in strips_of(text, piece) {
+        let layout = Layout::Rows(strips);
+        if let Some(board) = board_in(text, piece, layout) {
+            if tells_columns(layout, text, &board) {
+                return Some((board, layout));
+            }
+        }
+    }
+    None
+}
+
+fn if_playable<R: Rule>(board: Option<Board<R>>, layout: Layout) -> Drafted<R> {
+    match board {
+        Some(board) if is_playable(&board) => Drafted::Board(board, layout),
+        Some(_) => Drafted::Unplayable,
+        None => Drafted::NoBoard,
     }
 }
 
@@ -127,35 +138,11 @@ fn may_be_squeezed(piece: &Piece) -> bool {
     piece.rows.len() < 8 && last < first
 }
 
-// Whether no play could have put the cards of an eighth row on those above them.
-fn has_unplayable_row<R: Rule>(piece: &Piece) -> bool {
-    let mut above: Option<Card> = None;
-    for (row, line) in piece.rows.as_slice().iter().enumerate() {
-        let first = match piece.placed(line) {
-            [first, ..] => first.card,
-            [] => None,
-        };
-        if let (Some(card), Some(above)) = (first, above) {
-            if row >= MOST_DEALT && !R::builds(card, above) {
-                return true;
-            }
-        }
-        above = first;
-    }
-    false
-}
-
-// The one or two layouts that the shape of lines allows that may be rows.
-fn layouts_of_lines(
-    piece: &Piece,
-    lines_are: LinesAre,
-    grid: Option<Grid>,
-) -> (Layout, Option<Layout>) {
-    if lines_are == LinesAre::Rows || has_gaps(piece, grid) || !is_regular(piece) {
-        (Layout::Rows, None)
-    } else {
-        (Layout::Columns, Some(Layout::Rows))
-    }
+// Whether all lines have as many places as the first.
+fn are_full(piece: &Piece) -> bool {
+    let most = first_row(piece).len();
+    let rows = piece.rows.as_slice();
+    rows.iter().all(|line| piece.placed(line).len() == most)
 }
 
 // Whether a line of cards has a label, or begins with a colon.
@@ -167,20 +154,19 @@ fn has_labels(text: &[u8], piece: &Piece) -> bool {
 // Whether a line of cards begins with a colon.
 fn has_colon(text: &[u8], piece: &Piece) -> bool {
     let rows = piece.rows.as_slice();
-    rows.iter().any(|line| begins_with_colon(text, line))
+    rows.iter()
+        .any(|line| line.of(text).trim_ascii_start().starts_with(b":"))
 }
 
-fn begins_with_colon(text: &[u8], line: &PieceLine) -> bool {
-    let bytes = text.get(line.start..).unwrap_or(b"");
-    bytes.trim_ascii_start().starts_with(b":")
-}
-
-// The layout of one line of cards.
-fn layout_of_line(placed: &[Placed]) -> (Layout, Option<Layout>) {
+// The layout of lines that are no rows: one of them may have all columns.
+fn layout_of_lines(text: &[u8], piece: &Piece) -> Layout {
+    let placed = first_row(piece);
     match (placed.first(), placed.last()) {
-        _ if placed.len() <= 13 => (Layout::Columns, None),
-        (Some(first), Some(last)) if first.group < last.group => (Layout::ColumnsInLine, None),
-        _ => (Layout::Deal, None),
+        _ if piece.rows.len() != 1 || placed.len() <= 13 || has_colon(text, piece) => {
+            Layout::Columns
+        }
+        (Some(first), Some(last)) if first.group < last.group => Layout::ColumnsInLine,
+        _ => Layout::Deal,
     }
 }
 
@@ -198,19 +184,13 @@ fn are_short(piece: &Piece) -> bool {
     rows.iter().all(|line| piece.placed(line).len() <= 8)
 }
 
-// Whether a line has a place without a card that is not in front of all lines, or a place of the
-// grid without a card before its last one: columns have no such gaps.
-fn has_gaps(piece: &Piece, grid: Option<Grid>) -> bool {
-    let lead = least_lead(piece);
-    let tabs = least_tabs(piece);
+// Whether a line has a place without a card that is not in front of all lines: columns have no such
+// gaps.
+fn has_gaps(piece: &Piece) -> bool {
+    let (lead, tabs) = least_lead(piece);
     for line in piece.rows.as_slice() {
-        let row = piece.placed(line);
-        let has_marks = line.shape.marks > lead && row.len() > 1;
-        let goes_beyond = match (grid, row.last()) {
-            (Some(_), Some(last)) => column_in(grid, *last, 0) >= row.len(),
-            _ => false,
-        };
-        if line.shape.gaps > lead || line.shape.tabs > tabs || has_marks || goes_beyond {
+        let has_marks = line.shape.marks > lead && piece.placed(line).len() > 1;
+        if line.shape.gaps > lead || line.shape.tabs > tabs || has_marks {
             return true;
         }
     }
@@ -219,32 +199,28 @@ fn has_gaps(piece: &Piece, grid: Option<Grid>) -> bool {
 
 // Whether a line has an empty field that is not in front of all lines: columns have none.
 fn has_empty_fields(piece: &Piece) -> bool {
-    let lead = least_lead(piece);
+    let (lead, _) = least_lead(piece);
     let rows = piece.rows.as_slice();
     rows.iter().any(|line| line.shape.gaps > lead)
 }
 
-// How many places without a card all lines of cards begin with, as bullets.
-fn least_lead(piece: &Piece) -> usize {
-    let rows = piece.rows.as_slice();
-    rows.iter()
-        .fold(usize::MAX, |least, line| least.min(line.shape.lead))
-}
-
-// How many tabs all lines of cards begin with.
-fn least_tabs(piece: &Piece) -> usize {
-    let rows = piece.rows.as_slice();
-    rows.iter()
-        .fold(usize::MAX, |least, line| least.min(line.shape.tabs))
+// How many places without a card all lines of cards begin with, as bullets, and how many tabs.
+fn least_lead(piece: &Piece) -> (usize, usize) {
+    let (mut lead, mut tabs) = (usize::MAX, usize::MAX);
+    for line in piece.rows.as_slice() {
+        lead = lead.min(line.shape.lead);
+        tabs = tabs.min(line.shape.tabs);
+    }
+    (lead, tabs)
 }
 
 // The board of the piece in this layout, if it is one.
-fn board_in<R: Rule>(piece: &Piece, layout: Layout, grid: Option<Grid>) -> Option<Board<R>> {
-    if piece.bad_height.is_some() {
+fn board_in<R: Rule>(text: &[u8], piece: &Piece, layout: Layout) -> Option<Board<R>> {
+    if piece.held.bad_height.is_some() {
         return None;
     }
     let cells = cells_of::<R>(piece)?;
-    let columns = columns_of(piece, layout, grid)?;
+    let columns = columns_of(text, piece, layout)?;
     let heights = heights_of(piece)?;
     board_of::<R>(heights, cells, columns)
 }
@@ -303,7 +279,7 @@ fn are_free(cells: &[Option<Card>]) -> bool
 }
 
 fn heights_of(piece: &Piece) -> Option<[Height; 4]> {
-    let [clubs, diamonds, hearts, spades] = piece.heights;
+    let [clubs, diamonds, hearts, spades] = piece.held.heights;
     Some([
         Height::new(clubs)?,
         Height::new(diamonds)?,
@@ -316,7 +292,7 @@ fn heights_of(piece: &Piece) -> Option<[Height; 4]> {
 // cell between.
 fn cells_of<R: Rule>(piece: &Piece) -> Option<[Option<Card>; 8]> {
     let mut cells = [None; 8];
-    let Some(line) = &piece.cells else {
+    let Some(line) = &piece.held.cells else {
         return Some(cells);
     };
     let placed = piece.placed(line);
@@ -338,21 +314,13 @@ fn cells_of<R: Rule>(piece: &Piece) -> Option<[Option<Card>; 8]> {
 
 // The columns that the lines are in the layout. A blank line between columns stands for an empty
 // one, if a board has room for all.
-fn columns_of(
-    piece: &Piece,
-    layout: Layout,
-    grid: Option<Grid>,
-) -> Option<[ArrayVec<Card, 52>; 8]> {
-    if layout == Layout::Rows && !(has_columns(piece, grid) && have_equal_bars(piece)) {
-        return None;
-    }
+fn columns_of(text: &[u8], piece: &Piece, layout: Layout) -> Option<[ArrayVec<Card, 52>; 8]> {
     let rows = piece.rows.as_slice();
     let blanks = match rows.last() {
         Some(last) => last.blanks,
         None => 0,
     };
     let has_blanks = layout == Layout::Columns && rows.len().saturating_add(blanks) <= 8;
-    let tabs = least_tabs(piece);
     let mut columns = no_cards();
     let mut rows_before: usize = 0;
     for line in rows {
@@ -361,22 +329,21 @@ fn columns_of(
         if !line.may_be_column(row) || line.shape.others > 0 {
             return None;
         }
-        let placed = piece.placed(line);
-        let first = line.shape.tabs.saturating_sub(tabs);
-        put_line(placed, layout, grid, row, first, &mut columns)?;
-        let is_more = layout != Layout::Rows || placed.iter().any(|one| one.card.is_some());
-        rows_before = rows_before.saturating_add(usize::from(is_more));
+        match layout {
+            Layout::Rows(strips) => put_row_in(strips, line.of(text), row, &mut columns)?,
+            _ => put_line(piece.placed(line), layout, row, &mut columns)?,
+        }
+        let is_row = matches!(layout, Layout::Rows(_));
+        rows_before = rows_before.saturating_add(usize::from(line.shape.cards > 0 || !is_row));
     }
     Some(columns)
 }
 
-// Puts the cards of a line on their columns; a row begins with the column of this number.
+// Puts the cards of a line on their columns.
 fn put_line(
     line: &[Placed],
     layout: Layout,
-    grid: Option<Grid>,
     row: usize,
-    first_column: usize,
     columns: &mut [ArrayVec<Card, 52>; 8],
 ) -> Option<()> {
     let first = match line.first() {
@@ -388,13 +355,12 @@ fn put_line(
             continue;
         };
         let index = match layout {
-            Layout::Columns => row,
-            Layout::Rows => column_in(grid, *placed, place.saturating_add(first_column)),
             Layout::ColumnsInLine => usize::from(placed.group.saturating_sub(first)),
             Layout::Deal => place % 8,
+            _ => row,
         };
         let column = columns.get_mut(index)?;
-        if layout == Layout::Rows && column.len() != row || column.is_full() {
+        if column.is_full() {
             return None;
         }
         let _ = column.try_push(card);
@@ -402,125 +368,78 @@ fn put_line(
     Some(())
 }
 
-/// Where rows have their columns: each `unit` bytes from `base` on.
-#[derive(Clone, Copy)]
-struct Grid {
-    base: u16,
-    unit: u16,
-}
-
-impl Grid {
-    fn has_all(self, row: &[Placed]) -> bool {
-        row.iter().all(|placed| self.has(*placed))
-    }
-
-    fn has(self, placed: Placed) -> bool {
-        let beyond = placed.at.saturating_sub(self.base) % self.unit.max(1);
-        let is_near = beyond == 1 || beyond.saturating_add(1) == self.unit;
-        beyond == 0 || self.unit > 3 && is_near
-    }
-}
-
-// The column of a card in a row: by its place in bytes, or else by its number in the row.
-fn column_in(grid: Option<Grid>, placed: Placed, place: usize) -> usize {
-    match grid {
-        Some(Grid { base, unit }) => {
-            let beyond = placed.at.saturating_sub(base).saturating_add(1);
-            usize::from(beyond / unit.max(1))
+// Puts the cards of a row on the columns in whose strips they are.
+fn put_row_in(
+    strips: Strips,
+    line: &[u8],
+    row: usize,
+    columns: &mut [ArrayVec<Card, 52>; 8],
+) -> Option<()> {
+    for word in Words::new(line) {
+        let column = columns.get_mut(strip_of(strips, line, &word)?)?;
+        if column.len() != row || column.is_full() {
+            return None;
         }
-        None => place,
+        let _ = column.try_push(named_card(word.text)?);
     }
+    Some(())
 }
 
-// Where the rows have their columns, if all their cards are at such places: from the first card of
-// any row on, as wide as the first row is close. There is none where a row marks a gap or has tabs.
-fn grid_of(piece: &Piece) -> Option<Grid> {
-    let mut base = u16::MAX;
-    for line in piece.rows.as_slice() {
-        match (piece.placed(line), line.shape.gaps, line.shape.marks) {
-            ([first, ..], 0, 0) if line.shape.tabs == 0 && line.shape.least_run > 0 => {
-                base = base.min(first.at);
-            }
-            _ => return None,
+/// The strips that the rows may have, by the first one: of fields, and of words where these are
+/// regular, so that no blanks tell of a gap, or else of bytes.
+pub(crate) fn strips_of(text: &[u8], piece: &Piece) -> [Strips; 3] {
+    let [row, ..] = piece.rows.as_slice() else {
+        return [Strips::Fields { base: 0 }; 3];
+    };
+    let line = row.of(text);
+    let start = match Words::new(line).next() {
+        Some(word) => word.start,
+        None => 0,
+    };
+    let before = &line[..start.min(line.len())];
+    let fields = Strips::Fields {
+        base: short(fields_in(before).saturating_sub(row.shape.lead)),
+    };
+    if !is_regular(piece) {
+        return [fields, bytes_of(line, 0), bytes_of(line, 2)];
+    }
+    let words = Strips::Words {
+        base: short(words_in(before).saturating_sub(row.shape.lead)),
+        count: short(words_in(line)),
+    };
+    [fields, words, words]
+}
+
+fn short(number: usize) -> u16 {
+    number.min(60_000) as u16
+}
+
+// The strips from the first card of a row on, as wide as two cards are close: each card begins where
+// its strip does, or ends so many bytes on.
+fn bytes_of(line: &[u8], len: usize) -> Strips {
+    let (mut base, mut unit) = (0, usize::MAX);
+    let mut before: Option<usize> = None;
+    for word in Words::new(line) {
+        let at = match len {
+            0 => word.start,
+            _ => word.end.saturating_sub(len),
+        };
+        match before {
+            Some(before) => unit = unit.min(at.saturating_sub(before)),
+            None => base = at,
         }
+        before = Some(at);
     }
-    let unit = least_step(first_row(piece));
-    let grid = Grid { base, unit };
-    let rows = piece.rows.as_slice();
-    if unit >= 2 && rows.iter().all(|line| grid.has_all(piece.placed(line))) {
-        Some(grid)
-    } else {
-        None
+    Strips::Bytes {
+        base: short(base),
+        unit: short(unit),
     }
-}
-
-// How far two cards of the row are from one another at least.
-fn least_step(row: &[Placed]) -> u16 {
-    let mut least = u16::MAX;
-    let mut before: Option<u16> = None;
-    for placed in row {
-        if let Some(before) = before {
-            least = least.min(placed.at.saturating_sub(before));
-        }
-        before = Some(placed.at);
-    }
-    least
-}
-
-// Whether it is known in which columns the cards of rows are: marks part them, or their places tell;
-// or the rows are even, and full but for the last row of a deal.
-fn has_columns(piece: &Piece, grid: Option<Grid>) -> bool {
-    if is_parted(piece) || grid.is_some() && has_gaps(piece, grid) {
-        return true;
-    }
-    let is_counted = grid.is_some() || is_regular(piece);
-    is_counted && are_even(piece) && (are_full(piece) || is_deal(piece))
 }
 
 // Whether marks part the cards of each line.
 fn is_parted(piece: &Piece) -> bool {
     let rows = piece.rows.as_slice();
     rows.iter().all(|line| line.shape.is_parted)
-}
-
-// Whether a bar begins each line, or none.
-fn have_equal_bars(piece: &Piece) -> bool {
-    match piece.rows.as_slice() {
-        [first, others @ ..] => others
-            .iter()
-            .all(|line| line.shape.has_bar == first.shape.has_bar),
-        [] => true,
-    }
-}
-
-// Whether all rows have as many places as the first.
-fn are_full(piece: &Piece) -> bool {
-    let most = first_row(piece).len();
-    let rows = piece.rows.as_slice();
-    rows.iter().all(|line| piece.placed(line).len() == most)
-}
-
-// Whether the piece has 52 cards in rows of eight, and none in cells or home.
-fn is_deal(piece: &Piece) -> bool {
-    let rows = piece.rows.as_slice();
-    let cards = rows.iter().fold(0, |cards: usize, line| {
-        cards.saturating_add(piece.placed(line).len())
-    });
-    let has_cells = matches!(&piece.cells, Some(line) if line.shape.bits != 0);
-    first_row(piece).len() == 8 && cards == 52 && !has_cells
-}
-
-// Whether all rows but the last have as many places as the first: without a grid, others could
-// leave out any column.
-fn are_even(piece: &Piece) -> bool {
-    let most = first_row(piece).len();
-    match piece.rows.as_slice() {
-        [full @ .., last] => {
-            full.iter().all(|line| piece.placed(line).len() == most)
-                && piece.placed(last).len() <= most
-        }
-        [] => true,
-    }
 }
 
 // Whether marks part the words of each line, or the lines begin at one place and have as many blanks

@@ -25,6 +25,7 @@ mod scan;
 mod signs;
 mod solver;
 mod spelled;
+mod strips;
 mod tally;
 mod titles;
 mod walk;

@@ -28,6 +28,7 @@ use crate::options::{ImportOptions, LinesAre, Noted};
 use crate::playable::can_be;
 use crate::quiet::{are_lists, are_no_board, are_prose, are_quiet, push_moves};
 use crate::spelled::{is_equal, is_read_as, spelled_needs_no_note, spells_out};
+use crate::strips::tells_columns;
 use crate::tally::{Fate, Tally, counted};
 use crate::walk::{Walk, line_after};
 use crate::words::{Words, before_mark, uncommented};
@@ -417,7 +418,7 @@ impl<R: Rule> Made<R> {
             → IsReadAs self.now.options.lines_are R.game piece.now board.now) }
     {
         let lines_are = self.options.lines_are;
-        if may_be(lines_are, layout, piece) {
+        if may_be(lines_are, layout, piece) && tells_columns(layout, piece, board) {
             let is_laid = are_in(alloc, layout, piece, named, board)?;
             if is_laid {
                 return Ok(true);
@@ -535,7 +536,7 @@ fn may_be(lines_are: LinesAre, layout: Layout, piece: &[u8]) -> bool
     ensures { result ≡ may_be lines_are layout piece.now }
 {
     match (lines_are, layout) {
-        (LinesAre::Columns, Layout::Rows) => false,
+        (LinesAre::Columns, Layout::Rows(_)) => false,
         (LinesAre::Rows, Layout::Columns) => has_column(piece),
         _ => true,
     }

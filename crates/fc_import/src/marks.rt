@@ -10,15 +10,13 @@ use fc_card::Card;
 use memchr::memchr;
 
 /// How a line looks.
-#[derive(Clone, Copy, Debug)]
+#[derive(Clone, Copy, Debug, Default)]
 pub(crate) struct Shape {
     pub(crate) label: LabelKind,
     /// How many bytes of blanks and marks the line has after its label before the first card or the
     /// first mark for no card, and how many tabs.
     pub(crate) indent: usize,
     pub(crate) tabs: usize,
-    /// Whether the line begins with a bar.
-    pub(crate) has_bar: bool,
     /// The places without a card before the first card, and before the last one.
     pub(crate) lead: usize,
     pub(crate) gaps: usize,
@@ -44,20 +42,9 @@ impl Shape {
     pub(crate) fn new(label: LabelKind) -> Self {
         Shape {
             label,
-            indent: 0,
-            tabs: 0,
-            has_bar: false,
-            lead: 0,
-            gaps: 0,
-            marks: 0,
             is_parted: true,
             least_run: usize::MAX,
-            most_run: 0,
-            cards: 0,
-            others: 0,
-            other: 0,
-            aces: 0,
-            bits: 0,
+            ..Shape::default()
         }
     }
 
@@ -79,14 +66,13 @@ impl Shape {
 }
 
 /// The part of a line before a word, and how the line looks so far.
-#[derive(Clone, Copy, Debug)]
+#[derive(Clone, Copy, Debug, Default)]
 pub(crate) struct Front {
     pub(crate) shape: Shape,
     /// Where the label ends, with its mark.
     label_end: usize,
-    /// The place after the last word, and that of the next one.
+    /// The place after the last word.
     end: usize,
-    at: usize,
     /// How many marks that part groups were there.
     group: usize,
     /// Whether nothing came after the last mark that parts fields, and whether nothing came yet.
@@ -111,23 +97,14 @@ impl Front {
         Front {
             shape: Shape::new(label),
             label_end: label_end(text, front, label),
-            end: 0,
-            at: 0,
-            group: 0,
             is_open: true,
-            is_begun: false,
-            is_opened: false,
-            is_parted_here: false,
-            empties: 0,
-            gaps_before: 0,
-            seen: 0,
+            ..Front::default()
         }
     }
 
     /// Passes the marks up to this place.
     pub(crate) fn pass(&mut self, text: &[u8], start: usize) {
         self.gaps_before = 0;
-        self.at = start;
         self.is_parted_here = false;
         let is_inside = start < text.len();
         if is_inside && start.saturating_sub(self.end) == 1 && text.get(self.end) == Some(&b' ') {
@@ -184,7 +161,6 @@ impl Front {
             (_, false) if is_after_label => self.shape.see_other(at),
             (b'|', false) => {
                 self.is_begun = true;
-                self.shape.has_bar = true;
             }
             _ => {
                 self.empties = self.empties.saturating_add(usize::from(self.is_open));
@@ -255,7 +231,6 @@ impl Front {
             && text.get(self.end) == Some(&b' ')
             && self.shape.cards > 0;
         if is_next {
-            self.at = word.start;
             self.end = word.end;
             self.shape.is_parted = false;
             self.shape.least_run = self.shape.least_run.min(1);
@@ -291,9 +266,8 @@ impl Front {
     pub(crate) fn place(&self, card: Option<Card>) -> Placed
         ensures { result.card ≡ card }
     {
-        let at = self.at.min(60_000) as u16;
         let group = self.group.min(60_000) as u16;
-        Placed { card, at, group }
+        Placed { card, group }
     }
 }
 

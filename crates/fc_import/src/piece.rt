@@ -2,7 +2,7 @@
 //! promised of where that is.
 ghost use Rattle.fc_import.specs.Seen.{IsSeen};
 
-use crate::hearing::{LineHeard, is_drawn, is_in_words, is_list};
+use crate::hearing::{LineHeard, is_drawn, is_in_words, is_list, moves_in};
 use crate::labels::LabelKind;
 use crate::marks::Shape;
 use crate::scan::{LineSeen, Placed, named_card};
@@ -62,6 +62,12 @@ pub(crate) struct PieceLine {
 }
 
 impl PieceLine {
+    /// The line in the text of its piece, before a comment.
+    pub(crate) fn of<'a>(&self, text: &'a [u8]) -> &'a [u8] {
+        let end = self.start.saturating_add(self.len);
+        uncommented(text.get(self.start..end).unwrap_or(b""))
+    }
+
     /// Where the first word is that names no card, and is none of its label.
     pub(crate) fn other_word(&self) -> Option<usize> {
         match self.shape.others {
@@ -83,13 +89,20 @@ impl PieceLine {
 /// The lines of a piece, and what they hold together.
 #[derive(Drop)]
 pub(crate) struct Piece {
-    /// The lines of cards, and that of the cells.
+    /// The lines of cards.
     pub(crate) rows: Vec<PieceLine>,
-    pub(crate) cells: Option<PieceLine>,
     placed: Vec<Placed>,
     /// The moves that its lists name, each after a blank, and those of the last line.
     pub(crate) moves: Vec<u8>,
     line_moves: Vec<u8>,
+    pub(crate) held: Held,
+}
+
+/// What the lines of a piece hold together.
+#[derive(Clone, Copy, Default)]
+pub(crate) struct Held {
+    /// The line of the cells.
+    pub(crate) cells: Option<PieceLine>,
     /// Where the first word of a solution begins that is of no move.
     pub(crate) foreign: Option<usize>,
     /// Whether the last line that was looked at is a number alone, which is a move.
@@ -128,42 +141,18 @@ impl Piece {
     pub(crate) fn new(alloc: Global) -> Self {
         Piece {
             rows: Vec::new(alloc),
-            cells: None,
             placed: Vec::new(alloc),
             moves: Vec::new(alloc),
             line_moves: Vec::new(alloc),
-            foreign: None,
-            is_number: false,
-            heights: [0; 4],
-            has_heights: false,
-            bad_height: None,
-            count: 0,
-            bits: 0,
-            is_damaged: false,
-            lines: 0,
-            blanks: 0,
-            at_blank: None,
-            len: 0,
+            held: Held::default(),
         }
     }
 
     fn clear(&mut self) {
         self.rows.clear();
-        self.cells = None;
         self.placed.clear();
         self.moves.clear();
-        self.foreign = None;
-        self.is_number = false;
-        self.heights = [0; 4];
-        self.has_heights = false;
-        self.bad_height = None;
-        self.count = 0;
-        self.bits = 0;
-        self.is_damaged = false;
-        self.lines = 0;
-        self.blanks = 0;
-        self.at_blank = None;
-        self.len = 0;
+        self.held = Held::default();
     }
 
     /// Reads the piece at the front of the text in place of the one before, and returns what it is.
@@ -174,7 +163,7 @@ impl Piece {
             return Ok(PieceKind::Prose);
         };
         let line = self.look_at::<R>(first)?;
-        self.len = line.len;
+        self.held.len = line.len;
         match line.kind {
             LineKind::Moves => {
                 self.go_on_with_moves::<R>(text)?;
@@ -200,7 +189,7 @@ impl Piece {
     // Takes the lines that may be those of the board.
     fn go_on<R: Rule>(&mut self, lines: Lines<'_>) -> Result<(), AllocError> {
         for line in lines {
-            if self.lines >= MOST_LINES || line.text.starts_with(b"@") {
+            if self.held.lines >= MOST_LINES || line.text.starts_with(b"@") {
                 break;
             }
             let seen = self.look_at::<R>(line)?;
@@ -229,7 +218,7 @@ impl Piece {
                 break;
             }
             self.take_moves::<R>(line, in_words)?;
-            self.len = line.start.saturating_add(line.text.len());
+            self.held.len = line.start.saturating_add(line.text.len());
             if text.starts_with(b">") {
                 break;
             }
@@ -237,7 +226,7 @@ impl Piece {
         Ok(())
     }
 
-    // Whether the solution ends before the line.
+    // Whether the solution ends before the line: not where the cards of a mistyped one are moves too.
     fn ends_moves<R: Rule>(&mut self, line: &[u8], in_words: bool) -> Result<bool, AllocError> {
         if line.starts_with(b"@") || line.starts_with(b">") || line.starts_with(FIRST_RULE) {
             return Ok(true);
@@ -249,7 +238,11 @@ impl Piece {
             return Ok(true);
         }
         let seen = LineSeen::of(line, &mut self.placed)?;
-        Ok(begins_board(self.kind_of::<R>(line, &seen)?) && !self.is_list::<R>(line)?)
+        let kind = self.kind_of::<R>(line, &seen)?;
+        let _ = LineHeard::of::<R>(line, &mut self.line_moves)?;
+        let are_moves = moves_in(self.line_moves.as_slice()) >= seen.shape.cards;
+        let is_mistyped = kind == LineKind::Cards && seen.shape.others > 0 && are_moves;
+        Ok(begins_board(kind) && !is_mistyped && !self.is_list::<R>(line)?)
     }
 
     // Takes the moves of a line.
@@ -267,20 +260,20 @@ impl Piece {
             self.moves.extend_from_slice(self.line_moves.as_slice())?;
             return Ok(());
         }
-        if self.foreign.is_some() {
+        if self.held.foreign.is_some() {
             return Ok(());
         }
         if line.start == 0 && is_alone {
             self.moves.extend_from_slice(self.line_moves.as_slice())?;
             return Ok(());
         }
-        self.foreign = Some(line.start.saturating_add(other));
+        self.held.foreign = Some(line.start.saturating_add(other));
         Ok(())
     }
 
     /// Whether each card is in its place, by their number.
     pub(crate) fn is_whole(&self) -> bool {
-        self.count >= 52
+        self.held.count >= 52
     }
 
     /// The cards and gaps of a line.
@@ -340,7 +333,7 @@ impl Piece {
         let seen = LineSeen::of(text, &mut self.placed)?;
         let end = self.placed.len();
         let kind = self.kind_of::<R>(text, &seen)?;
-        self.is_number = seen.words == 1 && seen.numbers && self.is_move::<R>(text)?;
+        self.held.is_number = seen.words == 1 && seen.numbers && self.is_move::<R>(text)?;
         let mut shape = seen.shape;
         if kind == LineKind::Cells {
             if let Some(place) = bold_after_name(text) {
@@ -356,8 +349,8 @@ impl Piece {
             end,
             repeats: shape
                 .cards
-                .saturating_sub(count_of(shape.bits & !self.bits)),
-            blanks: self.blanks,
+                .saturating_sub(count_of(shape.bits & !self.held.bits)),
+            blanks: self.held.blanks,
         })
     }
 
@@ -374,12 +367,12 @@ impl Piece {
         Ok(match line.kind {
             LineKind::Moves | LineKind::Other => false,
             LineKind::Comment => !is_whole && rows < 8,
-            LineKind::Blank => !is_whole && rows < 8 && !self.is_damaged,
+            LineKind::Blank => !is_whole && rows < 8 && !self.held.is_damaged,
             LineKind::Foundations => {
                 let fits = !is_whole || heights_of(text).0 == [0; 4];
-                !self.has_heights && fits && !(self.ends_with_blank() && rows > 0)
+                !self.held.has_heights && fits && !(self.ends_with_blank() && rows > 0)
             }
-            LineKind::Cells => self.cells.is_none() && (!is_whole || line.shape.bits == 0),
+            LineKind::Cells => self.held.cells.is_none() && (!is_whole || line.shape.bits == 0),
             LineKind::Cards if is_whole => rows < 8 && line.shape.bits == 0,
             LineKind::Cards if line.repeats > 0 && self.is_list::<R>(text)? => false,
             LineKind::Cards if self.begins_other(line) => {
@@ -395,69 +388,73 @@ impl Piece {
     fn begins_other(&self, line: &PieceLine) -> bool {
         let repeats = line.repeats;
         let cards = line.end.saturating_sub(line.first);
-        repeats > 0 && self.at_blank.is_some() || repeats >= 3 && repeats > cards / 2
+        repeats > 0 && self.held.at_blank.is_some() || repeats >= 3 && repeats > cards / 2
     }
 
     // Whether the last line is blank.
     fn ends_with_blank(&self) -> bool {
-        matches!(self.at_blank, Some(at) if at.lines.saturating_add(1) == self.lines)
+        matches!(self.held.at_blank, Some(at) if at.lines.saturating_add(1) == self.held.lines)
     }
 
     // Leaves the lines after the last blank one to the next board, where this one is not whole.
     fn cut_at_blank(&mut self) {
-        if let (Some(at), false) = (self.at_blank, self.is_whole()) {
+        if let (Some(at), false) = (self.held.at_blank, self.is_whole()) {
             self.rows.truncate(at.rows);
             if !at.has_cells {
-                self.cells = None;
+                self.held.cells = None;
             }
-            self.len = at.len;
+            self.held.len = at.len;
         }
     }
 
     fn add(&mut self, line: &PieceLine, text: &[u8]) -> Result<(), AllocError> {
         match line.kind {
             LineKind::Foundations => self.add_heights(line.start, text),
-            LineKind::Cells => self.cells = Some(*line),
+            LineKind::Cells => self.held.cells = Some(*line),
             LineKind::Cards => self.rows.push(*line)?,
             LineKind::Blank => self.see_blank(),
             _ => {}
         }
         if line.kind != LineKind::Foundations {
-            self.is_damaged = self.is_damaged || line.repeats > 0 || line.shape.others > 0;
-            self.count = self
+            self.held.is_damaged = self.held.is_damaged
+                || line.repeats > 0
+                || line.shape.others > 0;
+            self.held.count = self
+                .held
                 .count
-                .saturating_add(count_of(line.shape.bits & !self.bits));
-            self.bits |= line.shape.bits;
+                .saturating_add(count_of(line.shape.bits & !self.held.bits));
+            self.held.bits |= line.shape.bits;
         }
-        self.lines = self.lines.saturating_add(1);
+        self.held.lines = self.held.lines.saturating_add(1);
         if line.kind != LineKind::Blank {
-            self.len = line.start.saturating_add(line.len);
+            self.held.len = line.start.saturating_add(line.len);
         }
         Ok(())
     }
 
     fn see_blank(&mut self) {
-        self.at_blank = Some(AtBlank {
+        self.held.at_blank = Some(AtBlank {
             rows: self.rows.len(),
-            has_cells: self.cells.is_some(),
-            lines: self.lines,
-            len: self.len,
+            has_cells: self.held.cells.is_some(),
+            lines: self.held.lines,
+            len: self.held.len,
         });
-        self.blanks = self
+        self.held.blanks = self
+            .held
             .blanks
             .saturating_add(usize::from(!self.rows.is_empty()));
     }
 
     fn add_heights(&mut self, start: usize, text: &[u8]) {
         let (heights, bad) = heights_of(text);
-        self.has_heights = true;
-        self.heights = heights;
-        self.is_damaged = self.is_damaged || bad.is_some();
-        if let (Some(place), None) = (bad, self.bad_height) {
-            self.bad_height = Some(start.saturating_add(place));
+        self.held.has_heights = true;
+        self.held.heights = heights;
+        self.held.is_damaged = self.held.is_damaged || bad.is_some();
+        if let (Some(place), None) = (bad, self.held.bad_height) {
+            self.held.bad_height = Some(start.saturating_add(place));
         }
         for height in heights {
-            self.count = self.count.saturating_add(usize::from(height));
+            self.held.count = self.held.count.saturating_add(usize::from(height));
         }
     }
 }
@@ -577,13 +574,10 @@ fn said_of_height(word: &[u8], suit: Option<usize>) -> Said {
         return Said::Height(usize::from(card.suit().number()), card.rank().number());
     }
     match (suit, word) {
-        (None, [letter]) => match suit_of(*letter) {
-            Some(place) => Said::Suit(place),
-            None => Said::Bad,
-        },
-        (None, [letter, b'0']) => match suit_of(*letter) {
-            Some(place) => Said::Height(place, 0),
-            None => Said::Bad,
+        (None, [letter, height @ ..]) => match (suit_of(*letter), height) {
+            (Some(place), []) => Said::Suit(place),
+            (Some(place), b"0") => Said::Height(place, 0),
+            _ => Said::Bad,
         },
         (Some(place), _) => match height_of(word) {
             Some(height) => Said::Height(place, height),

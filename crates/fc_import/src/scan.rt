@@ -12,11 +12,10 @@ use fc_card::Card;
 use fc_text::card_spelled;
 use std::alloc::AllocError;
 
-/// A card or a gap of a line, where it is in the line, and in which group.
+/// A card or a gap of a line, and in which group it is.
 #[derive(Clone, Copy, Debug)]
 pub(crate) struct Placed {
     pub(crate) card: Option<Card>,
-    pub(crate) at: u16,
     pub(crate) group: u16,
 }
 

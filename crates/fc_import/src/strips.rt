@@ -1,0 +1,170 @@
+//! Under which columns the cards of rows stand: each column has a strip of each line.
+ghost use Rattle.std.specs.{List.{count_by, list_any}, Prelude.{◌≡◌, [], slice_index_or}};
+ghost use Rattle.fc_import.specs.{Seen.{piece_of}, Strips.{are_below, has_card, has_strips}};
+ghost use Rattle.fc_import.specs.Strips.{is_below, is_dealt, is_mark, parts_fields, strip_of};
+ghost use Rattle.fc_import.specs.Strips.{tells_columns, whole_strips, words_in};
+
+use crate::layout::Layout;
+use crate::scan::named_card;
+use crate::words::{Word, Words, uncommented};
+use fc_board::{Board, Rule};
+use fc_card::Card;
+use fc_text::{Lines, Tokens};
+
+/// Where the strips are.
+#[derive(Clone, Copy, PartialEq, Eq, Debug)]
+pub(crate) enum Strips {
+    /// So many bytes from one to the next, from this place on.
+    Bytes { base: u16, unit: u16 },
+    /// One a field, after so many marks that part fields.
+    Fields { base: u16 },
+    /// One a word between blanks, after so many, of as many as each line has.
+    Words { base: u16, count: u16 },
+}
+
+/// Whether each card of a column stands in its strip, where the layout is one of rows.
+pub(crate) fn tells_columns<R: Rule>(layout: Layout, lines: &[u8], board: &Board<R>) -> bool
+    ensures { result ≡ tells_columns layout lines.now board.now }
+{
+    let Layout::Rows(strips) = layout else {
+        return true;
+    };
+    for line in Lines::new(lines) {
+        if !are_below(strips, line.text, board) {
+            return false;
+        }
+    }
+    true
+}
+
+// Whether each word of the line that names a card of a column is in that column's strip.
+fn are_below<R: Rule>(strips: Strips, line: &[u8], board: &Board<R>) -> bool
+    ensures { result ≡ are_below strips board.now line.now }
+{
+    let line = uncommented(line);
+    let has_strips = has_strips(strips, line, board);
+    for word in Words::new(line) {
+        if !is_below(strips, has_strips, line, &word, board) {
+            return false;
+        }
+    }
+    true
+}
+
+// Whether the word, of a line that has strips or not, names no card of a column, or one of the column
+// in whose strip it is.
+fn is_below<R: Rule>(
+    strips: Strips,
+    has_strips: bool,
+    line: &[u8],
+    word: &Word<'_>,
+    board: &Board<R>,
+) -> bool
+    ensures { result ≡ is_below strips has_strips board.now line.now (piece_of word.now) }
+{
+    let Some(card) = named_card(word.text) else {
+        return true;
+    };
+    if board.cells().contains(&Some(card)) {
+        return true;
+    }
+    match strip_of(strips, line, word) {
+        Some(number) => has_strips && is_in_column(board, number, card),
+        None => false,
+    }
+}
+
+fn is_in_column<R: Rule>(board: &Board<R>, number: usize, card: Card) -> bool
+    ensures { result ≡ has_card (slice_index_or board.now.columns number []) card }
+{
+    // The board has eight columns.
+    let _ = board.heights();
+    number < 8 && board.column(number).contains(&card)
+}
+
+// Whether the line has strips of this kind.
+fn has_strips<R: Rule>(strips: Strips, line: &[u8], board: &Board<R>) -> bool
+    ensures { result ≡ has_strips strips board.now line.now }
+{
+    match strips {
+        Strips::Bytes { .. } => !has_mark(line),
+        Strips::Fields { .. } => true,
+        Strips::Words { count, .. } => {
+            fields_in(line) == 0 && (words_in(line) == usize::from(count) || is_dealt(board))
+        }
+    }
+}
+
+/// The number of the column in whose strip a word of the line is.
+pub(crate) fn strip_of(strips: Strips, line: &[u8], word: &Word<'_>) -> Option<usize>
+    ensures { result ≡ strip_of strips line.now (piece_of word.now) }
+{
+    let before = &line[..word.start.min(line.len())];
+    match strips {
+        Strips::Bytes { base, unit } => match whole_strips(base, unit, word.start) {
+            Some(number) => Some(number),
+            None => whole_strips(base, unit, word.end.saturating_sub(2)),
+        },
+        Strips::Fields { base } => whole_strips(base, 1, fields_in(before)),
+        Strips::Words { base, .. } => whole_strips(base, 1, words_in(before)),
+    }
+}
+
+// How many strips there are before this place, if they are whole.
+fn whole_strips(base: u16, unit: u16, place: usize) -> Option<usize>
+    ensures { result ≡ whole_strips base unit place }
+{
+    let (base, unit) = (usize::from(base), usize::from(unit));
+    if unit == 0 || place < base || (place - base) % unit != 0 {
+        return None;
+    }
+    Some((place - base) / unit)
+}
+
+// Whether each column has as many cards as a deal puts there.
+fn is_dealt<R: Rule>(board: &Board<R>) -> bool
+    ensures { result ≡ is_dealt board.now }
+{
+    // The board has eight columns.
+    let _ = board.heights();
+    for number in 0..8 {
+        if board.column(number).len() != if number < 4 { 7 } else { 6 } {
+            return false;
+        }
+    }
+    true
+}
+
+/// How many marks that part fields the text has.
+pub(crate) fn fields_in(text: &[u8]) -> usize
+    ensures { result ≡ count_by parts_fields text.now }
+{
+    let mut count = 0;
+    for byte in text {
+        count += usize::from(b",;|/\t".contains(byte));
+    }
+    count
+}
+
+/// How many words between blanks the text has, counted up to 65,535.
+pub(crate) fn words_in(text: &[u8]) -> usize
+    ensures { result ≡ words_in text.now }
+{
+    let mut count: u16 = 0;
+    for _word in Tokens::new(text) {
+        count = count.saturating_add(1);
+    }
+    usize::from(count)
+}
+
+// Whether the line has a mark that parts fields or may stand for no card.
+fn has_mark(line: &[u8]) -> bool
+    ensures { result ≡ list_any is_mark line.now }
+{
+    for byte in line {
+        if b",;|/\t-*._[]\"'".contains(byte) {
+            return true;
+        }
+    }
+    false
+}
