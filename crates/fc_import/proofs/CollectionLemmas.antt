@@ -1,19 +1,14 @@
 -- What an import writes is a collection that `show` takes as it is, if it passes no limit.
-use Rattle.std.proofs.Common.{◌++◌, ◌∙◌, ◌∷◌, ◌≡◌, [], All, ap, append-nil, append_assoc, arith}
-use Rattle.std.proofs.Common.{length, List, None, Option, refl, subst, subst₂, suc, sym, ℕ}
-use Rattle.std.proofs.lemmas.List.Elements.{All-cons, All-nil}
+use Rattle.std.proofs.Common.{◌++◌, ◌∙◌, ◌∷◌, ◌≡◌, [], All, ap, append-nil, append_assoc, arith, length, List, None}
+use Rattle.std.proofs.{Common.{Option, refl, subst, subst₂, suc, sym, ℕ}, lemmas.List.Elements.{All-cons, All-nil}}
 use Rattle.std.specs.List.{flat_map}
-use Rattle.fc_board.specs.{Boards.{Board}, Games.{game_of}, Moves.{MoveList}}
-use Rattle.fc_board.specs.declared.rule.Variant.{Variant}
-use Rattle.fc_text.specs.Printed.{text_of}
-use Rattle.fc_record.specs.Printing.{header_text, list_line}
-use Rattle.fc_collect.proofs.{MemberLemmas.{CanPrint}, ShownAgainLemmas.{CanShow, Entry, entry_text}}
-use Rattle.fc_collect.proofs.ShownAgainLemmas.{few_entries, shown_again}
+use Rattle.fc_board.specs.{Boards.{Board}, declared.rule.Variant.{Variant}, Games.{game_of}, Moves.{MoveList}}
+use Rattle.{fc_record.specs.Printing.{header_text, list_line}, fc_text.specs.Printed.{text_of}}
+use Rattle.fc_collect.proofs.MemberLemmas.{CanPrint}
+use Rattle.fc_collect.proofs.ShownAgainLemmas.{CanShow, Entry, entry_text, few_entries, shown_again}
 use Rattle.fc_collect.specs.{Limits.{standard}, Promises.{IsWithinLimits}}
-use Rattle.fc_import.proofs.PrintedAgainLemmas.{a_record, given, its_list, no_more, PrintedTo}
-use Rattle.fc_import.proofs.PrintedAgainLemmas.{written_so_far}
-use Rattle.fc_import.proofs.PrintedLemmas.{legal_fits}
-use Rattle.fc_import.specs.{Import.{Imported, IsShown}, Notes.{State}}
+use Rattle.fc_import.proofs.PrintedAgainLemmas.{a_record, given, its_list, no_more, PrintedTo, written_so_far}
+use Rattle.fc_import.{proofs.PrintedLemmas.{legal_fits}, specs.{Import.{Imported, IsShown}, Notes.{State}}}
 use Rattle.fc_import.specs.declared.options.ImportOptions.{ImportOptions}
 
 module _ (variant : Variant) where

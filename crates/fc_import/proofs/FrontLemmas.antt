@@ -1,30 +1,22 @@
 -- What a text begins with that is as fcanon prints it, and how it is taken.
-use Rattle.std.proofs.Common.{◌++◌, ◌+◌, ◌-◌, ◌∙◌, ◌∷◌, ◌≡◌, ◌≢◌, ◌≤◌, [], All, ap, append-nil, append_assoc}
-use Rattle.std.proofs.Common.{ap₂, arith, codes, drop, false, inl, inr, length, length-append, List}
-use Rattle.std.proofs.Common.{refl, Some, subst, sym, take, true, ℕ}
-use Rattle.std.proofs.lemmas.List.{length-take-le, take-append-drop, take_rest}
+use Rattle.std.proofs.Common.{◌++◌, ◌+◌, ◌-◌, ◌∙◌, ◌∷◌, ◌≡◌, ◌≢◌, ◌≤◌, [], All, ap, append-nil, append_assoc, ap₂}
+use Rattle.std.proofs.Common.{arith, codes, drop, false, inl, inr, length, length-append, List, refl, Some, subst, sym}
+use Rattle.std.proofs.{Common.{take, true, ℕ}, lemmas.List.{length-take-le, take-append-drop, take_rest}}
 use Rattle.std.proofs.Math.Seq.{drop-append_seam, take-append_seam}
-use Rattle.fc_board.specs.{Boards.{Board, IsWellFormed}, Games.{Game, variant_word}}
-use Rattle.fc_board.specs.{Moves.{move_count, MoveList}, Play.{Legal}}
-use Rattle.fc_board.specs.declared.rule.Variant.{Variant}
-use Rattle.fc_board.specs.declared.rule.Variant.TheVariants.{BakersGame, EightOff, FreeCell}
-use Rattle.fc_text.proofs.LineLemmas.{InLine}
-use Rattle.fc_text.specs.{Bytes.{blank, line_feed}, Lines.{lines_from}, Notation.{most_moves}}
-use Rattle.fc_text.specs.Printed.{text_of}
-use Rattle.fc_record.proofs.HeadingLemmas.{header_read, in_line}
-use Rattle.fc_record.proofs.PrintedListLemmas.{list_bytes, list_in_line}
-use Rattle.fc_record.proofs.PrintedPartLemmas.{lines_of_board}
-use Rattle.fc_record.proofs.TextLineLemmas.{ends-after, ends-line_feed}
-use Rattle.fc_record.specs.Grammar.{begins_with, heading_of}
-use Rattle.fc_record.specs.{Printing.{header_text, list_line}, RecordTexts.{ends_line, header_mark}}
+use Rattle.fc_board.specs.{Boards.{Board, IsWellFormed}, Games.{Game, variant_word}, Moves.{move_count, MoveList}}
+use Rattle.fc_board.specs.Play.{Legal}
+use Rattle.fc_board.specs.declared.rule.Variant.{TheVariants.{BakersGame, EightOff, FreeCell}, Variant}
+use Rattle.fc_text.{proofs.LineLemmas.{InLine}, specs.{Bytes.{blank, line_feed}, Lines.{lines_from}}}
+use Rattle.fc_text.specs.{Notation.{most_moves}, Printed.{text_of}}
+use Rattle.fc_record.proofs.{HeadingLemmas.{header_read, in_line}, PrintedListLemmas.{list_bytes, list_in_line}}
+use Rattle.fc_record.proofs.{PrintedPartLemmas.{lines_of_board}, TextLineLemmas.{ends-after, ends-line_feed}}
+use Rattle.fc_record.specs.{Grammar.{begins_with, heading_of}, Printing.{header_text, list_line}}
+use Rattle.fc_record.specs.RecordTexts.{ends_line, header_mark}
 use Rattle.fc_import.proofs.{PieceLemmas.{no_header_alone}, PrintedAgainLemmas.{given, IsOne}}
-use Rattle.fc_import.proofs.PrintedLemmas.{board_kept, goes_on, goes_on_twice, legal_fits, list_kept}
-use Rattle.fc_import.proofs.PrintedLemmas.{no_header_board}
+use Rattle.fc_import.proofs.PrintedLemmas.{board_kept, goes_on, goes_on_twice, legal_fits, list_kept, no_header_board}
 use Rattle.fc_import.specs.Import.{HasNoHeader, IsHeading}
-use Rattle.fc_import.specs.inside.{AreWhole, GoesOn, state_of, TakesAsItIs, TakesName}
-use Rattle.fc_import.specs.Notes.{after, name_by}
-use Rattle.fc_import.specs.declared.made.Made.{Made}
-use Rattle.fc_import.specs.declared.tally.Fate.TheVariants.{ABoard, AList}
+use Rattle.fc_import.specs.{inside.{AreWhole, GoesOn, state_of, TakesAsItIs, TakesName}, Notes.{after, name_by}}
+use Rattle.fc_import.specs.declared.{made.Made.{Made}, tally.Fate.TheVariants.{ABoard, AList}}
 
 -- ---- lines
 

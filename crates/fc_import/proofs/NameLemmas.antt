@@ -1,7 +1,6 @@
 -- Lemmas on the names that headers give.
-use Rattle.std.proofs.Common.{◌++◌, ◌+◌, ◌∙◌, ◌∷◌, ◌≡◌, ◌≤◌, [], All, ap, arith, Bool, cond, drop}
-use Rattle.std.proofs.Common.{false, if◌then◌else◌, length, List, map, not, refl, subst, suc, sym}
-use Rattle.std.proofs.{Common.{take, true, ℕ}, lemmas.Bool.{eqb-true}}
+use Rattle.std.proofs.Common.{◌++◌, ◌+◌, ◌∙◌, ◌∷◌, ◌≡◌, ◌≤◌, [], All, ap, arith, Bool, cond, drop, false, if◌then◌else◌}
+use Rattle.std.proofs.{Common.{length, List, map, not, refl, subst, suc, sym, take, true, ℕ}, lemmas.Bool.{eqb-true}}
 use Rattle.std.proofs.lemmas.List.{Elements.{All-head, All-tail}, Sums.{fold-append}}
 use Rattle.std.specs.List.{before_first, fold, position_or_len}
 use Rattle.fc_board.specs.{declared.rule.Variant.{Variant}, Games.{Game}}
@@ -10,9 +9,8 @@ use Rattle.fc_text.specs.Lines.{in_line, lines_from, moved, Piece, trim_carriage
 use Rattle.fc_record.proofs.TextLineLemmas.{lines_after}
 use Rattle.fc_record.specs.Grammar.{begins_with, heading_of, heading_of_words, is_line_feed}
 use Rattle.fc_record.specs.RecordTexts.{ends_line, header_mark}
-use Rattle.fc_import.specs.Import.{a_board, a_list, headed, Imported, left_out, none_yet, once_more}
-use Rattle.fc_import.specs.Import.{one_more, passed, Reading, refused_board, refused_list}
-use Rattle.fc_import.specs.Notes.{name_by, State}
+use Rattle.fc_import.specs.Import.{a_board, a_list, headed, Imported, left_out, none_yet, once_more, one_more, passed}
+use Rattle.fc_import.specs.{Import.{Reading, refused_board, refused_list}, Notes.{name_by, State}}
 use Rattle.fc_import.specs.declared.options.ImportOptions.{ImportOptions}
 
 -- ---- the first line of a text

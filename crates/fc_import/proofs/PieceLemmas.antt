@@ -1,18 +1,14 @@
 -- Lemmas on whole lines at the front of a text, and on those that are no header.
-use Rattle.std.proofs.Common.{◌++◌, ◌+◌, ◌<◌, ◌==◌, ◌∙◌, ◌∷◌, ◌≡◌, ◌≤◌, [], All, ap, arith, Bool}
-use Rattle.std.proofs.Common.{drop, false, get_or, if◌then◌else◌, length, List, refl, subst, suc, sym}
-use Rattle.std.proofs.Common.{take, true, zero, ℕ}
+use Rattle.{fc_import.specs.{Import.{HasNoHeader}, inside.{AreWhole}}, memchr.specs.Find.{is_byte, Nowhere, Passes}}
+use Rattle.std.proofs.Common.{◌++◌, ◌+◌, ◌<◌, ◌==◌, ◌∙◌, ◌∷◌, ◌≡◌, ◌≤◌, [], All, ap, arith, Bool, drop, false, get_or}
+use Rattle.std.proofs.Common.{if◌then◌else◌, length, List, refl, subst, suc, sym, take, true, zero, ℕ}
+use Rattle.std.proofs.lemmas.Bool.{eqb-true}
+use Rattle.std.proofs.lemmas.List.{Elements.{All-append, All-cons, All-head, All-map, All-nil, All-tail}, length-drop}
 use Rattle.std.proofs.Math.Seq.{take-add}
-use Rattle.std.proofs.lemmas.List.{length-drop}
-use Rattle.std.proofs.lemmas.{Bool.{eqb-true}, List.Elements.{All-append, All-cons, All-head}}
-use Rattle.std.proofs.lemmas.List.Elements.{All-map, All-nil, All-tail}
-use Rattle.memchr.specs.Find.{is_byte, Nowhere, Passes}
-use Rattle.fc_text.proofs.LineLemmas.{InLine, in_line-first, lines_from-moved}
-use Rattle.fc_text.specs.{Bytes.{line_feed}, Lines.{in_line, lines_from, moved, Piece}}
-use Rattle.fc_record.specs.{Grammar.{begins_with}, RecordTexts.{ends_line, header_mark}}
-use Rattle.fc_import.specs.Import.{HasNoHeader}
-use Rattle.fc_record.proofs.TextLineLemmas.{ends-after, lines_after}
-use Rattle.fc_import.specs.inside.{AreWhole}
+use Rattle.fc_text.{proofs.LineLemmas.{in_line-first, InLine, lines_from-moved}, specs.Bytes.{line_feed}}
+use Rattle.fc_text.specs.Lines.{in_line, lines_from, moved, Piece}
+use Rattle.fc_record.{proofs.TextLineLemmas.{ends-after, lines_after}, specs.Grammar.{begins_with}}
+use Rattle.fc_record.specs.RecordTexts.{ends_line, header_mark}
 
 -- whole lines after others that end
 pub lines_more : (text : List ℕ) (at len : ℕ) → at < length text → ends_line (take at text) ≡ true → AreWhole (drop at text) len

@@ -1,26 +1,21 @@
 -- What an import writes is what fcanon prints.
-use Rattle.std.proofs.Common.{◌++◌, ◌+◌, ◌-◌, ◌<◌, ◌==◌, ◌^◌, ◌∙◌, ◌∷◌, ◌≡◌, ◌≢◌, ◌≤◌, ◌⊎◌, [], ap}
-use Rattle.std.proofs.Common.{All, append-nil, append_assoc, arith, Bool, codes, Err, false}
-use Rattle.std.proofs.Common.{if◌then◌else◌, inl, inr, length, length-append, List, None, Ok, Option}
-use Rattle.std.proofs.Common.{refl, Result, Some, subst, suc, sym, take, true, ℕ}
-use Rattle.std.proofs.lemmas.{Fmt.{length-decimal-le}, List.{length-take}}
-use Rattle.std.proofs.lemmas.List.Elements.{All-append, All-cons, All-nil, All-take}
-use Rattle.std.specs.{Fmt.{decimal}, Option.{unwrap_or}}
-use Rattle.fc_board.specs.{Boards.{Board, IsWellFormed}, Games.{Game, game_of}}
-use Rattle.fc_board.specs.{Moves.{move_count, MoveList}, Play.{Legal}}
-use Rattle.fc_board.specs.declared.rule.Variant.{Variant}
-use Rattle.fc_text.specs.{Notation.{most_moves}, Printed.{text_of}}
-use Rattle.fc_record.proofs.HeadingLemmas.{bytes_of_name, heading_said, IsGiven, IsHeading as Gives}
-use Rattle.fc_record.proofs.HeadingLemmas.{IsInName, name_from_bytes, named as gives, unnamed, without}
-use Rattle.fc_record.proofs.HeadingLemmas.{word_numbered}
-use Rattle.fc_record.specs.Grammar.{begins_with, Heading, heading_of, is_name}
-use Rattle.fc_record.specs.{Printing.{header_text, list_line}, RecordTexts.{header_mark}}
+use Rattle.std.proofs.Common.{◌++◌, ◌+◌, ◌-◌, ◌<◌, ◌==◌, ◌^◌, ◌∙◌, ◌∷◌, ◌≡◌, ◌≢◌, ◌≤◌, ◌⊎◌, [], All, ap, append-nil}
+use Rattle.std.proofs.Common.{append_assoc, arith, Bool, codes, Err, false, if◌then◌else◌, inl, inr, length}
+use Rattle.std.proofs.Common.{length-append, List, None, Ok, Option, refl, Result, Some, subst, suc, sym, take, true, ℕ}
+use Rattle.std.proofs.lemmas.{Fmt.{length-decimal-le}, List.Elements.{All-append, All-cons, All-nil, All-take}}
+use Rattle.std.{proofs.lemmas.List.{length-take}, specs.{Fmt.{decimal}, Option.{unwrap_or}}}
+use Rattle.fc_board.specs.{Boards.{Board, IsWellFormed}, Games.{Game, game_of}, Moves.{move_count, MoveList}}
+use Rattle.fc_board.specs.Play.{Legal}
+use Rattle.{fc_board.specs.declared.rule.Variant.{Variant}, fc_text.specs.{Notation.{most_moves}, Printed.{text_of}}}
+use Rattle.fc_record.proofs.HeadingLemmas.{bytes_of_name, heading_said, IsGiven, IsHeading as Gives, IsInName}
+use Rattle.fc_record.proofs.HeadingLemmas.{name_from_bytes, named as gives, unnamed, without, word_numbered}
+use Rattle.fc_record.specs.{Grammar.{begins_with, Heading, heading_of, is_name}, Printing.{header_text, list_line}}
+use Rattle.fc_record.specs.RecordTexts.{header_mark}
 use Rattle.fc_record.specs.declared.record.RecordFault.{RecordFault}
 use Rattle.fc_collect.specs.declared.streams.faults.Summary.{Summary}
-use Rattle.fc_import.specs.Import.{a_board, a_list, collection, headed, Imported, IsNamed, IsPrinted}
-use Rattle.fc_import.specs.Import.{IsShown, left_out, list_next, Makes, no_board, none_yet, nothing}
-use Rattle.fc_import.specs.Import.{numbered, once_more, one_more, passed, Reading, record_next}
-use Rattle.fc_import.specs.Import.{refused_board, refused_list, StaysLast, too_much, with_tally}
+use Rattle.fc_import.specs.Import.{a_board, a_list, collection, headed, Imported, IsNamed, IsPrinted, IsShown, left_out}
+use Rattle.fc_import.specs.Import.{list_next, Makes, no_board, none_yet, nothing, numbered, once_more, one_more, passed}
+use Rattle.fc_import.specs.Import.{Reading, record_next, refused_board, refused_list, StaysLast, too_much, with_tally}
 use Rattle.fc_import.specs.{Notes.{counted, name_by, State}, Words.{text_read}}
 use Rattle.fc_import.specs.declared.options.ImportOptions.{ImportOptions}
 

@@ -1,34 +1,29 @@
 -- What fcanon prints is imported as it is.
-use Rattle.std.proofs.Common.{◌++◌, ◌<◌, ◌∙◌, ◌∷◌, ◌≡◌, ◌≢◌, ◌≤◌, ◌⊎◌, [], All, ap, append-nil, append_assoc}
-use Rattle.std.proofs.Common.{ap₂, arith, false, get_or, inl, inr, length, List, Option, refl, Some}
-use Rattle.std.proofs.Common.{not, subst, sym, true, ℕ}
-use Rattle.std.proofs.lemmas.List.Elements.{All-cons, All-nil, All-weaker}
+use Rattle.std.proofs.Common.{◌++◌, ◌<◌, ◌∙◌, ◌∷◌, ◌≡◌, ◌≢◌, ◌≤◌, ◌⊎◌, [], All, ap, append-nil, append_assoc, ap₂}
+use Rattle.std.proofs.Common.{arith, false, get_or, inl, inr, length, List, not, Option, refl, Some, subst, sym, true}
+use Rattle.std.proofs.{Common.{ℕ}, lemmas.List.Elements.{All-cons, All-nil, All-weaker}}
 use Rattle.fc_board.specs.{Boards.{Board, IsWellFormed}, Games.{Game}}
-use Rattle.fc_board.specs.Moves.{Fits, ListFits, move_count, MoveList, OneCard, RunFits, Runs}
-use Rattle.fc_board.specs.{Play.{Legal, Played}, Steps.{RunStep, Step}}
-use Rattle.fc_board.specs.declared.{moves.Move.{Move}, rule.Variant.{Variant}}
-use Rattle.fc_board.specs.declared.rule.Variant.TheVariants.{BakersGame, EightOff, FreeCell}
-use Rattle.fc_board.specs.declared.run_move.RunMove.{RunMove, TheVariants.{One, Run}}
+use Rattle.fc_board.specs.{Moves.{Fits, ListFits, move_count, MoveList, OneCard, RunFits, Runs}, Play.{Legal, Played}}
+use Rattle.fc_board.specs.Steps.{RunStep, Step}
+use Rattle.fc_board.specs.declared.{moves.Move.{Move}, rule.Variant.TheVariants.{BakersGame, EightOff, FreeCell}}
+use Rattle.fc_board.specs.declared.{rule.Variant.{Variant}, run_move.RunMove.{RunMove, TheVariants.{One, Run}}}
 use Rattle.fc_text.proofs.ListedLemmas.{listed_or_bad, listed_or_too_many, one_list, one_listing}
-use Rattle.fc_text.proofs.{PrintedTextLemmas.{text_spells}, RunTokenLemmas.{one_run}}
-use Rattle.fc_text.proofs.PrintLemmas.{print-Listed, print_runs-Listed}
-use Rattle.fc_text.specs.{Lines.{lines_from}, Printed.{text_of}, Spelling.{Spells}}
+use Rattle.fc_text.proofs.{PrintedTextLemmas.{text_spells}, PrintLemmas.{print-Listed, print_runs-Listed}}
+use Rattle.fc_text.{proofs.RunTokenLemmas.{one_run}, specs.Lines.{lines_from}}
 use Rattle.fc_text.specs.Notation.{BadTokenAt, IsRunToken, IsToken, Listed, most_moves, print, TooManyAt}
-use Rattle.fc_text.specs.declared.fault.MovesFault.{MovesFault}
-use Rattle.fc_text.specs.declared.fault.MovesFault.TheVariants.{BadToken, Memory, TooMany}
+use Rattle.fc_text.specs.{Printed.{text_of}, Spelling.{Spells}}
+use Rattle.fc_text.specs.declared.fault.MovesFault.{MovesFault, TheVariants.{BadToken, Memory, TooMany}}
 use Rattle.fc_record.proofs.{PrintedPartLemmas.{IsPlain, lines_of_board}, TextLineLemmas.{ends-after}}
-use Rattle.fc_record.specs.Grammar.{begins_with, heading_of, is_name, list_mark}
-use Rattle.fc_record.specs.{Printing.{header_text, list_line}, RecordTexts.{ends_line, header_mark}}
-use Rattle.fc_import.proofs.TakingLemmas.{one_taken_more, taken}
-use Rattle.fc_import.specs.Import.{a_board, a_list, BoardNeedsNoNote, HasNoHeader, IsHeading, IsNamed}
-use Rattle.fc_import.specs.Import.{IsPrinted, list_next, ListNeedsNoNote, nothing, printed, record_next}
-use Rattle.fc_import.specs.Import.{Names}
+use Rattle.fc_record.specs.{Grammar.{begins_with, heading_of, is_name, list_mark}, Printing.{header_text, list_line}}
+use Rattle.fc_record.specs.RecordTexts.{ends_line, header_mark}
+use Rattle.fc_import.{proofs.TakingLemmas.{one_taken_more, taken}, specs.Import.{a_board, a_list, BoardNeedsNoNote}}
+use Rattle.fc_import.specs.Import.{HasNoHeader, IsHeading, IsNamed, IsPrinted, list_next, ListNeedsNoNote, Names}
+use Rattle.fc_import.specs.Import.{nothing, printed, record_next}
 use Rattle.fc_import.specs.inside.{form_of, GoesOn, IsMade, state_of, Takes, TakesName}
 use Rattle.fc_import.specs.Notes.{after, name_by, names_game}
 use Rattle.fc_import.specs.declared.options.Noted.{Noted, TheVariants.{Changes, Doubts, Strict}}
 use Rattle.fc_import.specs.declared.made.Form.TheVariants as in_form
-use Rattle.fc_import.specs.declared.made.Made.{Made}
-use Rattle.fc_import.specs.declared.tally.Fate.TheVariants.{ABoard, AList}
+use Rattle.fc_import.specs.declared.{made.Made.{Made}, tally.Fate.TheVariants.{ABoard, AList}}
 
 -- ---- lists
 

@@ -1,7 +1,6 @@
 -- Lemmas on what the words of a line name.
-use Rattle.std.proofs.Common.{◌++◌, ◌∙◌, ◌∷◌, ◌≡◌, [], ap, append_assoc, arith, Bool, false, if◌then◌else◌}
-use Rattle.std.proofs.Common.{length, List, refl, sym, true, ℕ}
-use Rattle.std.specs.List.{flat_map, fold}
+use Rattle.std.proofs.Common.{◌++◌, ◌∙◌, ◌∷◌, ◌≡◌, [], ap, append_assoc, arith, Bool, false, if◌then◌else◌, length}
+use Rattle.std.{proofs.Common.{List, refl, sym, true, ℕ}, specs.List.{flat_map, fold}}
 use Rattle.fc_record.specs.{Grammar.{begins_with}, RecordTexts.{header_mark}}
 use Rattle.fc_import.specs.Scan.{cards_in, named_cards}
 

@@ -1,24 +1,17 @@
 -- Lemmas on reading the input, and on how a run ends after it.
-use Rattle.std.proofs.Common.{◌++◌, ◌+◌, ◌<◌, ◌↔◌, ◌∙◌, ◌≡◌, ◌≢◌, ◌≤◌, ◌⊎◌, [], ap, append-nil}
-use Rattle.std.proofs.Common.{arith, Bool, Err, false, length, length-append, List, None, Ok}
-use Rattle.std.proofs.Common.{Option, refl, Result, subst, subst₂, sym, true, ℕ}
-use Rattle.std.proofs.KnownBytes.{Consumes-trans}
-use Rattle.std.specs.{Io.KnownBytes.{Consumes}, Prelude.{⊤}}
-use Rattle.fc_board.{specs.Games.{Game, game_of}}
-use Rattle.fc_board.specs.declared.rule.Variant.{Variant}
-use Rattle.fc_collect.specs.Limits.{most_bytes, most_reads, standard}
-use Rattle.fc_collect.specs.Promises.{ReadsAsCounted}
-use Rattle.fc_collect.specs.{Streams.{CallCounts, GrowsBy}}
+use Rattle.std.proofs.Common.{◌++◌, ◌+◌, ◌<◌, ◌↔◌, ◌∙◌, ◌≡◌, ◌≢◌, ◌≤◌, ◌⊎◌, [], ap, append-nil, arith, Bool, Err, false}
+use Rattle.std.proofs.Common.{length, length-append, List, None, Ok, Option, refl, Result, subst, subst₂, sym, true, ℕ}
+use Rattle.std.{proofs.KnownBytes.{Consumes-trans}, specs.{Io.KnownBytes.{Consumes}, Prelude.{⊤}}}
+use Rattle.fc_board.specs.{declared.rule.Variant.{Variant}, Games.{Game, game_of}}
+use Rattle.fc_collect.specs.{Limits.{most_bytes, most_reads, standard}, Promises.{ReadsAsCounted}}
+use Rattle.fc_collect.specs.Streams.{CallCounts, GrowsBy}
 use Rattle.fc_collect.specs.declared.streams.{counted.Counted.{Counted}, faults.RunFault.{RunFault}}
-use Rattle.fc_collect.specs.declared.streams.faults.RunFault.TheVariants.{Memory, Read}
-use Rattle.fc_collect.specs.declared.streams.faults.RunFault.TheVariants.{ReaderNeverEnds, TooLarge}
-use Rattle.fc_collect.specs.declared.streams.faults.RunFault.TheVariants.{Write}
-use Rattle.fc_collect.specs.declared.streams.faults.Summary.{Summary}
-use Rattle.fc_import.specs.Import.{collection, Imported, IsImportedAs, IsPrinted, IsShown, Makes}
-use Rattle.fc_import.specs.Import.{no_board, no_board_line, refusals, refused_by, too_much}
-use Rattle.fc_import.specs.Import.{too_much_line, with_tally}
-use Rattle.fc_import.specs.inside.{more_counts, MoreFits, ReadsMore, ReadsToEnd}
-use Rattle.fc_import.specs.{Notes.{counted, State}, Words.{text_read}}
+use Rattle.fc_collect.specs.declared.streams.faults.RunFault.TheVariants.{Memory, Read, ReaderNeverEnds, TooLarge}
+use Rattle.fc_collect.specs.declared.streams.faults.{RunFault.TheVariants.{Write}, Summary.{Summary}}
+use Rattle.fc_import.specs.Import.{collection, Imported, IsImportedAs, IsPrinted, IsShown, Makes, no_board}
+use Rattle.fc_import.specs.Import.{no_board_line, refusals, refused_by, too_much, too_much_line, with_tally}
+use Rattle.fc_import.specs.{inside.{more_counts, MoreFits, ReadsMore, ReadsToEnd}, Notes.{counted, State}}
+use Rattle.fc_import.specs.Words.{text_read}
 use Rattle.fc_import.specs.declared.options.ImportOptions.{ImportOptions}
 
 -- ---- reading the input

@@ -1,15 +1,13 @@
 -- Lemmas on signs, and on what stands for them in a text.
-use Rattle.std.proofs.Common.{◌&&◌, ◌++◌, ◌+◌, ◌-◌, ◌<◌, ◌==◌, ◌||◌, ◌∙◌, ◌∷◌, ◌≡◌, ◌≤◌, [], All}
-use Rattle.std.proofs.Common.{ap, ap₂, arith, Bool, cond, drop, false, get_or, if◌then◌else◌, inl}
-use Rattle.std.proofs.Common.{inr, is_some, length, List, map, min, nat_le, None, Option, refl}
-use Rattle.std.proofs.Common.{Some, suc, sym, take, true, zero, ℕ}
+use Rattle.std.proofs.Common.{◌&&◌, ◌++◌, ◌+◌, ◌-◌, ◌<◌, ◌==◌, ◌||◌, ◌∙◌, ◌∷◌, ◌≡◌, ◌≤◌, [], All, ap, ap₂, arith, Bool}
+use Rattle.std.proofs.Common.{cond, drop, false, get_or, if◌then◌else◌, inl, inr, is_some, length, List, map, min}
+use Rattle.std.proofs.Common.{nat_le, None, Option, refl, Some, suc, sym, take, true, zero, ℕ}
 use Rattle.std.proofs.lemmas.{Bool.{Decides.{leb_tells}, lt-leb}, List.{drop_all}}
-use Rattle.std.proofs.lemmas.List.FromFn.{get_or-range_with_len, length-range_with_len}
-use Rattle.std.proofs.{lemmas.List.{get_or-map}, Math.Nat.{min-eq_left, min-eq_right}}
-use Rattle.std.specs.{List.{prefix_len}, Option.{unwrap_or}, Prelude.{slice_index}}
+use Rattle.std.proofs.lemmas.List.{FromFn.{get_or-range_with_len, length-range_with_len}, get_or-map}
+use Rattle.std.{proofs.Math.Nat.{min-eq_left, min-eq_right}, specs.{List.{prefix_len}, Option.{unwrap_or}}}
+use Rattle.std.specs.Prelude.{slice_index}
 use Rattle.{fc_card.specs.{places}, fc_text.specs.Bytes.{line_feed}}
-use Rattle.fc_import.specs.inside.{is_alone}
-use Rattle.fc_import.specs.Words.{number_of, sign_by, sign_of, stands_for, text_after}
+use Rattle.fc_import.specs.{inside.{is_alone}, Words.{number_of, sign_by, sign_of, stands_for, text_after}}
 
 -- ---- signs of one byte
 

@@ -1,20 +1,18 @@
 -- Lemmas on texts of which nothing is said.
-use Rattle.std.proofs.Common.{◌++◌, ◌+◌, ◌∙◌, ◌∷◌, ◌≡◌, ◌≢◌, ◌≤◌, ◌⊎◌, [], All, ap, ap₂, arith, inl, inr, length}
-use Rattle.std.proofs.{Common.{List, map, None, refl, subst, sym, true, ℕ}, lemmas.Bool.{eqb-true}}
-use Rattle.std.proofs.lemmas.{Grind.{flat_map-append}, List.Elements.{All-contains, All-head, All-tail}}
-use Rattle.std.specs.List.{Contains, flat_map}
-use Rattle.{fc_board.specs.Games.{Game}, fc_import.specs.declared.options.ImportOptions.{ImportOptions}}
-use Rattle.fc_board.specs.declared.rule.Variant.TheVariants.{BakersGame, EightOff, FreeCell}
-use Rattle.fc_board.specs.declared.rule.Variant.{Variant}
-use Rattle.fc_text.proofs.LineLemmas.{lines_from-moved}
-use Rattle.fc_text.specs.{Lines.{in_line, lines_from, moved, Piece}, Printed.{text_of}}
+use Rattle.std.proofs.Common.{◌++◌, ◌+◌, ◌∙◌, ◌∷◌, ◌≡◌, ◌≢◌, ◌≤◌, ◌⊎◌, [], All, ap, ap₂, arith, inl, inr, length, List}
+use Rattle.std.proofs.{Common.{map, None, refl, subst, sym, true, ℕ}, lemmas.{Bool.{eqb-true}, Grind.{flat_map-append}}}
+use Rattle.std.{proofs.lemmas.List.Elements.{All-contains, All-head, All-tail}, specs.List.{Contains, flat_map}}
+use Rattle.fc_board.specs.{Games.{Game}, Moves.{MoveList, OneCard, Runs}}
+use Rattle.fc_board.specs.declared.rule.Variant.{TheVariants.{BakersGame, EightOff, FreeCell}, Variant}
+use Rattle.fc_text.{proofs.LineLemmas.{lines_from-moved}, specs.Lines.{in_line, lines_from, moved, Piece}}
+use Rattle.fc_text.specs.Printed.{text_of}
 use Rattle.fc_record.{proofs.TextLineLemmas.{lines_after}, specs.Grammar.{begins_with}}
-use Rattle.fc_board.specs.Moves.{MoveList, OneCard, Runs}
 use Rattle.fc_record.specs.{Printing.{header_text, list_line}, RecordTexts.{ends_line, header_mark}}
-use Rattle.fc_import.specs.Import.{a_board, a_list, headed, Imported, IsApart, left_out, none_yet}
-use Rattle.fc_import.specs.Import.{once_more, one_more, passed, Reading, refused_board}
-use Rattle.fc_import.specs.{Import.{refused_list}, Notes.{counted, IsNote, Place, State}}
-use Rattle.fc_import.specs.{Scan.{is_list, IsQuiet, named_cards}, Words.{named_in}}
+use Rattle.fc_import.specs.Import.{a_board, a_list, headed, Imported, IsApart, left_out, none_yet, once_more, one_more}
+use Rattle.fc_import.specs.Import.{passed, Reading, refused_board, refused_list}
+use Rattle.fc_import.specs.{Notes.{counted, IsNote, Place, State}, Scan.{is_list, IsQuiet, named_cards}}
+use Rattle.fc_import.specs.Words.{named_in}
+use Rattle.fc_import.specs.declared.options.ImportOptions.{ImportOptions}
 
 pub both_empty : {A : Type 0} (xs ys : List A) → xs ++ ys ≡ [] → (xs ≡ []) × (ys ≡ [])
 both_empty [] ys none = (refl, none)

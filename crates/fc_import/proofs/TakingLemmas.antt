@@ -1,31 +1,24 @@
 -- Lemmas on pieces of a text, and on the words of texts.
-use Rattle.std.proofs.Common.{◌++◌, ◌+◌, ◌<◌, ◌↔◌, ◌∙◌, ◌∷◌, ◌≡◌, ◌≢◌, ◌≤◌, ◌⊎◌, [], All, ap, append-nil}
-use Rattle.std.proofs.Common.{append_assoc, ap₂, arith, Bool, drop, false, if◌then◌else◌, inl, inr}
-use Rattle.std.proofs.Common.{IsTrue, length, List, map, None, refl, Some, subst, subst₂, suc, sym}
-use Rattle.std.proofs.{Common.{true, zero, ℕ}, lemmas.Bool.Decides.{leb_tells}}
+use Rattle.std.proofs.Common.{◌++◌, ◌+◌, ◌<◌, ◌↔◌, ◌∙◌, ◌∷◌, ◌≡◌, ◌≢◌, ◌≤◌, ◌⊎◌, [], All, ap, append-nil, append_assoc}
+use Rattle.std.proofs.Common.{ap₂, arith, Bool, drop, false, if◌then◌else◌, inl, inr, IsTrue, length, List, map, None}
+use Rattle.std.proofs.{Common.{refl, Some, subst, subst₂, suc, sym, true, zero, ℕ}, lemmas.Bool.Decides.{leb_tells}}
 use Rattle.std.proofs.lemmas.List.{at_drop_more, drop_all, Elements.{All-cons, All-nil}}
-use Rattle.std.proofs.lemmas.List.FromFn.{get_or-range_with_len, length-range_with_len}
-use Rattle.std.{proofs.lemmas.Option.{slice_get_past}, specs.List.{flat_map}}
-use Rattle.std.specs.{Option.{option_to_list}, Prelude.{slice_get}}
-use Rattle.{fc_board.specs.{Boards.{Board, IsWellFormed}, Games.{Game}}, fc_card.specs.{places}}
-use Rattle.fc_board.specs.declared.rule.Variant.{Variant}
-use Rattle.fc_text.proofs.ReadingLemmas.{faultless-from_Spells, Spells-board_of}
-use Rattle.fc_text.{proofs.SpellingLemmas.{spelled}, specs.Faults.{first_fault}}
-use Rattle.fc_text.specs.{Lines.{Piece, with_end}, Printed.{text_of}, Spelling.{Spells}}
-use Rattle.fc_text.specs.declared.fault.BoardFault.{BoardFault}
-use Rattle.fc_board.specs.Moves.{MoveList}
+use Rattle.std.proofs.lemmas.{List.FromFn.{get_or-range_with_len, length-range_with_len}, Option.{slice_get_past}}
+use Rattle.std.specs.{List.{flat_map}, Option.{option_to_list}, Prelude.{slice_get}}
+use Rattle.{fc_board.specs.{Boards.{Board, IsWellFormed}, Games.{Game}, Moves.{MoveList}}, fc_card.specs.{places}}
+use Rattle.{fc_board.specs.declared.rule.Variant.{Variant}, fc_text.specs.declared.fault.BoardFault.{BoardFault}}
+use Rattle.fc_text.proofs.{ReadingLemmas.{faultless-from_Spells, Spells-board_of}, SpellingLemmas.{spelled}}
+use Rattle.fc_text.specs.{Faults.{first_fault}, Lines.{Piece, with_end}, Printed.{text_of}, Spelling.{Spells}}
 use Rattle.fc_record.specs.{Printing.{header_text, list_line}, RecordTexts.{ends_line}}
-use Rattle.fc_import.proofs.SilenceLemmas.{both_empty}
-use Rattle.fc_import.specs.Import.{a_board, AreLists, BoardNeedsNoNote, by_columns, CanBe, IsReadAs, ListNeedsNoNote}
-use Rattle.fc_import.specs.Import.{HasNoHeader, headed, Imported, IsHeading, IsNamed, IsPacked}
-use Rattle.fc_import.specs.Import.{none_yet, once_more, one_more, Reading, SpellsOut}
+use Rattle.fc_import.{proofs.SilenceLemmas.{both_empty}, specs.Import.{a_board, AreLists, BoardNeedsNoNote, by_columns}}
+use Rattle.fc_import.specs.Import.{CanBe, HasNoHeader, headed, Imported, IsHeading, IsNamed, IsPacked, IsReadAs}
+use Rattle.fc_import.specs.Import.{ListNeedsNoNote, none_yet, once_more, one_more, Reading, SpellsOut}
 use Rattle.fc_import.specs.inside.{IsMade, part, printing, Says, state_of, Takes, TakesName}
-use Rattle.fc_import.specs.Notes.{after, first_state, State, tally_of}
-use Rattle.fc_import.specs.{Scan.{named_cards}, Words.{ended, is_between, named_lines}}
-use Rattle.fc_import.specs.declared.options.ImportOptions.{ImportOptions}
-use Rattle.fc_import.specs.declared.options.Noted.{Noted, TheVariants.{Changes, Doubts, Strict}}
-use Rattle.fc_import.specs.declared.{made.Made.{Made}, tally.Fate.TheVariants.{ABoard, Again, Passed}}
-use Rattle.fc_import.specs.declared.tally.Tally.{Tally}
+use Rattle.fc_import.specs.{Notes.{after, first_state, State, tally_of}, Scan.{named_cards}}
+use Rattle.fc_import.specs.Words.{ended, is_between, named_lines}
+use Rattle.fc_import.specs.declared.{made.Made.{Made}, options.{ImportOptions.{ImportOptions}, Noted.{Noted}}}
+use Rattle.fc_import.specs.declared.options.Noted.TheVariants.{Changes, Doubts, Strict}
+use Rattle.fc_import.specs.declared.tally.{Fate.TheVariants.{ABoard, Again, Passed}, Tally.{Tally}}
 
 -- words with the places of their ends are the same words
 pub without_ends : (words : List Piece) → map (λ left. left.0.bytes) (map with_end words) ≡ map (λ word. word.bytes) words

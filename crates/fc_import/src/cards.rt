@@ -96,8 +96,8 @@ pub(crate) fn are_in<R: Rule>(
     have_cards(alloc, layout, named.as_slice(), board)
 }
 
-// Whether these are the cards of the columns as lines name them in this layout, before or after those
-// of the cells.
+// Whether these are the cards of the columns as lines name them in this layout, before or after
+// those of the cells.
 fn have_cards<R: Rule>(
     alloc: Global,
     layout: Layout,

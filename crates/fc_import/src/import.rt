@@ -416,8 +416,8 @@ impl<R: Rule> Importer<R> {
         self.refuse(piece, UNPLAYABLE)
     }
 
-    // Takes a board that the lines are read as in this layout, unless a solution begins with it that
-    // belongs to the last board.
+    // Takes a board that the lines are read as in this layout, unless a solution begins with it
+    // that belongs to the last board.
     fn take_read(&mut self, piece: &[u8], board: Board<R>, layout: Layout) -> Result<(), AllocError>
         ensures { OnOk result (Takes R.VARIANT R.game piece.now self.old.made self.new.made) }
     {
@@ -588,8 +588,8 @@ fn lines_len(text: &[u8], least: usize) -> usize
     len
 }
 
-// The layout of a deal at the front of the text, in eight lines of columns or seven of rows, with one
-// blank between cards, and a header or nothing in the line after it.
+// The layout of a deal at the front of the text, in eight lines of columns or seven of rows, with
+// one blank between cards, and a header or nothing in the line after it.
 fn deal_layout(text: &[u8]) -> Option<Layout> {
     let mut lines: usize = 0;
     let mut are_rows = true;
@@ -623,8 +623,8 @@ fn read_columns<R: Rule>(lines: &[u8]) -> Option<Board<R>>
     }
 }
 
-// Whether the first card of the last column goes on that of the column before it, or one of them has
-// no card.
+// Whether the first card of the last column goes on that of the column before it, or one of them
+// has no card.
 fn builds_rows<R: Rule>(board: &Board<R>) -> bool {
     // The board has eight columns.
     let _ = board.heights();

@@ -108,10 +108,10 @@ pub fn solutions_are_whole()
         → (next.last ≡ None) ⊎ (written ≢ []) ⊎ (state.begun ≡ true) }
 {}
 
-/// A line of columns names the cards of one, and a line of rows one card of each column; one line has
-/// the columns, each up to a mark, or the rows one after another. Lines that are said to be columns
-/// are no rows, and of those that are said to be rows one has a number or a colon before its cards,
-/// if they are columns.
+/// A line of columns names the cards of one, and a line of rows one card of each column; one line
+/// has the columns, each up to a mark, or the rows one after another. Lines that are said to be
+/// columns are no rows, and of those that are said to be rows one has a number or a colon before
+/// its cards, if they are columns.
 pub fn lines_are_in_layouts()
     ensures columns { lines_in Columns
         (of_columns ((51 ∷ 47 ∷ []) ∷ [] ∷ (50 ∷ []) ∷ [])) ≡ 51 ∷ 47 ∷ 52 ∷ 50 ∷ 52 ∷ [] }

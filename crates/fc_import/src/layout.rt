@@ -1,6 +1,6 @@
 //! The layouts in which the lines of a piece may have its cards, and which of them play can make.
-//! Which one the lines have is a guess, of which nothing is promised: what they are read as is tested
-//! before it is written.
+//! Which one the lines have is a guess, of which nothing is promised: what they are read as is
+//! tested before it is written.
 ghost use Rattle.std.specs.Prelude.{All, drop, IsNone, IsTrue};
 
 use crate::labels::LabelKind;
@@ -123,8 +123,8 @@ fn if_playable<R: Rule>(board: Option<Board<R>>, layout: Layout) -> Drafted<R> {
     }
 }
 
-// Whether the lines may be rows of which the gaps are left out: less than eight, none longer than the
-// one before, and the last one shorter than the first.
+// Whether the lines may be rows of which the gaps are left out: less than eight, none longer than
+// the one before, and the last one shorter than the first.
 fn may_be_squeezed(piece: &Piece) -> bool {
     let first = first_row(piece).len();
     let mut last = first;
@@ -414,8 +414,8 @@ fn short(number: usize) -> u16 {
     number.min(60_000) as u16
 }
 
-// The strips from the first card of a row on, as wide as two cards are close: each card begins where
-// its strip does, or ends so many bytes on.
+// The strips from the first card of a row on, as wide as two cards are close: each card begins
+// where its strip does, or ends so many bytes on.
 fn bytes_of(line: &[u8], len: usize) -> Strips {
     let (mut base, mut unit) = (0, usize::MAX);
     let mut before: Option<usize> = None;
@@ -442,8 +442,8 @@ fn is_parted(piece: &Piece) -> bool {
     rows.iter().all(|line| line.shape.is_parted)
 }
 
-// Whether marks part the words of each line, or the lines begin at one place and have as many blanks
-// between any two words: but for one, since a ten may be longer. Else a column could be left out.
+// Whether marks part the words of each line, or the lines begin at one place and have as many
+// blanks between any two words, but for one, as a ten may be longer. Else a column could be lost.
 fn is_regular(piece: &Piece) -> bool {
     let mut indents = (usize::MAX, 0);
     let mut runs = (usize::MAX, 0);

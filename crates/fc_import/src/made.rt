@@ -170,8 +170,8 @@ impl<R: Rule> Made<R> {
         Ok(())
     }
 
-    /// Refuses a list, with a note on this byte of its lines. Another list may follow the last board
-    /// unless a line of the piece may be another board's.
+    /// Refuses a list, with a note on this byte of its lines. Another list may follow the last
+    /// board unless a line of the piece may be another board's.
     pub(crate) fn refuse_list(
         &mut self,
         alloc: Global,
@@ -390,8 +390,8 @@ impl<R: Rule> Made<R> {
         numbered(alloc, header, counted(self.named, 1))
     }
 
-    // Whether the lines may be columns, and `show` reads them as the board: most that programs write
-    // need no more.
+    // Whether the lines may be columns, and `show` reads them as the board: most that programs
+    // write need no more.
     fn is_shown(&self, piece: &[u8], board: &Board<R>) -> bool
         ensures of { IsTrue result
             → IsReadAs self.now.options.lines_are R.game piece.now board.now }
@@ -403,8 +403,8 @@ impl<R: Rule> Made<R> {
         is_read_as(piece, board)
     }
 
-    // Whether the lines, which name these cards, are read as the board: they are it in this layout, or
-    // spell it out.
+    // Whether the lines, which name these cards, are read as the board: they are it in this layout,
+    // or spell it out.
     fn is_read(
         &self,
         alloc: Global,
@@ -494,8 +494,8 @@ impl<R: Rule> Made<R> {
         Ok(true)
     }
 
-    // Says of a board that the lines spell out, with these words, that its spelling is changed, if that
-    // is to be noted.
+    // Says of a board that the lines spell out, with these words, that its spelling is changed, if
+    // that is to be noted.
     fn say_change(&mut self, piece: &[u8], board: &Board<R>, words: &[u8]) -> Result<(), AllocError>
         requires { SpellsOut R.game piece.now board.now }
         ensures { OnOk result (Says R.game piece.now board.now self.old self.new) }

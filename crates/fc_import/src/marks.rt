@@ -150,8 +150,8 @@ impl Front {
         }
     }
 
-    // Passes a mark that parts fields. With nothing before it, a tab is an indent and a bar begins a
-    // table; after a label another one would leave out a field.
+    // Passes a mark that parts fields. With nothing before it, a tab is an indent and a bar begins
+    // a table; after a label another one would leave out a field.
     fn pass_separator(&mut self, byte: u8, at: usize) {
         let is_after_label = self.label_end > 0 && self.shape.label != LabelKind::Bare;
         match (byte, self.is_begun) {

@@ -126,8 +126,8 @@ pub(crate) struct Held {
     pub(crate) len: usize,
 }
 
-/// How much of a piece there is before a blank line: so many lines of cards, the cells, so many lines
-/// and so many bytes.
+/// How much of a piece there is before a blank line: so many lines of cards, the cells, so many
+/// lines and so many bytes.
 #[derive(Clone, Copy)]
 struct AtBlank {
     rows: usize,
@@ -226,7 +226,7 @@ impl Piece {
         Ok(())
     }
 
-    // Whether the solution ends before the line: not where the cards of a mistyped one are moves too.
+    // Whether the solution ends before the line: not where cards of a mistyped one are moves too.
     fn ends_moves<R: Rule>(&mut self, line: &[u8], in_words: bool) -> Result<bool, AllocError> {
         if line.starts_with(b"@") || line.starts_with(b">") || line.starts_with(FIRST_RULE) {
             return Ok(true);
@@ -316,7 +316,7 @@ impl Piece {
         })
     }
 
-    // Whether a line that begins with the mark of a list is one, and no line of cards that is quoted.
+    // Whether a line that begins with the mark of a list is one, and no quoted line of cards.
     fn is_marked_list<R: Rule>(
         &mut self,
         line: &[u8],
@@ -603,8 +603,8 @@ fn height_of(word: &[u8]) -> Option<u8> {
     }
 }
 
-// Where the stars of bold text stand right after the colon of a name, if there are some: they are no
-// empty places.
+// Where the stars of bold text stand right after the colon of a name, if there are some: they are
+// no empty places.
 fn bold_after_name(text: &[u8]) -> Option<usize> {
     let colon = before_mark(b':', text).len();
     if text.get(colon..).unwrap_or(b"").starts_with(b":**") {

@@ -80,7 +80,7 @@ pub(crate) fn word_reason(
     Ok(words)
 }
 
-// The word that the text begins with; of a text that begins with what parts words, all up to a blank.
+// The word that the text begins with; where what parts words begins it, all up to a blank.
 fn word_at(text: &[u8]) -> &[u8] {
     match (Words::new(text).next(), Tokens::new(text).next()) {
         (Some(word), _) if text.starts_with(word.text) => word.text,

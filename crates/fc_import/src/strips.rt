@@ -51,8 +51,8 @@ fn are_below<R: Rule>(strips: Strips, line: &[u8], board: &Board<R>) -> bool
     true
 }
 
-// Whether the word, of a line that has strips or not, names no card of a column, or one of the column
-// in whose strip it is.
+// Whether the word, of a line that has strips or not, names no card of a column, or one of the
+// column in whose strip it is.
 fn is_below<R: Rule>(
     strips: Strips,
     has_strips: bool,

@@ -1,5 +1,4 @@
-use Rattle.std.proofs.Common.{◌-◌, ◌<◌, ◌≡◌, ◌≤◌, None, ℕ}
-use Rattle.std.specs.Prelude.{slice_index_or}
+use Rattle.std.{proofs.Common.{◌-◌, ◌<◌, ◌≡◌, ◌≤◌, None, ℕ}, specs.Prelude.{slice_index_or}}
 use Rattle.fc_import.proofs.cards.are_packed.Given as goal
 
 -- the cells looked at so far

@@ -1,6 +1,4 @@
-use Rattle.std.proofs.Common.{◌++◌, ◌≡◌, drop}
-use Rattle.std.specs.List.{flat_map}
-use Rattle.std.specs.Option.{option_to_list}
+use Rattle.std.{proofs.Common.{◌++◌, ◌≡◌, drop}, specs.{List.{flat_map}, Option.{option_to_list}}}
 use Rattle.fc_import.proofs.cards.cards_in_cells.Given as goal
 
 abbrev pub invariant-loop-cell : goal.invariant-loop-cell

@@ -1,5 +1,4 @@
-use Rattle.std.proofs.Common.{◌<◌, ◌≢◌, [], ℕ}
-use Rattle.std.specs.Prelude.{slice_index_or}
+use Rattle.std.{proofs.Common.{◌<◌, ◌≢◌, [], ℕ}, specs.Prelude.{slice_index_or}}
 use Rattle.fc_import.proofs.cards.has_full_columns.Given as goal
 
 -- the columns looked at so far

@@ -1,6 +1,5 @@
 use Rattle.std.{proofs.Common.{◌++◌, ◌≡◌, drop}, specs.List.{flat_map}}
-use Rattle.fc_card.specs.{places}
-use Rattle.fc_import.specs.{Import.{in_row}, inside.{part}}
+use Rattle.{fc_card.specs.{places}, fc_import.specs.{Import.{in_row}, inside.{part}}}
 use Rattle.fc_import.proofs.cards.push_rows.Given as goal
 
 abbrev pub invariant-loop-place : goal.invariant-loop-place

@@ -1,5 +1,5 @@
-use Rattle.std.{proofs.Common.{◌++◌, ◌≡◌, drop}, specs.{List.{flat_map}, Option.{option_to_list}}}
-use Rattle.{fc_import.specs.Import.{in_row}, std.specs.Prelude.{slice_get}}
+use Rattle.std.{proofs.Common.{◌++◌, ◌≡◌, drop}, specs.{List.{flat_map}, Option.{option_to_list}, Prelude.{slice_get}}}
+use Rattle.fc_import.specs.Import.{in_row}
 use Rattle.fc_import.proofs.cards.put_row.Given as goal
 
 abbrev pub invariant-loop-index : goal.invariant-loop-index

@@ -1,5 +1,4 @@
-use Rattle.std.proofs.Common.{◌≡◌}
-use Rattle.std.specs.List.{list_all}
+use Rattle.std.{proofs.Common.{◌≡◌}, specs.List.{list_all}}
 use Rattle.fc_import.specs.{Scan.{is_drawn, is_drawn_word}, Seen.{words_left}}
 use Rattle.fc_import.proofs.hearing.is_drawn.Given as goal
 

@@ -1,5 +1,4 @@
-use Rattle.std.proofs.Common.{◌==◌, ◌≡◌, length}
-use Rattle.std.specs.List.{list_all}
+use Rattle.std.{proofs.Common.{◌==◌, ◌≡◌, length}, specs.List.{list_all}}
 use Rattle.fc_import.specs.{Scan.{words_of}, Seen.{words_left}}
 use Rattle.fc_import.proofs.hearing.is_each_single.Given as goal
 

@@ -1,7 +1,7 @@
 use Rattle.std.proofs.Common.{◌++◌, ◌∙◌, [], ap, arith, drop, refl, subst, sym, take}
 use Rattle.std.proofs.{lemmas.List.{drop-drop, take_rest}, Math.Seq.{take-add}}
-use Rattle.fc_import.proofs.PieceLemmas.{lines_more}
-use Rattle.fc_import.specs.{Import.{IsPrinted}, inside.{IsMade, KeepsFirst, TakesFirst}}
+use Rattle.fc_import.{proofs.PieceLemmas.{lines_more}, specs.Import.{IsPrinted}}
+use Rattle.fc_import.specs.inside.{IsMade, KeepsFirst, TakesFirst}
 use Rattle.fc_import.proofs.import.import_text.Goals as goal
 
 pub loop-at-init : goal.loop-at-init

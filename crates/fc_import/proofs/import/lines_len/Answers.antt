@@ -1,11 +1,8 @@
-use Rattle.std.proofs.Common.{◌<◌, ◌∙◌, ◌≤◌, arith, drop, get_or, length, subst, sym, take}
-use Rattle.std.proofs.lemmas.Bool.{ne_eqb}
-use Rattle.std.proofs.Math.Seq.{take-add}
-use Rattle.std.proofs.lemmas.List.{take_rest}
+use Rattle.std.proofs.{Common.{◌<◌, ◌∙◌, ◌≤◌, arith, drop, get_or, length, subst, sym, take}, lemmas.Bool.{ne_eqb}}
+use Rattle.std.proofs.{lemmas.List.{take_rest}, Math.Seq.{take-add}}
 use Rattle.{fc_record.specs.RecordTexts.{header_mark}, fc_text.specs.Lines.{lines_from}}
-use Rattle.fc_import.specs.Import.{HasNoHeader}
 use Rattle.fc_import.proofs.PieceLemmas.{begins_at, begins_front, no_header_after, no_header_alone, whole_after}
-use Rattle.fc_import.specs.inside.{AreWhole}
+use Rattle.fc_import.specs.{Import.{HasNoHeader}, inside.{AreWhole}}
 use Rattle.fc_import.proofs.import.lines_len.Goals as goal
 
 pub loop-len-init : goal.loop-len-init

@@ -1,6 +1,5 @@
 use Rattle.std.proofs.Common.{◌-◌, length, take}
-use Rattle.fc_import.specs.Import.{HasNoHeader}
-use Rattle.fc_import.specs.inside.{AreWhole}
+use Rattle.fc_import.specs.{Import.{HasNoHeader}, inside.{AreWhole}}
 use Rattle.fc_import.proofs.import.lines_len.Given as goal
 
 abbrev pub invariant-loop-len : goal.invariant-loop-len

@@ -1,7 +1,5 @@
-use Rattle.std.proofs.Common.{inl, inr}
-use Rattle.std.proofs.lemmas.List.Elements.{All-contains}
+use Rattle.{fc_import.specs.Import.{IsNoBoard}, std.proofs.{Common.{inl, inr}, lemmas.List.Elements.{All-contains}}}
 use Rattle.fc_text.specs.Lines.{lines_from, Piece}
-use Rattle.fc_import.specs.Import.{IsNoBoard}
 use Rattle.fc_import.proofs.laws.a_board_between_lists_is_not_passed_over.Goals as goal
 
 pub returns : goal.returns

@@ -1,8 +1,8 @@
 use Rattle.std.proofs.Common.{◌++◌, ◌∷◌, ◌≡◌, ◌≢◌, [], ap, arith, inl, inr, List, refl, ℕ}
 use Rattle.std.specs.Prelude.{codes, slice_index}
 use Rattle.fc_board.specs.{Games.{freecell}, Moves.{MoveList, OneCard, Runs}}
-use Rattle.fc_text.{proofs.ReadingLemmas.{Spells-from_faultless}, specs.Bytes.{line_feed}}
-use Rattle.fc_text.specs.{Printed.{text_of}, Spelling.{board_of, Spells}}
+use Rattle.fc_text.{proofs.ReadingLemmas.{Spells-from_faultless}, specs.{Bytes.{line_feed}, Printed.{text_of}}}
+use Rattle.fc_text.specs.Spelling.{board_of, Spells}
 use Rattle.fc_record.specs.{Grammar.{list_mark}, Printing.{list_line}}
 use Rattle.fc_import.{proofs.SilenceLemmas.{note_said}, specs.Notes.{Place, SaysUnless}}
 use Rattle.fc_import.proofs.laws.a_ten_is_a_change.Goals as goal

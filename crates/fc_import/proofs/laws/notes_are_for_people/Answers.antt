@@ -1,6 +1,4 @@
-use Rattle.std.proofs.Common.{◌++◌, ◌-◌, ap, arith, length, take}
-use Rattle.std.proofs.lemmas.Fmt.{decimal_digit}
-use Rattle.std.specs.Prelude.{codes}
+use Rattle.std.{proofs.{Common.{◌++◌, ◌-◌, ap, arith, length, take}, lemmas.Fmt.{decimal_digit}}, specs.Prelude.{codes}}
 use Rattle.fc_import.proofs.laws.notes_are_for_people.Goals as goal
 
 pub returns-clause-second : goal.returns-clause-second

@@ -1,6 +1,4 @@
-use Rattle.std.proofs.Common.{refl}
-use Rattle.std.specs.Char.Utf16.{utf16_chars}
-use Rattle.std.specs.Char.{encode_utf8}
+use Rattle.std.{proofs.Common.{refl}, specs.Char.{encode_utf8, Utf16.{utf16_chars}}}
 use Rattle.fc_import.proofs.laws.utf_16_is_decoded.Goals as goal
 
 pub returns-clause-low_first : goal.returns-clause-low_first

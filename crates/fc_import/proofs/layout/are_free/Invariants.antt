@@ -1,5 +1,4 @@
-use Rattle.std.proofs.Common.{◌<◌, None, ℕ}
-use Rattle.std.specs.Prelude.{IsNone, slice_index_or}
+use Rattle.std.{proofs.Common.{◌<◌, None, ℕ}, specs.Prelude.{IsNone, slice_index_or}}
 use Rattle.fc_import.proofs.layout.are_free.Given as goal
 
 -- the cells looked at so far

@@ -1,9 +1,8 @@
+use Rattle.{fc_text.specs.{Bytes.{line_feed}, Lines.{lines_from}}, memchr.specs.Find.{is_byte, Nowhere, Passes}}
 use Rattle.std.proofs.Common.{◌+◌, ◌-◌, ◌==◌, ◌∙◌, ◌≡◌, ◌≤◌, ap, arith, get_or, length, subst, suc, sym, take}
 use Rattle.std.proofs.lemmas.List.{take_all}
-use Rattle.fc_text.specs.{Bytes.{line_feed}, Lines.{lines_from}}
 use Rattle.fc_record.proofs.TextLineLemmas.{ends_line-take}
 use Rattle.fc_import.proofs.PieceLemmas.{first_feed, one_line, some_feed}
-use Rattle.memchr.specs.Find.{is_byte, Nowhere, Passes}
 use Rattle.fc_import.proofs.line.line_len.Goals as goal
 
 pub returns-in-Some-clause-lines : goal.returns-in-Some-clause-lines

@@ -1,7 +1,5 @@
 use Rattle.std.proofs.Common.{◌∙◌, ap, ap₂, map}
-use Rattle.fc_text.specs.Left.{tokens_left}
-use Rattle.fc_import.proofs.TakingLemmas.{without_ends}
-use Rattle.fc_import.specs.Import.{agree}
+use Rattle.{fc_import.{proofs.TakingLemmas.{without_ends}, specs.Import.{agree}}, fc_text.specs.Left.{tokens_left}}
 use Rattle.fc_import.proofs.made.agree.Goals as goal
 
 pub loop-token-init : goal.loop-token-init

@@ -1,6 +1,5 @@
 use Rattle.std.{proofs.Common.{◌≡◌}, specs.List.{list_any}}
-use Rattle.fc_text.specs.{Left.{lines_left}, Lines.{lines_from}}
-use Rattle.fc_import.specs.Labels.{says_column}
+use Rattle.{fc_import.specs.Labels.{says_column}, fc_text.specs.{Left.{lines_left}, Lines.{lines_from}}}
 use Rattle.fc_import.proofs.made.has_column.Given as goal
 
 -- the lines looked at so far say nothing

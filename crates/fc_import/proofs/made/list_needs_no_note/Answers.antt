@@ -1,6 +1,5 @@
 use Rattle.std.proofs.Common.{◌∙◌, ◌≡◌, ◌≢◌, false, sym, true}
-use Rattle.fc_record.specs.Printing.{list_line}
-use Rattle.fc_import.proofs.TakingLemmas.{list_needs}
+use Rattle.{fc_import.proofs.TakingLemmas.{list_needs}, fc_record.specs.Printing.{list_line}}
 use Rattle.fc_import.proofs.made.list_needs_no_note.Goals as goal
 
 pub returns-in-Doubts : goal.returns-in-Doubts

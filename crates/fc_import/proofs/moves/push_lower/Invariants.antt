@@ -1,5 +1,4 @@
-use Rattle.std.proofs.Common.{◌++◌, ◌≡◌, drop}
-use Rattle.std.specs.Str.{str_to_ascii_lowercase}
+use Rattle.std.{proofs.Common.{◌++◌, ◌≡◌, drop}, specs.Str.{str_to_ascii_lowercase}}
 use Rattle.fc_import.proofs.moves.push_lower.Given as goal
 
 abbrev pub invariant-loop-letter : goal.invariant-loop-letter

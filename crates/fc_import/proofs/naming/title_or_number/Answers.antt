@@ -1,5 +1,4 @@
-use Rattle.std.proofs.Common.{◌++◌, ◌∙◌, ◌≡◌, ap, arith, length, subst, sym, true}
-use Rattle.std.specs.Fmt.{decimal}
+use Rattle.std.{proofs.Common.{◌++◌, ◌∙◌, ◌≡◌, ap, arith, length, subst, sym, true}, specs.Fmt.{decimal}}
 use Rattle.fc_record.{proofs.HeadingLemmas.{word_numbered}, specs.Grammar.{is_name}}
 use Rattle.fc_import.proofs.naming.title_or_number.Goals as goal
 

@@ -1,5 +1,4 @@
-use Rattle.std.proofs.Common.{◌-◌, ◌<◌, ◌≤◌, ℕ}
-use Rattle.std.specs.Prelude.{slice_index}
+use Rattle.std.{proofs.Common.{◌-◌, ◌<◌, ◌≤◌, ℕ}, specs.Prelude.{slice_index}}
 use Rattle.{fc_board.specs.Games.{Builds}, fc_import.specs.Import.{most_dealt}}
 use Rattle.fc_import.proofs.playable.is_built.Given as goal
 

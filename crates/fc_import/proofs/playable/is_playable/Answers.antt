@@ -1,5 +1,4 @@
-use Rattle.std.proofs.Common.{[], arith, refl}
-use Rattle.std.proofs.lemmas.List.Elements.{All-from_get_or}
+use Rattle.std.proofs.{Common.{[], arith, refl}, lemmas.List.Elements.{All-from_get_or}}
 use Rattle.fc_import.specs.Import.{IsBuilt}
 use Rattle.fc_import.proofs.playable.is_playable.Goals as goal
 

@@ -1,5 +1,4 @@
-use Rattle.std.proofs.Common.{◌<◌, [], ℕ}
-use Rattle.std.specs.Prelude.{slice_index_or}
+use Rattle.std.{proofs.Common.{◌<◌, [], ℕ}, specs.Prelude.{slice_index_or}}
 use Rattle.fc_import.specs.Import.{IsBuilt}
 use Rattle.fc_import.proofs.playable.is_playable.Given as goal
 

@@ -1,7 +1,5 @@
-use Rattle.std.proofs.Common.{◌++◌, ◌∙◌, ◌∷◌, ◌≡◌, [], ap₂, arith, length, List, refl, sym, ℕ}
-use Rattle.std.proofs.lemmas.Bool.{eqb-true}
-use Rattle.fc_record.specs.Printing.{header_text}
-use Rattle.fc_import.proofs.FrontLemmas.{header_name_read}
+use Rattle.std.proofs.{Common.{◌++◌, ◌∙◌, ◌∷◌, ◌≡◌, [], ap₂, arith, length, List, refl, sym, ℕ}, lemmas.Bool.{eqb-true}}
+use Rattle.{fc_import.proofs.FrontLemmas.{header_name_read}, fc_record.specs.Printing.{header_text}}
 use Rattle.fc_import.proofs.printed.printed_name.Goals as goal
 
 nothing_else : (items : List ℕ) → length items ≡ 0 → items ≡ []

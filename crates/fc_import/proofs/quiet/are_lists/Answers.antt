@@ -1,7 +1,5 @@
-use Rattle.std.proofs.Common.{◌≡◌, ◌⊎◌, All, length, subst, sym, true}
-use Rattle.std.proofs.lemmas.List.Elements.{All-cons, All-tail}
-use Rattle.fc_text.specs.Lines.{Piece}
-use Rattle.fc_import.specs.Scan.{lists_moves, words_of}
+use Rattle.std.proofs.{Common.{◌≡◌, ◌⊎◌, All, length, subst, sym, true}, lemmas.List.Elements.{All-cons, All-tail}}
+use Rattle.{fc_import.specs.Scan.{lists_moves, words_of}, fc_text.specs.Lines.{Piece}}
 use Rattle.fc_import.proofs.quiet.are_lists.Goals as goal
 
 pub loop-line-preserved : goal.loop-line-preserved

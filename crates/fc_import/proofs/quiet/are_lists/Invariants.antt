@@ -1,6 +1,5 @@
 use Rattle.std.proofs.Common.{◌↔◌, ◌≡◌, ◌⊎◌, All, length, true}
-use Rattle.fc_text.specs.Left.{lines_left}
-use Rattle.fc_import.specs.{Import.{AreLists}, Scan.{lists_moves, words_of}}
+use Rattle.{fc_import.specs.{Import.{AreLists}, Scan.{lists_moves, words_of}}, fc_text.specs.Left.{lines_left}}
 use Rattle.fc_import.proofs.quiet.are_lists.Given as goal
 
 -- all lines are so exactly if those that are left are

@@ -1,7 +1,5 @@
-use Rattle.std.proofs.Common.{◌∙◌, All, ap, subst, sym}
-use Rattle.std.proofs.lemmas.List.Elements.{All-cons}
-use Rattle.fc_text.specs.{Left.{lines_left}, Lines.{Piece}}
-use Rattle.fc_import.specs.Import.{IsNoBoard}
+use Rattle.std.proofs.{Common.{◌∙◌, All, ap, subst, sym}, lemmas.List.Elements.{All-cons}}
+use Rattle.{fc_import.specs.Import.{IsNoBoard}, fc_text.specs.{Left.{lines_left}, Lines.{Piece}}}
 use Rattle.fc_import.proofs.quiet.are_no_board.Goals as goal
 
 pub loop-line-init : goal.loop-line-init

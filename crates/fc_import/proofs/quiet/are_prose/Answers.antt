@@ -1,6 +1,5 @@
-use Rattle.std.proofs.Common.{All, subst, sym}
-use Rattle.std.proofs.lemmas.List.Elements.{All-cons}
-use Rattle.{fc_import.specs.Scan.{IsProse}, fc_text.specs.Lines.{Piece}}
+use Rattle.{fc_text.specs.Lines.{Piece}, std.proofs.{Common.{All, subst, sym}, lemmas.List.Elements.{All-cons}}}
+use Rattle.fc_import.specs.Scan.{IsProse}
 use Rattle.fc_import.proofs.quiet.are_prose.Goals as goal
 
 pub loop-line-preserved : goal.loop-line-preserved

@@ -1,6 +1,5 @@
-use Rattle.std.proofs.Common.{All}
-use Rattle.fc_text.specs.Left.{lines_left}
-use Rattle.{fc_import.specs.Scan.{IsQuiet}, fc_text.specs.Lines.{lines_from}}
+use Rattle.{fc_text.specs.{Left.{lines_left}, Lines.{lines_from}}, std.proofs.Common.{All}}
+use Rattle.fc_import.specs.Scan.{IsQuiet}
 use Rattle.fc_import.proofs.quiet.are_quiet.Given as goal
 
 -- all lines are so, if those that are left are

@@ -1,6 +1,5 @@
 use Rattle.std.{proofs.Common.{◌++◌, ◌≡◌}, specs.List.{flat_map}}
-use Rattle.fc_text.specs.Left.{lines_left}
-use Rattle.fc_import.specs.Import.{moves_of, moves_of_line}
+use Rattle.{fc_import.specs.Import.{moves_of, moves_of_line}, fc_text.specs.Left.{lines_left}}
 use Rattle.fc_import.proofs.quiet.push_moves.Given as goal
 
 abbrev pub invariant-loop-line : goal.invariant-loop-line

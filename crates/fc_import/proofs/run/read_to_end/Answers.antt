@@ -1,8 +1,7 @@
 use Rattle.std.proofs.{Common.{◌∙◌, ap, arith, length, Ok, subst, sym}, KnownBytes.{Consumes-nil}}
 use Rattle.std.{proofs.lemmas.Result.{err_from_is_err_and}, specs.Io.KnownBytes.{Consumes}}
-use Rattle.fc_import.proofs.RunLemmas.{all_read, counted_all, counted_end, counted_fault}
-use Rattle.fc_import.proofs.RunLemmas.{counted_more, counted_none, given_up, grown_none}
-use Rattle.fc_import.proofs.RunLemmas.{never_ended, read_on}
+use Rattle.fc_import.proofs.RunLemmas.{all_read, counted_all, counted_end, counted_fault, counted_more, counted_none}
+use Rattle.fc_import.proofs.RunLemmas.{given_up, grown_none, never_ended, read_on}
 use Rattle.fc_import.proofs.run.read_to_end.Goals as goal
 
 pub returns-in_err-room-clause-counted : goal.returns-in_err-room-clause-counted

@@ -1,5 +1,4 @@
-use Rattle.std.proofs.Common.{◌≤◌, length}
-use Rattle.std.specs.Io.KnownBytes.{Consumes}
+use Rattle.std.{proofs.Common.{◌≤◌, length}, specs.Io.KnownBytes.{Consumes}}
 use Rattle.fc_collect.specs.{Limits.{most_bytes}, Streams.{GrowsBy, inner_of}}
 use Rattle.fc_import.proofs.run.read_to_end.Given as goal
 

@@ -1,6 +1,5 @@
-use Rattle.std.proofs.Common.{◌+◌, ◌∙◌, ◌≡◌, ap, arith, inl, inr, sym, true}
-use Rattle.std.proofs.lemmas.Bool.{and_parts, Decides.{leb_tells}}
-use Rattle.std.{proofs.lemmas.List.Elements.{All-from_get_or}, specs.Prelude.{slice_index}}
+use Rattle.std.proofs.{Common.{◌+◌, ◌∙◌, ◌≡◌, ap, arith, inl, inr, sym, true}, lemmas.Bool.{and_parts}}
+use Rattle.std.{proofs.lemmas.{Bool.Decides.{leb_tells}, List.Elements.{All-from_get_or}}, specs.Prelude.{slice_index}}
 use Rattle.fc_import.specs.inside.{is_alone}
 use Rattle.fc_import.proofs.signs.are_alone.Goals as goal
 

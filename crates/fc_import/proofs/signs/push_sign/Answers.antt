@@ -1,5 +1,4 @@
-use Rattle.std.proofs.Common.{◌++◌, ◌∙◌, ◌∷◌, ◌≡◌, [], ap, append-nil, sym}
-use Rattle.std.specs.Option.{unwrap_or}
+use Rattle.std.{proofs.Common.{◌++◌, ◌∙◌, ◌∷◌, ◌≡◌, [], ap, append-nil, sym}, specs.Option.{unwrap_or}}
 use Rattle.fc_import.proofs.SignLemmas.{byte_stands, letters_stand, no_letters, sign_is}
 use Rattle.fc_import.specs.Words.{sign_of, stands_for}
 use Rattle.fc_import.proofs.signs.push_sign.Goals as goal

@@ -1,5 +1,5 @@
-use Rattle.std.proofs.Common.{◌++◌, ◌∙◌, ◌≡◌, ◌≤◌, ap, append_assoc, arith, drop, length, subst}
-use Rattle.std.proofs.{Common.{sym, take}, lemmas.List.{drop-drop, length-drop, take_rest}}
+use Rattle.std.proofs.Common.{◌++◌, ◌∙◌, ◌≡◌, ◌≤◌, ap, append_assoc, arith, drop, length, subst, sym, take}
+use Rattle.std.proofs.lemmas.List.{drop-drop, length-drop, take_rest}
 use Rattle.fc_import.{proofs.SignLemmas.{run_stays}, specs.Words.{text_after}}
 use Rattle.fc_import.proofs.signs.take_front.Goals as goal
 use Rattle.fc_import.proofs.signs.take_front.Goals.{In_ok-extend_from_slice}

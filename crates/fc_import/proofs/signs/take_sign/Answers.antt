@@ -1,7 +1,5 @@
-use Rattle.std.proofs.Common.{◌++◌, ◌-◌, ◌∙◌, ap, append_assoc, ap₂, drop, sym}
-use Rattle.std.specs.Prelude.{slice_index}
-use Rattle.fc_import.proofs.SignLemmas.{after_sign, least_dropped, rest_after}
-use Rattle.fc_import.specs.Words.{sign_of, text_after}
+use Rattle.std.{proofs.Common.{◌++◌, ◌-◌, ◌∙◌, ap, append_assoc, ap₂, drop, sym}, specs.Prelude.{slice_index}}
+use Rattle.fc_import.{proofs.SignLemmas.{after_sign, least_dropped, rest_after}, specs.Words.{sign_of, text_after}}
 use Rattle.fc_import.proofs.signs.take_sign.Goals as goal
 
 pub returns-clause-takes : goal.returns-clause-takes

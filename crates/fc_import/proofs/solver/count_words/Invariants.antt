@@ -1,6 +1,5 @@
 use Rattle.std.proofs.Common.{◌+◌, ◌≡◌, ◌≤◌, length, map, min}
-use Rattle.fc_text.specs.Lines.{with_end, words_from}
-use Rattle.fc_import.specs.{Scan.{parts_words}, Seen.{words_left}}
+use Rattle.{fc_import.specs.{Scan.{parts_words}, Seen.{words_left}}, fc_text.specs.Lines.{with_end, words_from}}
 use Rattle.fc_import.proofs.solver.count_words.Given as goal
 
 abbrev pub invariant-loop-word : goal.invariant-loop-word

@@ -1,5 +1,5 @@
-use Rattle.std.proofs.Common.{subst}
-use Rattle.{fc_import.proofs.TakingLemmas.{none_read, read_alone}, fc_text.specs.Spelling.{Spells}}
+use Rattle.{fc_text.specs.Spelling.{Spells}, std.proofs.Common.{subst}}
+use Rattle.fc_import.proofs.TakingLemmas.{none_read, read_alone}
 use Rattle.fc_import.proofs.spelled.is_read_as.Goals as goal
 
 pub returns-in-Ok : goal.returns-in-Ok

@@ -1,5 +1,4 @@
-use Rattle.std.proofs.Common.{◌<◌, ◌≡◌, [], if◌then◌else◌, length, ℕ}
-use Rattle.std.specs.Prelude.{nat_lt, slice_index_or}
+use Rattle.std.{proofs.Common.{◌<◌, ◌≡◌, [], if◌then◌else◌, length, ℕ}, specs.Prelude.{nat_lt, slice_index_or}}
 use Rattle.fc_import.proofs.strips.is_dealt.Given as goal
 
 -- the columns looked at so far

@@ -1,6 +1,5 @@
 use Rattle.std.{proofs.Common.{◌≡◌}, specs.List.{list_all}}
-use Rattle.fc_text.specs.{Left.{lines_left}, Lines.{lines_from}}
-use Rattle.fc_import.specs.Strips.{are_below}
+use Rattle.{fc_import.specs.Strips.{are_below}, fc_text.specs.{Left.{lines_left}, Lines.{lines_from}}}
 use Rattle.fc_import.proofs.strips.tells_columns.Given as goal
 
 -- the lines that are left are so exactly if all are

@@ -1,5 +1,4 @@
-use Rattle.std.proofs.Common.{◌==◌, ◌≤◌, ap, arith, length, sym, take}
-use Rattle.std.proofs.lemmas.List.{take_all}
+use Rattle.std.proofs.{Common.{◌==◌, ◌≤◌, ap, arith, length, sym, take}, lemmas.List.{take_all}}
 use Rattle.std.specs.List.{position_or_len}
 use Rattle.fc_text.proofs.LetterLemmas.{first_byte-none, first_byte-some}
 use Rattle.fc_import.proofs.words.before_mark.Goals as goal

@@ -1,6 +1,5 @@
 use Rattle.std.proofs.Common.{◌∙◌, ap, if◌then◌else◌}
-use Rattle.fc_import.proofs.QuietLemmas.{said_more}
-use Rattle.fc_import.specs.{Scan.{after_word, uncommented}, Seen.{piece_of, said_of}}
+use Rattle.fc_import.{proofs.QuietLemmas.{said_more}, specs.{Scan.{after_word, uncommented}, Seen.{piece_of, said_of}}}
 use Rattle.fc_import.proofs.hearing.LineHeard.of.Goals as goal
 
 pub loop-word-preserved : goal.loop-word-preserved

@@ -1,7 +1,5 @@
-use Rattle.std.proofs.Common.{◌≡◌, if◌then◌else◌}
-use Rattle.std.specs.List.{fold}
-use Rattle.fc_import.specs.Scan.{after_word, said_in, uncommented}
-use Rattle.fc_import.specs.Seen.{said_of, words_left}
+use Rattle.std.{proofs.Common.{◌≡◌, if◌then◌else◌}, specs.List.{fold}}
+use Rattle.fc_import.specs.{Scan.{after_word, said_in, uncommented}, Seen.{said_of, words_left}}
 use Rattle.fc_import.proofs.hearing.LineHeard.of.Given as goal
 
 abbrev pub invariant-loop-word : goal.invariant-loop-word

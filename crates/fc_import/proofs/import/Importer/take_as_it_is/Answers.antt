@@ -1,11 +1,9 @@
-use Rattle.std.proofs.Common.{◌++◌, ◌∙◌, ◌≡◌, ap, append_assoc, arith, Err, get_or, IfOk, IfSome}
-use Rattle.std.proofs.Common.{length, List, None, Ok, Option, refl, Result, Some, subst, subst₂, sym, ℕ}
-use Rattle.{fc_board.specs.{Boards.{Board}, Games.{Game}}, fc_text.specs.Printed.{text_of}}
-use Rattle.fc_board.specs.declared.rule.Variant.{Variant}
-use Rattle.fc_record.specs.Printing.{header_text, list_line}
+use Rattle.std.proofs.Common.{◌++◌, ◌∙◌, ◌≡◌, ap, append_assoc, arith, Err, get_or, IfOk, IfSome, length, List, None}
+use Rattle.std.proofs.Common.{Ok, Option, refl, Result, Some, subst, subst₂, sym, ℕ}
+use Rattle.fc_board.specs.{Boards.{Board}, declared.rule.Variant.{Variant}, Games.{Game}}
+use Rattle.{fc_record.specs.Printing.{header_text, list_line}, fc_text.specs.Printed.{text_of}}
 use Rattle.fc_import.proofs.FrontLemmas.{in_front}
-use Rattle.fc_import.proofs.PrintedLemmas.{begins, Begins, front_of_header, front_of_list, with_list}
-use Rattle.fc_import.proofs.PrintedLemmas.{with_record}
+use Rattle.fc_import.proofs.PrintedLemmas.{begins, Begins, front_of_header, front_of_list, with_list, with_record}
 use Rattle.fc_import.specs.{Import.{IsPrinted}, inside.{KeepsFirst, TakesAsItIs}}
 use Rattle.fc_import.specs.declared.made.Made.{Made}
 use Rattle.fc_import.proofs.import.Importer.take_as_it_is.Goals as goal

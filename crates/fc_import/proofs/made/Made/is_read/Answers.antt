@@ -1,4 +1,5 @@
-use Rattle.{fc_import.specs.Import.{laid, spelled}, std.proofs.Common.{◌∙◌, sym}}
+use Rattle.std.proofs.Common.{◌∙◌, sym}
+use Rattle.fc_import.specs.Import.{laid, spelled}
 use Rattle.fc_import.proofs.made.Made.is_read.Goals as goal
 
 pub returns-then-is_laid : goal.returns-then-is_laid

@@ -1,4 +1,5 @@
-use Rattle.{fc_import.specs.Import.{spelled}, std.proofs.Common.{◌∙◌, inl, sym}}
+use Rattle.std.proofs.Common.{◌∙◌, inl, sym}
+use Rattle.fc_import.specs.Import.{spelled}
 use Rattle.fc_import.proofs.made.Made.is_shown.Goals as goal
 
 pub returns-clause-of : goal.returns-clause-of

@@ -1,5 +1,4 @@
-use Rattle.fc_import.proofs.TakingLemmas.{silent}
-use Rattle.fc_import.specs.Import.{passed}
+use Rattle.fc_import.{proofs.TakingLemmas.{silent}, specs.Import.{passed}}
 use Rattle.fc_import.proofs.made.Made.pass.Goals as goal
 
 pub returns-clause-taken : goal.returns-clause-taken

@@ -1,9 +1,7 @@
 use Rattle.std.proofs.Common.{◌++◌, ◌∙◌, ◌≡◌, ◌≤◌, ap, IfSome, inr, Some, subst}
-use Rattle.fc_board.specs.{Boards.{Board}, Moves.{move_count}, Play.{Legal}}
-use Rattle.{fc_record.specs.Printing.{list_line}, fc_text.specs.Notation.{most_moves}}
-use Rattle.fc_import.specs.{Import.{a_list, Names}, Notes.{after}}
-use Rattle.fc_import.proofs.TakingLemmas.{taken}
-use Rattle.fc_import.specs.declared.tally.Fate.TheVariants.{AList}
+use Rattle.{fc_board.specs.{Boards.{Board}, Moves.{move_count}, Play.{Legal}}, fc_text.specs.Notation.{most_moves}}
+use Rattle.{fc_import.specs.declared.tally.Fate.TheVariants.{AList}, fc_record.specs.Printing.{list_line}}
+use Rattle.fc_import.{proofs.TakingLemmas.{taken}, specs.{Import.{a_list, Names}, Notes.{after}}}
 use Rattle.fc_import.proofs.made.Made.put_list.Goals as goal
 
 pub returns-clause-taken : goal.returns-clause-taken

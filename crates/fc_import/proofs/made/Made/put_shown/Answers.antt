@@ -1,5 +1,5 @@
-use Rattle.fc_import.{proofs.TakingLemmas.{board_taken}, specs.Import.{spelled}}
 use Rattle.std.proofs.Common.{◌∙◌, inl, sym}
+use Rattle.fc_import.{proofs.TakingLemmas.{board_taken}, specs.Import.{spelled}}
 use Rattle.fc_import.proofs.made.Made.put_shown.Goals as goal
 
 pub returns-clause-taken : goal.returns-clause-taken

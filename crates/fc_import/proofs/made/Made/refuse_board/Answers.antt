@@ -1,6 +1,5 @@
 use Rattle.std.proofs.Common.{◌∙◌}
-use Rattle.fc_import.proofs.TakingLemmas.{noted}
-use Rattle.fc_import.specs.Import.{refused_board}
+use Rattle.fc_import.{proofs.TakingLemmas.{noted}, specs.Import.{refused_board}}
 use Rattle.fc_import.proofs.made.Made.refuse_board.Goals as goal
 
 pub returns : goal.returns

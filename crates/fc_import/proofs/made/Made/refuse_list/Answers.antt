@@ -1,6 +1,5 @@
 use Rattle.std.proofs.Common.{◌∙◌, inl, inr, None, refl}
-use Rattle.fc_import.proofs.TakingLemmas.{noted}
-use Rattle.fc_import.specs.Import.{refused_list}
+use Rattle.fc_import.{proofs.TakingLemmas.{noted}, specs.Import.{refused_list}}
 use Rattle.fc_import.proofs.made.Made.refuse_list.Goals as goal
 
 pub returns-then-branch : goal.returns-then-branch

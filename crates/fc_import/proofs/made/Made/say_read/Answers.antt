@@ -1,4 +1,4 @@
-use Rattle.std.proofs.Common.{◌≡◌, ◌∙◌, false, inr, refl, sym, true}
+use Rattle.std.proofs.Common.{◌∙◌, ◌≡◌, false, inr, refl, sym, true}
 use Rattle.fc_import.proofs.TakingLemmas.{spelled_out}
 use Rattle.fc_import.proofs.made.Made.say_read.Goals as goal
 

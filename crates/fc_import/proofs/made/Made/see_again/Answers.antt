@@ -1,5 +1,5 @@
-use Rattle.fc_import.proofs.TakingLemmas.{last_taken}
 use Rattle.std.proofs.Common.{◌∙◌, ap, Some, sym}
+use Rattle.fc_import.proofs.TakingLemmas.{last_taken}
 use Rattle.fc_import.proofs.made.Made.see_again.Goals as goal
 
 pub returns-clause-taken : goal.returns-clause-taken

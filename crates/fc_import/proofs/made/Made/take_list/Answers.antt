@@ -1,11 +1,8 @@
 use Rattle.std.proofs.Common.{◌∙◌, ◌≡◌, ◌≤◌, ap, IfSome, Some, subst, sym}
-use Rattle.fc_board.specs.{Boards.{Board}, Moves.{move_count}, Play.{Legal}}
-use Rattle.{fc_record.specs.Printing.{list_line}, fc_text.specs.Notation.{most_moves}}
-use Rattle.fc_import.specs.Import.{Names}
-use Rattle.fc_import.proofs.FrontLemmas.{in_front, list_len, list_taken}
-use Rattle.fc_import.proofs.PieceLemmas.{begins_front}
-use Rattle.fc_text.proofs.WriterLemmas.{few_cells}
-use Rattle.fc_import.proofs.PrintedLemmas.{legal_fits, printed_names}
+use Rattle.{fc_board.specs.{Boards.{Board}, Moves.{move_count}, Play.{Legal}}, fc_record.specs.Printing.{list_line}}
+use Rattle.fc_text.{proofs.WriterLemmas.{few_cells}, specs.Notation.{most_moves}}
+use Rattle.fc_import.proofs.{FrontLemmas.{in_front, list_len, list_taken}, PieceLemmas.{begins_front}}
+use Rattle.fc_import.{proofs.PrintedLemmas.{legal_fits, printed_names}, specs.Import.{Names}}
 use Rattle.fc_import.proofs.made.Made.take_list.Goals as goal
 
 pub returns-in_default-clause-found : goal.returns-in_default-clause-found

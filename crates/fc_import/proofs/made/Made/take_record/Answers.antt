@@ -1,9 +1,6 @@
-use Rattle.std.proofs.Common.{◌+◌, ◌∙◌, ◌≡◌, ◌≢◌, [], ap, IfSome, IsSome, length, length-append}
-use Rattle.std.proofs.Common.{Some, subst, sym, take}
-use Rattle.fc_text.specs.Printed.{text_of}
-use Rattle.fc_record.specs.{Grammar.{heading_of}, Printing.{header_text}}
-use Rattle.fc_import.proofs.FrontLemmas.{end_is, record_parts, record_taken}
-use Rattle.fc_import.specs.Notes.{name_by}
+use Rattle.std.proofs.Common.{◌+◌, ◌∙◌, ◌≡◌, ◌≢◌, [], ap, IfSome, IsSome, length, length-append, Some, subst, sym, take}
+use Rattle.{fc_record.specs.{Grammar.{heading_of}, Printing.{header_text}}, fc_text.specs.Printed.{text_of}}
+use Rattle.fc_import.{proofs.FrontLemmas.{end_is, record_parts, record_taken}, specs.Notes.{name_by}}
 use Rattle.fc_import.proofs.made.Made.take_record.Goals as goal
 
 pub returns-in_default-clause-found : goal.returns-in_default-clause-found

@@ -1,5 +1,4 @@
-use Rattle.std.proofs.Common.{ap, arith, length, rules}
-use Rattle.fc_import.proofs.QuietLemmas.{cards_more}
+use Rattle.{fc_import.proofs.QuietLemmas.{cards_more}, std.proofs.Common.{ap, arith, length, rules}}
 use Rattle.fc_import.proofs.scan.LineSeen.of.Goals as goal
 
 pub loop-word-preserved : goal.loop-word-preserved

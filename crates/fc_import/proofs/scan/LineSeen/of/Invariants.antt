@@ -1,5 +1,5 @@
-use Rattle.std.proofs.Common.{◌&&◌, ◌++◌, ◌+◌, ◌-◌, ◌^◌, ◌≡◌, ◌≤◌, length, min}
-use Rattle.std.specs.{List.{flat_map, list_all}, Option.{option_to_list}}
+use Rattle.std.{proofs.Common.{◌&&◌, ◌++◌, ◌+◌, ◌-◌, ◌^◌, ◌≡◌, ◌≤◌, length, min}, specs.List.{flat_map, list_all}}
+use Rattle.std.specs.Option.{option_to_list}
 use Rattle.fc_import.specs.{Scan.{cards_in, is_number, named_card, words_of}, Seen.{cards_of, words_left}}
 use Rattle.fc_import.proofs.scan.LineSeen.of.Given as goal
 

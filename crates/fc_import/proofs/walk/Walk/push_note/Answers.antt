@@ -1,8 +1,7 @@
-use Rattle.std.proofs.Common.{◌++◌, ◌∙◌, ◌∷◌, [], ap, refl, take}
-use Rattle.std.specs.Prelude.{codes}
-use Rattle.{fc_import.specs.Notes.{line_after, place_text}, fc_text.specs.Bytes.{line_feed}}
-use Rattle.fc_import.proofs.TakingLemmas.{all_print, put_five}
-use Rattle.fc_import.specs.inside.{place_of, printing}
+use Rattle.std.{proofs.Common.{◌++◌, ◌∙◌, ◌∷◌, [], ap, refl, take}, specs.Prelude.{codes}}
+use Rattle.fc_text.specs.Bytes.{line_feed}
+use Rattle.fc_import.{proofs.TakingLemmas.{all_print, put_five}, specs.inside.{place_of, printing}}
+use Rattle.fc_import.specs.Notes.{line_after, place_text}
 use Rattle.fc_import.proofs.walk.Walk.push_note.Goals as goal
 
 pub returns : goal.returns

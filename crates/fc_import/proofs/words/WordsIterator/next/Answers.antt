@@ -1,9 +1,7 @@
-use Rattle.std.proofs.Common.{◌+◌, ◌∙◌, ◌≡◌, ap, arith, drop, drop-drop, length, List, map, not}
-use Rattle.std.proofs.Common.{rules, ℕ}
-use Rattle.std.proofs.lemmas.List.{take_rest}
-use Rattle.std.specs.List.{prefix_len}
-use Rattle.fc_text.proofs.NextTokenLemmas.{next_with_end, no_next_word}
-use Rattle.{fc_import.specs.Scan.{parts_words}, fc_text.specs.Lines.{with_end}}
+use Rattle.std.proofs.Common.{◌+◌, ◌∙◌, ◌≡◌, ap, arith, drop, drop-drop, length, List, map, not, rules, ℕ}
+use Rattle.std.{proofs.lemmas.List.{take_rest}, specs.List.{prefix_len}}
+use Rattle.fc_text.{proofs.NextTokenLemmas.{next_with_end, no_next_word}, specs.Lines.{with_end}}
+use Rattle.fc_import.specs.Scan.{parts_words}
 use Rattle.fc_import.proofs.words.WordsIterator.next.Goals as goal
 
 starts : (text rest : List ℕ) (at gap : ℕ) → rest ≡ drop at text → gap ≡ prefix_len parts_words rest → at + gap ≡ at + prefix_len parts_words (drop at text)
