@@ -141,7 +141,7 @@ pub(crate) fn fields_in(text: &[u8]) -> usize
 {
     let mut count = 0;
     for byte in text {
-        count += usize::from(b",;|/\t".contains(byte));
+        count += usize::from(parts_fields(*byte));
     }
     count
 }
@@ -162,9 +162,21 @@ fn has_mark(line: &[u8]) -> bool
     ensures { result ≡ list_any is_mark line.now }
 {
     for byte in line {
-        if b",;|/\t-*._[]\"'".contains(byte) {
+        if is_mark(*byte) {
             return true;
         }
     }
     false
+}
+
+fn is_mark(byte: u8) -> bool
+    ensures { result ≡ is_mark byte }
+{
+    parts_fields(byte) || matches!(byte, b'-' | b'*' | b'.' | b'_' | b'[' | b']' | b'"' | b'\'')
+}
+
+fn parts_fields(byte: u8) -> bool
+    ensures { result ≡ parts_fields byte }
+{
+    matches!(byte, b',' | b';' | b'|' | b'/' | b'\t')
 }
