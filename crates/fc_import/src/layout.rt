@@ -104,7 +104,16 @@ fn columns_or_rows<R: Rule>(text: &[u8], piece: &Piece) -> Drafted<R> {
 
 // The board of the lines as rows, and the layout that tells under which columns their cards stand.
 fn rows_of<R: Rule>(text: &[u8], piece: &Piece) -> Option<(Board<R>, Layout)> {
+    let is_regular = is_regular(piece);
     for strips in strips_of(text, piece) {
+        let may_tell = match strips {
+            Strips::Words { .. } => is_regular,
+            Strips::Fields { .. } => true,
+            Strips::Bytes { .. } => !is_regular,
+        };
+        if !may_tell {
+            continue;
+        }
         let layout = Layout::Rows(strips);
         if let Some(board) = board_in(text, piece, layout) {
             if tells_columns(layout, text, &board) {
@@ -385,11 +394,11 @@ fn put_row_in(
     Some(())
 }
 
-/// The strips that the rows may have, by the first one: of fields, and of words where these are
-/// regular, so that no blanks tell of a gap, or else of bytes.
-pub(crate) fn strips_of(text: &[u8], piece: &Piece) -> [Strips; 3] {
+/// The strips that the rows may have, by the first one: of words, which tell where these are regular,
+/// since no blanks are a gap then; of fields; and of bytes, which tell where they are not.
+pub(crate) fn strips_of(text: &[u8], piece: &Piece) -> [Strips; 4] {
     let [row, ..] = piece.rows.as_slice() else {
-        return [Strips::Fields { base: 0 }; 3];
+        return [Strips::Fields { base: 0 }; 4];
     };
     let line = row.of(text);
     let start = match Words::new(line).next() {
@@ -397,17 +406,14 @@ pub(crate) fn strips_of(text: &[u8], piece: &Piece) -> [Strips; 3] {
         None => 0,
     };
     let before = &line[..start.min(line.len())];
-    let fields = Strips::Fields {
-        base: short(fields_in(before).saturating_sub(row.shape.lead)),
-    };
-    if !is_regular(piece) {
-        return [fields, bytes_of(line, 0), bytes_of(line, 2)];
-    }
     let words = Strips::Words {
         base: short(words_in(before).saturating_sub(row.shape.lead)),
         count: short(words_in(line)),
     };
-    [fields, words, words]
+    let fields = Strips::Fields {
+        base: short(fields_in(before).saturating_sub(row.shape.lead)),
+    };
+    [words, fields, bytes_of(line, 0), bytes_of(line, 2)]
 }
 
 fn short(number: usize) -> u16 {
