@@ -394,8 +394,8 @@ fn put_row_in(
     Some(())
 }
 
-/// The strips that the rows may have, by the first one: of words, which tell where these are regular,
-/// since no blanks are a gap then; of fields; and of bytes, which tell where they are not.
+/// The strips that the rows may have, by the first one: of words, which tell where they are
+/// regular, since no blanks are a gap then; of fields; and of bytes, which tell where they are not.
 pub(crate) fn strips_of(text: &[u8], piece: &Piece) -> [Strips; 4] {
     let [row, ..] = piece.rows.as_slice() else {
         return [Strips::Fields { base: 0 }; 4];
