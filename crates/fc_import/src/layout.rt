@@ -5,7 +5,7 @@ ghost use Rattle.std.specs.Prelude.{All, drop, IsNone, IsTrue};
 
 use crate::labels::LabelKind;
 use crate::options::LinesAre;
-use crate::piece::Piece;
+use crate::piece::{Piece, PieceLine};
 use crate::playable::{MOST_DEALT, is_playable};
 use crate::scan::{Placed, named_card};
 use crate::strips::{Strips, fields_in, strip_of, tells_columns, words_in};
@@ -394,10 +394,20 @@ fn put_row_in(
     Some(())
 }
 
+// The first row with a card: before it a solver may draw a line of dashes.
+fn first_with_cards(piece: &Piece) -> Option<&PieceLine> {
+    for row in piece.rows.as_slice() {
+        if row.shape.cards > 0 {
+            return Some(row);
+        }
+    }
+    None
+}
+
 /// The strips that the rows may have, by the first one: of words, which tell where they are
 /// regular, since no blanks are a gap then; of fields; and of bytes, which tell where they are not.
 pub(crate) fn strips_of(text: &[u8], piece: &Piece) -> [Strips; 4] {
-    let [row, ..] = piece.rows.as_slice() else {
+    let Some(row) = first_with_cards(piece) else {
         return [Strips::Fields { base: 0 }; 4];
     };
     let line = row.of(text);
