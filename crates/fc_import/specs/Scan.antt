@@ -233,14 +233,21 @@ lists_moves game in_words line = is_list game line && not (in_words && is_drawn 
 
 -- -------- How many moves a line names, and whether they may be cut into signs. From: this project's profile.
 
+-- the word is a move with a digit and a letter
+abbrev pub is_sure_move : Game → Text → Bool
+is_sure_move game word = is_sure word && is_some (run_named game word)
+
 -- single characters, of which the first two are a move: so moves may be cut into two
 abbrev pub begins_single : Game → List (Piece × ℕ) → Bool
 begins_single game words =
-    let first = slice_index (word_at words 0) 0 ∷ slice_index (word_at words 1) 0 ∷ [] in
-    is_sure first && is_some (run_named game first)
+    is_sure_move game (slice_index (word_at words 0) 0 ∷ slice_index (word_at words 1) 0 ∷ [])
 
 abbrev pub are_single : Game → List (Piece × ℕ) → Bool
-are_single game words = nat_le 4 (length words) && list_all (λ word. length word.0.bytes == 1) words && begins_single game words
+are_single game words = nat_le 2 (length words) && list_all (λ word. length word.0.bytes == 1) words && begins_single game words
+
+-- a number comes first, as that of a line, and then a move
+abbrev pub is_numbered_move : Game → List (Piece × ℕ) → Bool
+is_numbered_move game words = is_number (word_at words 0) && is_sure_move game (word_at words 1)
 
 -- how many moves its words name, among others too
 abbrev pub moves_in : Game → Text → ℕ
@@ -248,13 +255,14 @@ moves_in game line = count_by (λ byte. byte == blank) (said_in game line).moves
 
 -- -------- What a line may be that no board and no list is made of. From: this project's profile.
 
--- a line of other words names few moves: less than four, by at most half of its words, but for a number alone; one at most that is no number, and that not first; and it has no moves in forms that are not read
+-- a line of other words names few moves: less than four, by at most half of its words, but for a number alone; one at most that is no number, and that neither first nor after a number that is; and it has no moves in forms that are not read
 pub record HasFewMoves (game : Game) (line : Text) : Type 0 where
   pub few : moves_in game line < 4
   pub half : (2 * moves_in game line ≤ length (words_of line)) ⊎ (is_number_alone (words_of line) ≡ true)
   pub sure : (said_in game line).sure ≤ 1
   pub led : (said_in game line).led ≡ false
   pub parted : are_single game (words_of line) ≡ false
+  pub unnumbered : is_numbered_move game (words_of line) ≡ false
 
 -- a line passes in silence that names no card, is no list, and names few moves: so a solution never does
 pub record IsQuiet (game : Game) (line : Text) : Type 0 where

@@ -4,10 +4,10 @@ ghost use Rattle.std.specs.Prelude.{IfOk, if◌then◌else◌, IsTrue, length, N
 ghost use Rattle.fc_text.specs.Bytes.{blank};
 ghost use Rattle.fc_import.specs.Scan.{after_word, are_single, begins_single, HasFewMoves};
 ghost use Rattle.fc_import.specs.Scan.{is_drawn, is_drawn_word, is_in_words, is_list};
-ghost use Rattle.fc_import.specs.Scan.{is_number_alone, said_in, words_of};
-ghost use Rattle.fc_import.specs.Seen.{IsHeard, IsSeen, piece_of, said_of};
+ghost use Rattle.fc_import.specs.Scan.{is_number_alone, is_numbered_move, is_sure_move, said_in};
+ghost use Rattle.fc_import.specs.{Scan.{words_of}, Seen.{IsHeard, IsSeen, piece_of, said_of}};
 
-use crate::moves::{Heard, has_small_letters, is_sure};
+use crate::moves::{Heard, has_small_letters, is_number, is_sure};
 use crate::scan::{LineSeen, named_card};
 use crate::signs::byte_at;
 use crate::solver::{push_solver_move, word_at};
@@ -69,7 +69,7 @@ impl LineHeard {
         if self.heard.sure > 1 || self.heard.led {
             return false;
         }
-        !are_single::<R>(line, seen)
+        !are_single::<R>(line, seen) && !is_numbered_move::<R>(line)
     }
 }
 
@@ -100,7 +100,7 @@ fn are_single<R: Rule>(line: &[u8], seen: &LineSeen) -> bool
     requires { IsSeen line.now seen.now }
     ensures { result ≡ are_single R.game (words_of line.now) }
 {
-    seen.words >= 4 && is_each_single(line) && begins_single::<R>(line)
+    seen.words >= 2 && is_each_single(line) && begins_single::<R>(line)
 }
 
 // Whether the first signs of the first two words of the line are a move with a digit and a letter.
@@ -109,7 +109,22 @@ fn begins_single<R: Rule>(line: &[u8]) -> bool
 {
     let text = uncommented(line);
     let letters = [byte_at(word_at(text, 0), 0), byte_at(word_at(text, 1), 0)];
-    is_sure(letters.as_slice()) && run_named::<R>(letters.as_slice()).is_some()
+    is_sure_move::<R>(letters.as_slice())
+}
+
+// Whether the first word of the line is a number, and the second a move.
+fn is_numbered_move<R: Rule>(line: &[u8]) -> bool
+    ensures { result ≡ is_numbered_move R.game (words_of line.now) }
+{
+    let text = uncommented(line);
+    is_number(word_at(text, 0)) && is_sure_move::<R>(word_at(text, 1))
+}
+
+// Whether the word is a move with a digit and a letter.
+fn is_sure_move<R: Rule>(word: &[u8]) -> bool
+    ensures { result ≡ is_sure_move R.game word.now }
+{
+    is_sure(word) && run_named::<R>(word).is_some()
 }
 
 // Whether each word of the line is one sign.

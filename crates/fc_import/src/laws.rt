@@ -87,6 +87,8 @@ pub fn solutions_are_not_quiet()
     ensures stacks { ¬ IsQuiet freecell (codes "Move 2 cards from stack 0 to stack 5") }
     ensures glued { ¬ IsQuiet freecell (codes "3a3b5c") }
     ensures single { ¬ IsQuiet freecell (codes "3 a 3 b") }
+    ensures pair { ¬ IsQuiet freecell (codes "3 a") }
+    ensures numbered { ¬ IsQuiet freecell (codes "1 3a") }
     ensures number { IsQuiet freecell (codes "24") }
     ensures title { IsQuiet freecell (codes "Game 1b") }
 {}
