@@ -1,8 +1,9 @@
 -- Two empty piles of a board may be exchanged, so a card that goes to the one or to the other leads to equivalent boards.
-use Rattle.std.proofs.Common.{◌-◌, ◌<◌, ◌==◌, ◌∙◌, ◌≡◌, ◌≢◌, [], ap, ap₂, arith, Bool, cond, get_or, inl, inr, length}
-use Rattle.std.proofs.{Common.{List, map, None, refl, Some, subst, sym, ℕ}, lemmas.Bool.{cases_eq, eq-eqb, ne_eqb}}
-use Rattle.std.proofs.lemmas.List.{Elements.{All-get_or}, FromFn.{get_or-map-range_with_len, length-range_with_len}}
-use Rattle.std.proofs.lemmas.List.{get_or_default, length-map, same_lists}
+use Rattle.std.proofs.Common.{◌<◌, ◌==◌, ◌∙◌, ◌≡◌, ◌≢◌, [], ap, ap₂, arith, Bool, cond, get_or, inl, inr, length, List}
+use Rattle.std.proofs.Common.{map, None, Option, refl, set, Some, subst, sym, ℕ}
+use Rattle.std.proofs.lemmas.{Bool.{cases_eq, eq-eqb, ne_eqb}, List.Elements.{All-get_or}}
+use Rattle.std.proofs.lemmas.List.{FromFn.{get_or-map-range_with_len, length-range_with_len}, get_or-set_other}
+use Rattle.std.proofs.lemmas.List.{get_or-set_same, get_or_default, length-map, length-set, same_lists}
 use Rattle.fc_card.specs.{AllBelow, IsOrder}
 use Rattle.fc_card.specs.laws.OrderLaws.{get_or-pick, length-pick, pick-places, place_of-IsOrder, places-IsOrder}
 use Rattle.fc_card.specs.laws.RenamingLaws.{identity-IsRenaming, renamed_card-identity}
@@ -18,7 +19,8 @@ use Rattle.fc_board.specs.declared.moves.{Move.{Move}, Place.{Place}}
 use Rattle.fc_board.specs.declared.moves.{Place.TheVariants.{Cell as ToCell, Column as ToColumn, Home}, Source.{Source}}
 use Rattle.fc_board.specs.declared.moves.Source.TheVariants.{Cell as FromCell, Column as FromColumn}
 use Rattle.fc_canon.{proofs.LeastTextLemmas.{chosen-same, chosen_passage-Chosen}, specs.{chosen_passage, Equivalent}}
-use Rattle.fc_bytes.{proofs.LegalMoves.{all_legal}, specs.{HoldsBoard, inside.{AreAlike, AreFreeAlike}}}
+use Rattle.fc_bytes.{proofs.LegalMoves.{all_legal}, specs.{HoldsBoard}}
+use Rattle.fc_bytes.specs.inside.{AreAlike, AreCells, AreFreeAlike, IsBetweenCells}
 use Rattle.fc_bytes.specs.{IsAllowed, IsKeyAfter, legal_moves, move_bytes}
 use Rattle.fc_bytes.specs.declared.{board.BoardBytes.{BoardBytes}, moves.MoveBytes.{MoveBytes}}
 
@@ -120,11 +122,11 @@ in_orders-IsPassage game columns cells is eight is' all = record {
   orders = record { of_columns = is; eight_columns = eight; of_cells = is'; all_cells = all };
 }
 
-in_orders-stays : (game : Game) (board : Board) (columns cells : List ℕ) → HasAllPiles game board → pick board.columns columns ≡ board.columns →
-    pick board.cells cells ≡ board.cells → carried (in_orders columns cells) board ≡ board
-in_orders-stays game board columns cells all same_columns same_cells =
+in_orders-leads : (game : Game) (board other : Board) (columns cells : List ℕ) → HasAllPiles game board → board.heights ≡ other.heights →
+    pick board.columns columns ≡ other.columns → pick board.cells cells ≡ other.cells → carried (in_orders columns cells) board ≡ other
+in_orders-leads game board other columns cells all same_heights same_columns same_cells =
     let one_column = map_unchanged (renamed_card (places 4)) renamed_card-identity in
-    parts_same (carried (in_orders columns cells) board) board (ap (λ board. board.heights) (carried-identity {game = game} board all))
+    parts_same (carried (in_orders columns cells) board) other (ap (λ board. board.heights) (carried-identity {game = game} board all) ∙ same_heights)
     (ap (λ items. pick items cells) (map_unchanged (renamed_cell (places 4)) renamed_cell-identity board.cells) ∙ same_cells)
     (ap (λ items. pick items columns) (map_unchanged (renamed_column (places 4)) one_column board.columns) ∙ same_columns)
 
@@ -146,7 +148,7 @@ module _ {game : Game} {renamings : List (List ℕ)} {cells count : ℕ} {kings_
       by_passage (in_orders (places 8) order) (move_between source (ToCell i)) (move_between source (ToCell j)) after after'
       (in_orders-IsPassage game (places 8) order (places-IsOrder 8) (length-range_with_len 0 8) (swap-IsOrder i j game.cells first second)
       (length-swap i j game.cells first second))
-      (in_orders-stays game board (places 8) order well.piles (pick-places board.columns 8 well.piles.eight_columns)
+      (in_orders-leads game board board (places 8) order well.piles refl (pick-places board.columns 8 well.piles.eight_columns)
       (pick-swap i j game.cells first second board.cells None well.piles.all_cells (step.goes ∙ sym step'.goes)))
       (ap₂ move_between (same source step.card step.offered.1 step.fits.0) (ap ToCell (place_of-swap i j game.cells first second i first ∙ swapped-first i j i refl)))
       step step'
@@ -175,7 +177,7 @@ module _ {game : Game} {renamings : List (List ℕ)} {cells count : ℕ} {kings_
       by_passage (in_orders order (places game.cells)) (move_between source (ToColumn i)) (move_between source (ToColumn j)) after after'
       (in_orders-IsPassage game order (places game.cells) (swap-IsOrder i j 8 first second) (length-swap i j 8 first second) (places-IsOrder game.cells)
       (length-range_with_len 0 game.cells))
-      (in_orders-stays game board order (places game.cells) well.piles
+      (in_orders-leads game board board order (places game.cells) well.piles refl
       (pick-swap i j 8 first second board.columns [] well.piles.eight_columns (empty ∙ sym empty')) (pick-places board.cells game.cells well.piles.all_cells))
       (ap₂ move_between (same source step.card step.offered.1 step.fits.0) (ap ToColumn (place_of-swap i j 8 first second i first ∙ swapped-first i j i refl)))
       step step'
@@ -229,17 +231,97 @@ module _ {game : Game} {renamings : List (List ℕ)} {cells count : ℕ} {kings_
       (alike-Equivalent one other after after' alike step step') in
       (after', chosen_passage renamings after', step', chosen', subst (HoldsBoard game key) same holds)
 
-  -- the key after the move before is that after this one too
-  pub next-alike : (bytes : List MoveBytes) (keys : List BoardBytes) (place : ℕ) (any : Move) (none : BoardBytes) → 0 < place →
+  -- a card that goes from cell to cell exchanges two cells
+  between-Equivalent : (i j : ℕ) (after : Board) → Step game board (move_between (FromCell i) (ToCell j)) after → Equivalent game board after
+  between-Equivalent i j after step = (
+    in_orders (places 8) order,
+    record {
+      is_passage = in_orders-IsPassage game (places 8) order (places-IsOrder 8) (length-range_with_len 0 8) (swap-IsOrder i j game.cells first second)
+          (length-swap i j game.cells first second);
+      there = sym (in_orders-leads game board after (places 8) order well.piles (sym (ap (λ board. board.heights) step.moved))
+          (pick-places board.columns 8 well.piles.eight_columns ∙ sym (ap (λ board. board.columns) step.moved)) (exchanged ∙ sym (ap (λ board. board.cells) step.moved)));
+    },
+  )
+    where
+      first : i < game.cells
+      first = step.fits.0
+
+      second : j < game.cells
+      second = step.fits.1
+
+      order : List ℕ
+      order = swap i j game.cells first second
+
+      apart : i ≢ j
+      apart e = let both : Some step.card ≡ None = sym step.offered.1 ∙ ap (cell_at board) e ∙ step.goes in cc
+
+      long : length board.cells ≡ game.cells
+      long = well.piles.all_cells
+
+      within : AllBelow (length board.cells) order
+      within = λ k h. omega (arith, (swap-IsOrder i j game.cells first second).within k h, length-swap i j game.cells first second, long)
+
+      taken : List (Option ℕ)
+      taken = set board.cells i None
+
+      as_many : length taken ≡ length board.cells
+      as_many = length-set board.cells i None
+
+      at_each : (k : ℕ) (d : Option ℕ) → k < game.cells → get_or board.cells (swapped i j k) d ≡ get_or (set taken j (Some step.card)) k d
+      at_each k d inside = elim (cases_eq k j) [
+        | inl two ↦
+            ap (λ at. get_or board.cells at d) (swapped-second i j k two) ∙ get_or_default board.cells i d None (omega (arith, first, long)) ∙ step.offered.1
+            ∙ sym (get_or-set_same taken j (Some step.card) d (omega (arith, second, long, as_many))) ∙ ap (λ at. get_or (set taken j (Some step.card)) at d) (sym two)
+        | inr other ↦ elim (cases_eq k i) [
+          | inl one ↦
+              ap (λ at. get_or board.cells at d) (swapped-first i j k one) ∙ get_or_default board.cells j d None (omega (arith, second, long)) ∙ step.goes
+              ∙ sym (get_or-set_same board.cells i None d (omega (arith, first, long))) ∙ ap (λ at. get_or taken at d) (sym one)
+              ∙ sym (get_or-set_other taken j k (Some step.card) d other)
+          | inr not ↦
+              ap (λ at. get_or board.cells at d) (swapped-other i j k not other) ∙ sym (get_or-set_other board.cells i k None d not)
+              ∙ sym (get_or-set_other taken j k (Some step.card) d other)
+        ]
+      ]
+
+      exchanged : pick board.cells order ≡ set taken j (Some step.card)
+      exchanged =
+          let picked = length-pick board.cells order within ∙ length-swap i j game.cells first second in
+          same_lists (pick board.cells order) (set taken j (Some step.card)) (picked ∙ sym long ∙ sym (length-set taken j (Some step.card) ∙ as_many)) (λ k d h.
+          let inside : k < game.cells = omega (arith, h, picked) in
+          get_or-pick board.cells order k d within (omega (arith, inside, length-swap i j game.cells first second))
+          ∙ ap (λ at. get_or board.cells at d) (swap-there i j game.cells first second k 0 inside) ∙ at_each k d inside)
+
+  -- one key serves for all of them
+  pub key-between : (one other : Move) (key : BoardBytes) → IsBetweenCells one → IsBetweenCells other → IsAllowed game board other →
+      IsKeyAfter game renamings board one key → IsKeyAfter game renamings board other key
+  key-between one other key between between' (fits, free) (after, way, step, chosen, holds) =
+      let (after', step') = step_from game board other fits free in
+      let well' = stays_well_formed game board after one well step in
+      let well'' = stays_well_formed game board after' other well step' in
+      let chosen' = chosen_passage-Chosen laws after' well'' in
+      let own = chosen_passage-Chosen laws board well in
+      let there = chosen-same game renamings board after (chosen_passage renamings board) way well well' own chosen (by one.from one.to after between step) in
+      let there' = chosen-same game renamings board after' (chosen_passage renamings board) (chosen_passage renamings after') well well'' own chosen'
+      (by other.from other.to after' between' step') in
+      (after', chosen_passage renamings after', step', chosen', subst (HoldsBoard game key) (sym there ∙ there') holds)
+    where
+      by : (source : Source) (to : Place) (after : Board) → AreCells source to → Step game board (move_between source to) after → Equivalent game board after
+      by (FromCell i) (ToCell j) after cells step = between-Equivalent i j after step
+      by (FromCell i) (ToColumn j) after cells step = absurd cells
+      by (FromCell i) Home after cells step = absurd cells
+      by (FromColumn i) to after cells step = absurd cells
+
+  -- the key after an earlier move is that after this one too, if it is where the earlier move is allowed
+  pub key-again : (bytes : List MoveBytes) (keys : List BoardBytes) (at place : ℕ) (any : Move) (none : BoardBytes) → at < place →
       place < length bytes → bytes ≡ map move_bytes (legal_moves game board) →
-      AreAlike board (get_or (legal_moves game board) (place - 1) any) (get_or (legal_moves game board) place any) →
-      ((move : Move) (key : BoardBytes) → 0 < place →
-      IsKeyAfter game renamings board (get_or (legal_moves game board) (place - 1) move) (get_or keys (place - 1) key)) →
-      (move : Move) → IsKeyAfter game renamings board (get_or (legal_moves game board) place move) (get_or keys (place - 1) none)
-  next-alike bytes keys place any none some inside are alike before move =
+      ((key : BoardBytes) → IsAllowed game board (get_or (legal_moves game board) place any) →
+      IsKeyAfter game renamings board (get_or (legal_moves game board) at any) key → IsKeyAfter game renamings board (get_or (legal_moves game board) place any) key) →
+      ((k : ℕ) (move : Move) (key : BoardBytes) → k < place →
+      IsKeyAfter game renamings board (get_or (legal_moves game board) k move) (get_or keys k key)) →
+      (move : Move) → IsKeyAfter game renamings board (get_or (legal_moves game board) place move) (get_or keys at none)
+  key-again bytes keys at place any none earlier inside are serves before move =
       let legal = legal_moves game board in
       let there : place < length legal = omega (arith, inside, ap length are ∙ length-map legal move_bytes) in
-      let key = get_or keys (place - 1) none in
+      let key = get_or keys at none in
       subst (λ other. IsKeyAfter game renamings board other key) (get_or_default legal place any move there)
-      (key-alike (get_or legal (place - 1) any) (get_or legal place any) key alike
-      (All-get_or (IsAllowed game board) legal place any there (all_legal game board)) (before any none some))
+      (serves key (All-get_or (IsAllowed game board) legal place any there (all_legal game board)) (before at any none earlier))

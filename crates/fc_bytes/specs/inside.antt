@@ -8,7 +8,8 @@ use Rattle.fc_board.specs.{Boards.{Board}, Games.{Game}, Moves.{move_between}}
 use Rattle.fc_board.specs.Steps.{column_at, column_refusal, last_card}
 use Rattle.fc_board.specs.declared.moves.{Move.{Move}, Place.{Place}}
 use Rattle.fc_board.specs.declared.moves.Place.TheVariants.{Cell as ToCell, Column as ToColumn}
-use Rattle.fc_board.specs.declared.moves.Source.{Source, TheVariants.{Column as FromColumn}}
+use Rattle.fc_board.specs.declared.moves.Source.{Source}
+use Rattle.fc_board.specs.declared.moves.Source.TheVariants.{Cell as FromCell, Column as FromColumn}
 use Rattle.fc_board.specs.declared.run_move.RunMove.{RunMove, TheVariants.{One, Run}}
 use Rattle.fc_bytes.specs.class_hash.{card_weight, place_weight, renamed_place}
 use Rattle.fc_bytes.specs.declared.board.BoardBytes.{BoardBytes}
@@ -120,3 +121,12 @@ AreFreeAlike board place other = ⊥
 -- the moves take one card to two such piles
 abbrev pub AreAlike : Board → Move → Move → Type 0
 AreAlike board one other = (one.from ≡ other.from) × AreFreeAlike board one.to other.to
+
+-- both are cells
+abbrev pub AreCells : Source → Place → Type 0
+AreCells (FromCell cell) (ToCell other) = Unit {0}
+AreCells source place = ⊥
+
+-- the move is from cell to cell
+abbrev pub IsBetweenCells : Move → Type 0
+IsBetweenCells move = AreCells move.from move.to
