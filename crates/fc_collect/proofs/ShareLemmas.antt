@@ -3,8 +3,8 @@ use Rattle.std.proofs.Common.{◌++◌, ◌<◌, ◌∙◌, ◌∷◌, ◌≡◌
 use Rattle.std.proofs.Common.{false, get_or, IfSome, if◌then◌else◌, is_some, length, List, None, Option, option_map}
 use Rattle.std.proofs.Common.{refl, Some, subst, suc, sym, take, take_all, true, zero, ℕ}
 use Rattle.std.proofs.lemmas.{Bool.{eq-eqb, ne_eqb}, List.{Elements.{All-weaker}, Folds.{find-append}}}
-use Rattle.std.{proofs.lemmas.Slice.Zip.{all_zipped_more, AllZip-long}, specs.List.{AllZip, find, flat_map}}
-use Rattle.std.specs.Option.{option_or, option_to_list}
+use Rattle.std.proofs.lemmas.{Result.{on_ok_weaker}, Slice.Zip.{all_zipped_more, AllZip-long}}
+use Rattle.std.specs.{List.{AllZip, find, flat_map}, Option.{option_or, option_to_list}, Prelude.{OnOk, Result}}
 use Rattle.{fc_board.specs.{Moves.{MoveList}, Passages.{Passage, passage_product}}, fc_card.specs.{GroupLaws}}
 use Rattle.{fc_board.specs.declared.rule.Variant.TheVariants.{FreeCell}, fc_text.specs.Printed.{text_of}}
 use Rattle.fc_record.{proofs.LineLemmas.{three_parts}, specs.Printing.{header_text, image_line, list_line}}
@@ -113,14 +113,15 @@ owner-line said owner held kept holds keeps same =
     (ap (λ b. if b then list_line kept.list else image_line (passage_between owner said) kept.list) equal))
 
 -- by the owner's passage and back by the member's
-pub image-printed : (member : SharedMember) (kept : Solution) (old new : List ℕ) (to back between : Passage) (list : MoveList) → kept.owner ≢ member.number
-    → held kept.passage ≡ to → held member.back ≡ back → between ≡ passage_product to back → list ≡ kept.list → new ≡ old ++ image_line between list
-    → (said owner : Member) → KeepsMember member said → KeepsSolution kept owner → new ≡ old ++ solution_line said (Some owner)
-image-printed member kept old new to back between list other to_is back_is between_is list_is printed said owner holds keeps =
+pub image-printed : {A E : Type 0} (result : Result A E) (member : SharedMember) (kept : Solution) (old new : List ℕ) (to back between : Passage) (list : MoveList)
+    → kept.owner ≢ member.number → held kept.passage ≡ to → held member.back ≡ back → between ≡ passage_product to back → list ≡ kept.list
+    → OnOk result (new ≡ old ++ image_line between list)
+    → OnOk result ((said owner : Member) → KeepsMember member said → KeepsSolution kept owner → SameGame said owner → new ≡ old ++ solution_line said (Some owner))
+image-printed result member kept old new to back between list other to_is back_is between_is list_is = on_ok_weaker result (λ printed said owner holds keeps alike.
     let unequal = ne_eqb owner.number said.number (λ same. other (keeps.number ∙ same ∙ sym holds.number)) in
     let passage = between_is ∙ ap₂ passage_product (sym to_is ∙ keeps.passage) (sym back_is ∙ holds.back) in
     printed ∙ ap (λ line. old ++ line) (ap₂ image_line passage list_is
-    ∙ sym (one_line said owner kept _ keeps (ap (λ b. if b then list_line kept.list else image_line (passage_between owner said) kept.list) unequal)))
+    ∙ sym (one_line said owner kept _ keeps (ap (λ b. if b then list_line kept.list else image_line (passage_between owner said) kept.list) unequal))))
 
 -- ---- the lines of a member
 

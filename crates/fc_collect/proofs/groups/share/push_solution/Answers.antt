@@ -1,5 +1,4 @@
-use Rattle.std.proofs.{Common.{◌++◌, ◌∙◌, ◌≡◌, ap, refl, subst, sym}, lemmas.Result.{on_ok_weaker}}
-use Rattle.fc_board.specs.declared.rule.Variant.{Variant}
+use Rattle.std.proofs.{Common.{◌++◌, ◌∙◌, ◌≡◌, ap, refl, sym}, lemmas.Result.{on_ok_weaker}}
 use Rattle.fc_collect.{proofs.ShareLemmas.{image-printed, owner-line}, specs.inside.Held.{held, variant_of}}
 use Rattle.fc_collect.specs.declared.groups.by_game.ByGame.{ByGame, TheVariants.{BakersGame, EightOff, FreeCell}}
 use Rattle.fc_board.specs.declared.rule.Variant.TheVariants as variant
@@ -18,48 +17,34 @@ returns-then-solution-member c =
 pub returns-in-FreeCell-FreeCell : goal.returns-in-FreeCell-FreeCell
 returns-in-FreeCell-FreeCell c =
     let at = c.in-FreeCell-FreeCell in
-    record {
-      printed = on_ok_weaker c.push_image.result (λ ensured said owner holds keeps alike.
-          image-printed c.args.member.now c.args.solution.now c.args.out.now.items _ at.to at.back _ _ c.if-solution-member.false (ap held at.is-0) (ap held at.is-1)
-          c.then.ensures.value c.in_ok-list.ensures ensured said owner holds keeps) c.push_image.ensures.printed;
-    }
+    record { printed = image-printed c.push_image.result c.args.member.now c.args.solution.now _ _ at.to at.back _ _ c.if-solution-member.false (ap held at.is-0) (ap held at.is-1) c.then.ensures.value c.in_ok-list.ensures c.push_image.ensures.printed }
 
 pub returns-in-BakersGame-BakersGame : goal.returns-in-BakersGame-BakersGame
 returns-in-BakersGame-BakersGame c =
     let at = c.in-BakersGame-BakersGame in
-    record {
-      printed = on_ok_weaker c.push_image-in-BakersGame-BakersGame.result (λ ensured said owner holds keeps alike.
-          image-printed c.args.member.now c.args.solution.now c.args.out.now.items _ at.to at.back _ _ c.if-solution-member.false (ap held at.is-0) (ap held at.is-1)
-          c.then-in-BakersGame-BakersGame.ensures.value c.in_ok-list.ensures ensured said owner holds keeps) c.push_image-in-BakersGame-BakersGame.ensures.printed;
-    }
+    record { printed = image-printed c.push_image-in-BakersGame-BakersGame.result c.args.member.now c.args.solution.now _ _ at.to at.back _ _ c.if-solution-member.false (ap held at.is-0) (ap held at.is-1) c.then-in-BakersGame-BakersGame.ensures.value c.in_ok-list.ensures c.push_image-in-BakersGame-BakersGame.ensures.printed }
 
 pub returns-in-EightOff-EightOff : goal.returns-in-EightOff-EightOff
 returns-in-EightOff-EightOff c =
     let at = c.in-EightOff-EightOff in
-    record {
-      printed = on_ok_weaker c.push_image-in-EightOff-EightOff.result (λ ensured said owner holds keeps alike.
-          image-printed c.args.member.now c.args.solution.now c.args.out.now.items _ at.to at.back _ _ c.if-solution-member.false (ap held at.is-0) (ap held at.is-1)
-          c.then-in-EightOff-EightOff.ensures.value c.in_ok-list.ensures ensured said owner holds keeps) c.push_image-in-EightOff-EightOff.ensures.printed;
-    }
+    record { printed = image-printed c.push_image-in-EightOff-EightOff.result c.args.member.now c.args.solution.now _ _ at.to at.back _ _ c.if-solution-member.false (ap held at.is-0) (ap held at.is-1) c.then-in-EightOff-EightOff.ensures.value c.in_ok-list.ensures c.push_image-in-EightOff-EightOff.ensures.printed }
 
-abbrev by_variant : {A : Type 0} → Variant → A → ByGame A A A
-by_variant variant.FreeCell value = FreeCell value
-by_variant variant.BakersGame value = BakersGame value
-by_variant variant.EightOff value = EightOff value
-
-named : {A : Type 0} (value : ByGame A A A) (of : Variant) → variant_of value ≡ of → value ≡ by_variant of (held value)
-named (FreeCell value) of e = subst (λ of. FreeCell value ≡ by_variant of value) e refl
-named (BakersGame value) of e = subst (λ of. BakersGame value ≡ by_variant of value) e refl
-named (EightOff value) of e = subst (λ of. EightOff value ≡ by_variant of value) e refl
+-- a value whose variant is named is of its game
+named : {A : Type 0} (value : ByGame A A A) → (variant_of value ≡ variant.FreeCell → value ≡ FreeCell (held value))
+    × (variant_of value ≡ variant.BakersGame → value ≡ BakersGame (held value)) × (variant_of value ≡ variant.EightOff → value ≡ EightOff (held value))
+named (FreeCell value) = ((λ e. refl), (λ e. cc), (λ e. cc))
+named (BakersGame value) = ((λ e. cc), (λ e. refl), (λ e. cc))
+named (EightOff value) = ((λ e. cc), (λ e. cc), (λ e. refl))
 
 pub returns-in_default : goal.returns-in_default
 returns-in_default c =
     record {
       printed = λ said owner holds keeps alike.
           let same = holds.variant ∙ alike ∙ sym keeps.variant in
+          let is = named c.args.member.now.back in
           absurd (elim c.in_default.branch [
-            | in_default-via-in-FreeCell+in_default w ↦ w.in_default.not-FreeCell-1 _ (named c.args.member.now.back variant.FreeCell (same ∙ ap variant_of w.in_default.is-0))
-            | in_default-via-in-BakersGame+in_default w ↦ w.in_default.not-BakersGame-1 _ (named c.args.member.now.back variant.BakersGame (same ∙ ap variant_of w.in_default.is-0))
-            | in_default-via-in-EightOff+in_default w ↦ w.in_default.not-EightOff-1 _ (named c.args.member.now.back variant.EightOff (same ∙ ap variant_of w.in_default.is-0))
+            | in_default-via-in-FreeCell+in_default w ↦ w.in_default.not-FreeCell-1 _ (is.0 (same ∙ ap variant_of w.in_default.is-0))
+            | in_default-via-in-BakersGame+in_default w ↦ w.in_default.not-BakersGame-1 _ (is.1 (same ∙ ap variant_of w.in_default.is-0))
+            | in_default-via-in-EightOff+in_default w ↦ w.in_default.not-EightOff-1 _ (is.2 (same ∙ ap variant_of w.in_default.is-0))
           ]);
     }
