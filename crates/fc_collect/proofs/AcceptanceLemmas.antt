@@ -1,8 +1,9 @@
 -- Records are accepted exactly where their parts are read, spelled and listed.
-use Rattle.std.proofs.Common.{◌+◌, ◌-◌, ◌∙◌, ◌∷◌, ◌≡◌, ◌≤◌, [], ap, Bool, cond, drop, Err, false, if◌then◌else◌, length}
-use Rattle.std.proofs.Common.{List, None, Ok, Option, refl, Result, Some, sym, true, true≢false, ℕ}
+use Rattle.std.proofs.Common.{◌+◌, ◌-◌, ◌∙◌, ◌∷◌, ◌≡◌, ◌≤◌, [], ap, arith, Bool, cond, drop, Err, false, if◌then◌else◌}
+use Rattle.std.proofs.Common.{length, List, None, Ok, Option, refl, Result, Some, sym, true, true≢false, ℕ}
 use Rattle.fc_board.specs.{Games.{Game, game_of}, Moves.{MoveList, OneCard, Runs}}
-use Rattle.fc_board.specs.declared.{moves.Move.{Move}, rule.Variant.{Variant}, run_move.RunMove.{RunMove}}
+use Rattle.fc_board.specs.declared.{moves.Move.{Move}, rule.Variant.TheVariants.{BakersGame, EightOff, FreeCell}}
+use Rattle.fc_board.specs.declared.{rule.Variant.{Variant}, run_move.RunMove.{RunMove}}
 use Rattle.fc_text.proofs.MovesReadLemmas.{listed-exactly, runs_listed-exactly}
 use Rattle.fc_text.proofs.ReadingLemmas.{faultless-from_Spells, Spells-board_of, Spells-from_faultless}
 use Rattle.fc_text.specs.{Faults.{first_fault}, Lines.{Piece}, Notation.{ListFault}, Readings.{moves_read, runs_read}}
@@ -17,7 +18,13 @@ use Rattle.fc_record.specs.Printing.{refuses}
 use Rattle.fc_record.specs.declared.record.{RecordFault.{RecordFault}, RecordFaultKind.TheVariants.{StrayLine}}
 use Rattle.fc_record.specs.declared.record.RecordFaultKind.TheVariants as kind
 use Rattle.fc_collect.proofs.HeaderSaysLemmas.{BadHeaderAt-from_err, err-from_BadHeaderAt, HeaderSays-from_ok}
-use Rattle.fc_collect.proofs.{HeaderSaysLemmas.{ok-from_HeaderSays}, ShareLemmas.{few_cells}}
+use Rattle.fc_collect.proofs.HeaderSaysLemmas.{ok-from_HeaderSays}
+
+-- each game has at most eight cells
+pub few_cells : (variant : Variant) → (game_of variant).cells ≤ 8
+few_cells FreeCell = omega arith
+few_cells BakersGame = omega arith
+few_cells EightOff = omega arith
 
 not_ok : {X E : Type 0} {x : X} {e : E} → ◌≡◌ {A = Result X E} (Err e) (Ok x) → ⊥
 not_ok e = cc

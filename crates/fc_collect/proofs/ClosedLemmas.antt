@@ -1,22 +1,20 @@
 -- What `closed` finds, found move by move and member by member.
-use Rattle.{fc_board.specs.declared.{moves.Move.{Move}, rule.Variant.{Variant}}, indexmap.specs.IndexSet.{insert_key}}
-use Rattle.std.proofs.Common.{◌++◌, ◌+◌, ◌<◌, ◌==◌, ◌↔◌, ◌∙◌, ◌∷◌, ◌≡◌, ◌≤◌, [], All, ap, append_assoc, ap₂, arith}
-use Rattle.std.proofs.Common.{Bool, cond, drop, false, get_or, length, List, map, None, not, Option, refl, Some, subst}
-use Rattle.std.proofs.{Common.{sym, true, ℕ}, lemmas.List.{at_drop_more, drop_all, Elements.{All-nil}, length-map}}
-use Rattle.std.{proofs.lemmas.Slice.Zip.{AllZip-long}, specs.List.{AllZip, find, list_all, list_any}}
-use Rattle.std.specs.{Option.{option_map, option_or}, Prelude.{IsTrue}}
+use Rattle.std.proofs.Common.{◌++◌, ◌+◌, ◌<◌, ◌==◌, ◌↔◌, ◌∙◌, ◌≡◌, ◌≤◌, [], ap, append_assoc, ap₂, arith, Bool, cond}
+use Rattle.std.proofs.Common.{drop, false, get_or, length, List, None, not, Option, refl, Some, subst, sym, true, ℕ}
+use Rattle.std.proofs.lemmas.{List.{at_drop_more, drop_all, Elements.{All-nil}, length-map}, Slice.Zip.{AllZip-long}}
+use Rattle.std.specs.{List.{find, list_all, list_any}, Option.{option_map, option_or}, Prelude.{IsTrue}}
 use Rattle.fc_board.{proofs.{ListLemmas.{won-exactly}, RunPlayLemmas.{one_card}}, specs.Boards.{Board, IsWellFormed}}
-use Rattle.fc_board.specs.{Games.{Game, game_of, renamings_of}, Moves.{Fits}}
-use Rattle.fc_board.specs.{Play.{has_all_home, IsWon, OnlyLegal, Verdict, Won as IsWin}, Steps.{after_move}}
+use Rattle.fc_board.specs.{Games.{Game, game_of}, Moves.{Fits}, Play.{has_all_home, IsWon, OnlyLegal, Won as IsWin}}
+use Rattle.fc_board.specs.Steps.{after_move}
+use Rattle.fc_board.specs.declared.{moves.Move.{Move}, rule.Variant.{Variant}}
 use Rattle.fc_bytes.specs.{declared.moves.MoveBytes.{MoveBytes}, legal_moves, move_bytes}
-use Rattle.fc_collect.proofs.{GroupLemmas.{AllZip-at, has_one}, GroupNameLemmas.{found-before}, ShareLemmas.{nobody}}
-use Rattle.fc_collect.{proofs.TallyLemmas.{groups-long}, specs.Closed.{Finding, finding_of, first_flawed, flaw_of}}
-use Rattle.fc_collect.specs.Closed.{Flawed, flawless, has_flaw, leads_out, member_after, move_out, opened}
+use Rattle.fc_collect.proofs.{GroupLemmas.{AllZip-at}, GroupNameLemmas.{found-before}, ShareLemmas.{nobody}}
+use Rattle.fc_collect.proofs.TallyLemmas.{groups-long}
+use Rattle.fc_collect.specs.Closed.{first_flawed, flaw_of, Flawed, leads_out, member_after, move_out, opened}
 use Rattle.fc_collect.specs.{Groups.{groups_of, leaders_after, Member, name_of_member}, inside.{AreKeys, canonical_key}}
 use Rattle.fc_collect.specs.inside.{group_key, HasBoard, IsOn, KeepsBoard, KeepsBoards, same_key}
 use Rattle.fc_collect.specs.declared.commands.closed.{Flaw.{Flaw, TheVariants.{Open, Won}}, KeptBoard.{KeptBoard}}
 use Rattle.fc_collect.specs.declared.{commands.closed.KeptBoards.{KeptBoards}, groups.GroupKey.{GroupKey}}
-use Rattle.fc_collect.specs.declared.streams.faults.Summary.{Summary}
 
 -- ---- a board that is won has all home
 

@@ -1,7 +1,7 @@
 -- Lemmas on a run whose output begins with a header, and on one that prints each record by itself.
-use Rattle.std.proofs.Common.{◌++◌, ◌∙◌, ◌≡◌, [], ap, append_assoc, arith, Bool, Err, List, Ok, Option, refl, Result}
-use Rattle.std.proofs.{Common.{subst, sym, ℕ}, KnownBytes.{Appends-trans, Consumes-nil}}
-use Rattle.std.specs.{Io.KnownBytes.{Appends}, List.{flat_map}}
+use Rattle.std.proofs.Common.{◌++◌, ◌∙◌, ◌≡◌, [], ap, append_assoc, arith, Err, List, Ok, Option, refl, Result, subst}
+use Rattle.std.{proofs.{Common.{sym, ℕ}, KnownBytes.{Appends-trans, Consumes-nil}}, specs.Io.KnownBytes.{Appends}}
+use Rattle.std.specs.List.{flat_map}
 use Rattle.fc_record.specs.RecordTexts.{RecordText}
 use Rattle.fc_collect.{proofs.{PrintingLemmas.{outputs_alone}, RunLemmas.{limits_none}}, specs.inside.{output_counts}}
 use Rattle.fc_collect.specs.{Limits.{AreCountable}, Promises.{Begins, Printing, ReadsAsCounted, ResultFits, Transfer}}

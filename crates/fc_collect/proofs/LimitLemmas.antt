@@ -1,12 +1,11 @@
 -- What the limits of a run that is given no others say.
-use Rattle.std.proofs.Common.{◌&&◌, ◌*◌, ◌++◌, ◌+◌, ◌-◌, ◌<◌, ◌==◌, ◌↔◌, ◌∷◌, ◌≡◌, ◌≤◌, [], All, ap, append_assoc, ap₂}
+use Rattle.std.proofs.Common.{◌&&◌, ◌*◌, ◌++◌, ◌+◌, ◌-◌, ◌<◌, ◌==◌, ◌∷◌, ◌≡◌, ◌≤◌, [], All, ap, append_assoc, ap₂}
 use Rattle.std.proofs.Common.{arith, Bool, cond, drop, false, length, length-append, length-drop, length-take-le, List}
-use Rattle.std.proofs.Common.{refl, Some, subst, sym, take, true, ℕ}
-use Rattle.std.proofs.lemmas.List.Elements.{All-cons, All-nil, All-weaker}
+use Rattle.std.proofs.{Common.{refl, Some, subst, sym, take, true, ℕ}, lemmas.List.Elements.{All-cons, All-nil}}
 use Rattle.fc_record.specs.RecordTexts.{ends_line, header_mark, RecordText}
-use Rattle.fc_collect.specs.{inside.{cut_in, Searched, text_at}, Limits.{most_record_bytes, standard}}
-use Rattle.fc_collect.specs.{Promises.{IsSmall, IsWithinLimits}, Records.{begins_header, begun, begun_by, cut}}
-use Rattle.fc_collect.specs.Records.{finished, finished_by, has_content, longer, next_number, next_text, nothing}
+use Rattle.fc_collect.specs.{inside.{cut_in, Searched, text_at}, Limits.{most_record_bytes}, Promises.{IsSmall}}
+use Rattle.fc_collect.specs.Records.{begins_header, begun, begun_by, cut, finished, finished_by, has_content, longer}
+use Rattle.fc_collect.specs.Records.{next_number, next_text}
 use Rattle.fc_collect.specs.declared.{engine.progress.Progress.{Progress}, streams.limits.Limits.{Limits}}
 
 -- the text has no number too many

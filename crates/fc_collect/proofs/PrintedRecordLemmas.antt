@@ -26,13 +26,13 @@ use Rattle.fc_record.specs.Grammar.{lists_start, next_list, no_header, no_lines,
 use Rattle.fc_record.specs.Grammar.{without_header}
 use Rattle.fc_record.specs.Printing.{after_blank, header_text, heading_line, list_line, name_of, printed, show_lines}
 use Rattle.fc_record.specs.RecordTexts.{header_mark, RecordText}
-use Rattle.fc_collect.{
-  proofs.{AcceptanceLemmas.{accepted-from_Says, Says-from_accepted}, HeaderLemmas.{marks, marks-lines, starts_of}},
-  proofs.{HeaderSaysLemmas.{HeaderSays-from_ok, ok-from_HeaderSays}, MemberLemmas.{CanPrint, lists_can}},
-  proofs.{ReadAgainLemmas.{all_again, AreReadAs, IsReadAs, ReadsAgain, same_printed, Stays}, ShareLemmas.{few_cells}},
-  specs.{Groups.{Member, members_among, name_of_member}, inside.{member_of}, Limits.{most_countable}},
-  specs.Records.{has_content, output_of_records, records_of},
-}
+use Rattle.fc_collect.proofs.AcceptanceLemmas.{accepted-from_Says, few_cells, Says-from_accepted}
+use Rattle.fc_collect.proofs.HeaderLemmas.{marks, marks-lines, starts_of}
+use Rattle.fc_collect.proofs.HeaderSaysLemmas.{HeaderSays-from_ok, ok-from_HeaderSays}
+use Rattle.fc_collect.proofs.MemberLemmas.{CanPrint, lists_can}
+use Rattle.fc_collect.proofs.ReadAgainLemmas.{all_again, AreReadAs, IsReadAs, ReadsAgain, same_printed, Stays}
+use Rattle.fc_collect.specs.{Groups.{Member, members_among, name_of_member}, inside.{member_of}}
+use Rattle.fc_collect.specs.{Limits.{most_countable}, Records.{has_content, output_of_records, records_of}}
 
 -- ---- the lines of lists
 

@@ -7,10 +7,9 @@ use Rattle.fc_board.specs.declared.rule.Variant.{Variant}
 use Rattle.fc_canon.{proofs.LeastTextLemmas.{chosen-between}, specs.{Chosen, chosen_passage, Equivalent, HasCanonText}}
 use Rattle.fc_record.specs.{Grammar.{Contents, Heading}, Printing.{name_of}}
 use Rattle.fc_collect.proofs.{GroupNameLemmas.{together-Equivalent}, KeyedLemmas.{chosen, one_variant}}
-use Rattle.fc_collect.specs.Groups.{belong_together, Member, passage_between, passage_of}
-use Rattle.fc_collect.specs.inside.{canon_variant, IsCanonOf, KeepsFirst, member_of, passage_held, text_held}
+use Rattle.fc_collect.specs.{Groups.{belong_together, Member, passage_between, passage_of}, inside.{AnyCanon}}
+use Rattle.fc_collect.specs.inside.{Held.{variant_of}, IsCanonOf, KeepsFirst, member_of, passage_held, text_held}
 use Rattle.fc_collect.specs.Runs.{passage_found, passage_to, same_lines}
-use Rattle.fc_collect.specs.declared.groups.any_board.AnyCanon.{AnyCanon}
 
 -- members of two variants
 pub passage-apart : (first member : Member) → first.heading.variant ≢ member.heading.variant → passage_to first member ≡ None
@@ -66,7 +65,7 @@ passage-same first member variant game renamings played listed own other text te
 
 -- what is kept of a member
 pub canon-kept : (held : AnyCanon) (member : Member) (variant : Variant) (game : Game) (renamings : List (List ℕ)) → game ≡ game_of variant → renamings ≡ renamings_of variant
-    → canon_variant held ≡ variant → member.heading.variant ≡ variant → (board : Board) → member.contents.board ≡ board
+    → variant_of held ≡ variant → member.heading.variant ≡ variant → (board : Board) → member.contents.board ≡ board
     → HasCanonText game renamings board (text_held held) (passage_held held) → IsCanonOf held member
 canon-kept held member variant game renamings played listed kept own board there canon = record {
   variant = kept ∙ sym own;

@@ -3,35 +3,17 @@ use Rattle.std.proofs.Common.{◌++◌, ◌<◌, ◌∙◌, ◌∷◌, ◌≡◌
 use Rattle.std.proofs.Common.{false, get_or, IfSome, if◌then◌else◌, is_some, length, List, None, Option, option_map}
 use Rattle.std.proofs.Common.{refl, Some, subst, suc, sym, take, take_all, true, zero, ℕ}
 use Rattle.std.proofs.lemmas.{Bool.{eq-eqb, ne_eqb}, List.{Elements.{All-weaker}, Folds.{find-append}}}
-use Rattle.std.{proofs.lemmas.Slice.Zip.{all_zipped_more, AllZip-long}, specs.List.{AllZip, find, flat_map}}
-use Rattle.std.specs.Option.{option_or, option_to_list}
-use Rattle.fc_card.proofs.{LaneLemmas.{map-agree}, PermutationLemmas.{place_of-inverse_order}}
-use Rattle.fc_card.specs.{inverse_order, IsOrder}
-use Rattle.fc_card.specs.laws.OrderLaws.{inverse_order-IsOrder, length-inverse_order, place_of-IsOrder}
-use Rattle.fc_card.specs.{pick, place_of}
-use Rattle.fc_board.{proofs.ImageLemmas.{place_in_product}, specs.Games.{Game, game_of, renamings_of}}
-use Rattle.fc_board.specs.Moves.{Fits, list_image, ListFits, MoveList, OneCard, PlaceFits, RunFits, Runs, SourceFits}
-use Rattle.fc_board.specs.Passages.{carried_move, carried_run, inverse_passage, Passage, passage_product, source_image}
-use Rattle.fc_board.specs.Passages.{target_image}
-use Rattle.fc_board.specs.declared.moves.{Move.{Move}, Place.{Place}}
-use Rattle.fc_board.specs.declared.moves.{Place.TheVariants.{Cell as ToCell, Column as ToColumn, Home}, Source.{Source}}
-use Rattle.fc_board.specs.declared.moves.Source.TheVariants.{Cell as FromCell, Column as FromColumn}
-use Rattle.fc_board.specs.declared.rule.Variant.{TheVariants.{BakersGame, EightOff, FreeCell}, Variant}
-use Rattle.fc_board.specs.declared.run_move.RunMove.{RunMove, TheVariants.{One, Run}}
-use Rattle.{fc_canon.specs.{chosen_passage}, fc_text.specs.Printed.{text_of}}
+use Rattle.std.proofs.lemmas.{Result.{on_ok_weaker}, Slice.Zip.{all_zipped_more, AllZip-long}}
+use Rattle.std.specs.{List.{AllZip, find, flat_map}, Option.{option_or, option_to_list}, Prelude.{OnOk, Result}}
+use Rattle.{fc_board.specs.{Moves.{MoveList}, Passages.{Passage, passage_product}}, fc_card.specs.{GroupLaws}}
+use Rattle.{fc_board.specs.declared.rule.Variant.TheVariants.{FreeCell}, fc_text.specs.Printed.{text_of}}
 use Rattle.fc_record.{proofs.LineLemmas.{three_parts}, specs.Printing.{header_text, image_line, list_line}}
 use Rattle.fc_collect.{proofs.GroupLemmas.{AllZip-at}, specs.Groups.{Member, member_lines, name_of_member, owner_among}}
 use Rattle.fc_collect.specs.Groups.{passage_between, passage_of, shared_line, solution_line, solution_of}
-use Rattle.fc_collect.specs.inside.{board_held, group_key, KeepsMember, KeepsOwner, KeepsShared, KeepsSolution}
-use Rattle.fc_collect.specs.inside.{SameGame, variant_held, Wide.{IsWide, Widens}}
+use Rattle.fc_collect.specs.inside.{group_key, Held.{held, variant_of}}
+use Rattle.fc_collect.specs.inside.{KeepsMember, KeepsOwner, KeepsShared, KeepsSolution, SameGame}
 use Rattle.fc_collect.specs.declared.groups.{GroupKey.{GroupKey}, solution.Shared.{Shared}}
 use Rattle.fc_collect.specs.declared.groups.solution.{SharedMember.{SharedMember}, Solution.{Solution}}
-
--- each game has at most eight cells
-pub few_cells : (variant : Variant) → (game_of variant).cells ≤ 8
-few_cells FreeCell = omega arith
-few_cells BakersGame = omega arith
-few_cells EightOff = omega arith
 
 -- ---- the first list that wins
 
@@ -54,71 +36,19 @@ module _ {X : Type 0} (test : X → Bool) where
       by true none on = cc none
       by false none on = on none
 
--- ---- passages with further cells
-
--- where an order has a place of the other, both have it
-place-same : (wide order : List ℕ) → IsOrder wide → IsOrder order → Widens wide order → length order ≤ 8 → (place : ℕ) → place < length order
-    → (place_of order place < length order) × (place_of wide place ≡ place_of order place)
-place-same wide order is_wide is widens few place within =
-    let (inside, there) = place_of-IsOrder order is place within in
-    let (inside', there') = place_of-IsOrder wide is_wide place (omega (arith, widens.eight)) in
-    (inside, is_wide.distinct _ _ inside' (omega (arith, widens.eight)) (there' ∙ sym there ∙ sym (widens.same _ inside)))
-
--- a place goes by two orders and back as it does by the other two
-between-same : (wide wide' order order' : List ℕ) → IsOrder wide → IsOrder wide' → IsOrder order → IsOrder order' → Widens wide order → Widens wide' order'
-    → length order ≤ 8 → length order ≡ length order' → (place : ℕ) → place < length order
-    → place_of (pick wide (inverse_order wide')) place ≡ place_of (pick order (inverse_order order')) place
-between-same wide wide' order order' is_wide is_wide' is is' widens widens' few long place within =
-    let (inside, same) = place-same wide order is_wide is widens few place within in
-    place_in_product wide (inverse_order wide') place is_wide (inverse_order-IsOrder wide' is_wide') (widens.eight ∙ sym widens'.eight ∙ sym (length-inverse_order wide')) (omega (arith, widens.eight))
-    ∙ ap (place_of (inverse_order wide')) same
-    ∙ place_of-inverse_order wide' (place_of order place) is_wide' (omega (arith, inside, widens'.eight))
-    ∙ widens'.same _ (omega (arith, inside, long))
-    ∙ sym (place_in_product order (inverse_order order') place is (inverse_order-IsOrder order' is') (long ∙ sym (length-inverse_order order')) within
-    ∙ place_of-inverse_order order' (place_of order place) is' (omega (arith, inside, long)))
-
--- a list goes alike by passages that agree on the places of a game
-module _ (game : Game) (first next : Passage) (columns : (place : ℕ) → place < 8 → place_of first.columns place ≡ place_of next.columns place)
-    (cells : (place : ℕ) → place < game.cells → place_of first.cells place ≡ place_of next.cells place) where
-  source-same : (source : Source) → SourceFits game source → source_image first.columns first.cells source ≡ source_image next.columns next.cells source
-  source-same (FromColumn column) fits = ap (λ place. FromColumn place) (columns column fits)
-  source-same (FromCell cell) fits = ap (λ place. FromCell place) (cells cell fits)
-
-  target-same : (target : Place) → PlaceFits game target → target_image first.columns first.cells target ≡ target_image next.columns next.cells target
-  target-same (ToColumn column) fits = ap (λ place. ToColumn place) (columns column fits)
-  target-same (ToCell cell) fits = ap (λ place. ToCell place) (cells cell fits)
-  target-same Home fits = refl
-
-  move-same : (move : Move) → Fits game move → carried_move first move ≡ carried_move next move
-  move-same move fits = ap₂ (λ from to. record { from = from; to = to }) (source-same move.from fits.0) (target-same move.to fits.1)
-
-  run-same : (run : RunMove) → RunFits game run → carried_run first run ≡ carried_run next run
-  run-same (One move) fits = ap (λ move. One move) (move-same move fits.0)
-  run-same (Run from to count) fits = ap₂ (λ from to. Run from to count) (columns from fits.0) (columns to fits.1)
-
-  list-same : (list : MoveList) → ListFits game list → list_image first list ≡ list_image next list
-  list-same (OneCard moves) fits = ap (λ moves. OneCard moves) (map-agree (Fits game) (carried_move first) (carried_move next) move-same moves fits)
-  list-same (Runs moves) fits = ap (λ moves. Runs moves) (map-agree (RunFits game) (carried_run first) (carried_run next) run-same moves fits)
-
--- a list goes by the widened passages as it does by those of its game
-wide-same : (game : Game) → game.cells ≤ 8 → (wide wide' passage passage' : Passage) → IsWide game wide passage → IsWide game wide' passage' → (list : MoveList) → ListFits game list
-    → list_image (passage_product wide (inverse_passage wide')) list ≡ list_image (passage_product passage (inverse_passage passage')) list
-wide-same game few wide wide' passage passage' one two =
-    let own = one.passes.orders in
-    let own' = two.passes.orders in
-    list-same game (passage_product wide (inverse_passage wide')) (passage_product passage (inverse_passage passage'))
-    (λ place within. between-same wide.columns wide'.columns passage.columns passage'.columns one.wide_passes.orders.of_columns two.wide_passes.orders.of_columns own.of_columns own'.of_columns
-    one.columns two.columns (omega (arith, own.eight_columns)) (own.eight_columns ∙ sym own'.eight_columns) place (omega (arith, within, own.eight_columns)))
-    (λ place within. between-same wide.cells wide'.cells passage.cells passage'.cells one.wide_passes.orders.of_cells two.wide_passes.orders.of_cells own.of_cells own'.of_cells
-    one.cells two.cells (omega (arith, few, own.all_cells)) (own.all_cells ∙ sym own'.all_cells) place (omega (arith, within, own.all_cells)))
-
--- ---- the passage of a member
-
--- a passage that was chosen for the board of a member is the member's
-pub wide-of : (game : Game) (renamings : List (List ℕ)) (member : Member) (wide passage : Passage) → game ≡ game_of member.heading.variant → renamings ≡ renamings_of member.heading.variant
-    → passage ≡ chosen_passage renamings member.contents.board → IsWide game wide passage → IsWide (game_of member.heading.variant) wide (passage_of member)
-wide-of game renamings member wide passage played listed chosen is =
-    subst (λ passage. IsWide (game_of member.heading.variant) wide passage) (chosen ∙ ap (λ renamings. chosen_passage renamings member.contents.board) listed) (subst (λ game. IsWide game wide passage) played is)
+module _ {G : Type 0} {IsMember : G → Type 0} {identity : G} {product : G → G → G} {inverse : G → G} (laws : GroupLaws IsMember identity product inverse) where
+  -- the inverse of the inverse
+  pub inverse-inverse : (x : G) → IsMember x → inverse (inverse x) ≡ x
+  inverse-inverse x is_x =
+      let is_inverse = laws.inverse-IsMember x is_x in
+      let is_twice = laws.inverse-IsMember (inverse x) is_inverse in
+      rw (
+        ← laws.right_identity (inverse (inverse x)) is_twice,
+        ← laws.left_inverse x is_x,
+        ← laws.associative (inverse (inverse x)) (inverse x) x is_twice is_inverse is_x,
+        laws.left_inverse (inverse x) is_inverse,
+        laws.left_identity x is_x,
+      )
 
 -- ---- one more member
 
@@ -141,15 +71,12 @@ owner-stays solution members member keeps = subst (KeepsOwner (Some solution)) (
 -- what a solution has beside its list, where it is taken from this member
 abbrev pub TakenOf : Member → Solution → Type 0
 TakenOf member solution =
-    (solution.owner ≡ member.number) × IsWide (game_of member.heading.variant) solution.passage (passage_of member)
-    × ListFits (game_of member.heading.variant) solution.list
+    (solution.owner ≡ member.number) × (variant_of solution.passage ≡ member.heading.variant) × (held solution.passage ≡ passage_of member)
 
-pub of_variant : (member : Member) (found : Option Solution) (game : Game) (renamings : List (List ℕ)) (passage : Passage) → game ≡ game_of member.heading.variant → renamings ≡ renamings_of member.heading.variant
-    → passage ≡ chosen_passage renamings member.contents.board → IfSome found (λ solution. solution.owner ≡ member.number)
-    → IfSome found (λ solution. IsWide game solution.passage passage) → IfSome found (λ solution. ListFits game solution.list) → IfSome found (TakenOf member)
-of_variant member None game renamings passage played listed chosen numbered wide fits = tt
-of_variant member (Some solution) game renamings passage played listed chosen numbered wide fits =
-    (numbered, wide-of game renamings member solution.passage passage played listed chosen wide, subst (λ game. ListFits game solution.list) played fits)
+pub taken-of : (member : Member) (found : Option Solution) (passage : Passage) → passage ≡ passage_of member → IfSome found (λ solution. solution.owner ≡ member.number)
+    → IfSome found (λ solution. variant_of solution.passage ≡ member.heading.variant) → IfSome found (λ solution. held solution.passage ≡ passage) → IfSome found (TakenOf member)
+taken-of member None passage is numbered named kept = tt
+taken-of member (Some solution) passage is numbered named kept = (numbered, named, kept ∙ is)
 
 -- where there is none, the solution of the next member is taken
 pub owner-taken : (found : Option Solution) (members : List Member) (member : Member) → KeepsOwner None (owner_among members)
@@ -164,7 +91,7 @@ owner-taken found members member keeps first of_member =
     taken None (Some moves) said first of_member = cc first
     taken (Some solution) None said first of_member = cc first
     taken (Some solution) (Some moves) said first of_member =
-        record { number = of_member.0; passage = of_member.1; fits = of_member.2; moves = sym said ∙ sym first }
+        record { number = of_member.0; variant = of_member.1; passage = of_member.2; moves = sym said ∙ sym first }
 
     by : (owner : Option Member) → KeepsOwner None owner → KeepsOwner found (owner_with owner member)
     by None keeps = taken found (solution_of member) refl first of_member
@@ -185,21 +112,24 @@ owner-line said owner held kept holds keeps same =
     sym (one_line said owner kept (list_line kept.list) keeps
     (ap (λ b. if b then list_line kept.list else image_line (passage_between owner said) kept.list) equal))
 
-pub image-line : (said owner : Member) (held : SharedMember) (kept : Solution) → KeepsMember held said → KeepsSolution kept owner → SameGame said owner → kept.owner ≢ held.number
-    → image_line (passage_product kept.passage (inverse_passage held.passage)) kept.list ≡ solution_line said (Some owner)
-image-line said owner held kept holds keeps alike other =
+-- by the owner's passage and back by the member's
+pub image-printed : {A E : Type 0} (result : Result A E) (member : SharedMember) (kept : Solution) (old new : List ℕ) (to back between : Passage) (list : MoveList)
+    → kept.owner ≢ member.number → held kept.passage ≡ to → held member.back ≡ back → between ≡ passage_product to back → list ≡ kept.list
+    → OnOk result (new ≡ old ++ image_line between list)
+    → OnOk result ((said owner : Member) → KeepsMember member said → KeepsSolution kept owner → SameGame said owner → new ≡ old ++ solution_line said (Some owner))
+image-printed result member kept old new to back between list other to_is back_is between_is list_is = on_ok_weaker result (λ printed said owner holds keeps alike.
     let unequal = ne_eqb owner.number said.number (λ same. other (keeps.number ∙ same ∙ sym holds.number)) in
-    let there = subst (λ variant. IsWide (game_of variant) held.passage (passage_of said)) alike holds.passage in
-    let same = wide-same (game_of owner.heading.variant) (few_cells owner.heading.variant) kept.passage held.passage (passage_of owner) (passage_of said) keeps.passage there kept.list keeps.fits in
-    sym (one_line said owner kept _ keeps (ap (λ b. if b then list_line kept.list else image_line (passage_between owner said) kept.list) unequal ∙ ap list_line (sym same)))
+    let passage = between_is ∙ ap₂ passage_product (sym to_is ∙ keeps.passage) (sym back_is ∙ holds.back) in
+    printed ∙ ap (λ line. old ++ line) (ap₂ image_line passage list_is
+    ∙ sym (one_line said owner kept _ keeps (ap (λ b. if b then list_line kept.list else image_line (passage_between owner said) kept.list) unequal))))
 
 -- ---- the lines of a member
 
 -- the header, the board and the solution
-pub member-printed : (said : Member) (owner : Option Member) (held : SharedMember) (old one two new : List ℕ) → KeepsMember held said
-    → one ≡ old ++ header_text (variant_held held.board) held.name.items → two ≡ one ++ text_of (board_held held.board) → new ≡ two ++ solution_line said owner
+pub member-printed : (said : Member) (owner : Option Member) (member : SharedMember) (old one two new : List ℕ) → KeepsMember member said
+    → one ≡ old ++ header_text (variant_of member.back) member.name.items → two ≡ one ++ text_of (held member.board) → new ≡ two ++ solution_line said owner
     → new ≡ old ++ member_lines owner said
-member-printed said owner held old one two new holds with_header begun ended =
+member-printed said owner member old one two new holds with_header begun ended =
     three_parts old one two new (header_text said.heading.variant (name_of_member said)) (text_of said.contents.board) (solution_line said owner)
     (with_header ∙ ap₂ (λ variant name. old ++ header_text variant name) holds.variant holds.name) (begun ∙ ap (λ board. one ++ text_of board) holds.board) ended
 

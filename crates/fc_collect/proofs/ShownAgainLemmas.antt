@@ -1,12 +1,12 @@
 -- Records as `show` prints them, with headers and names: `show` takes a collection of them as it is.
-use Rattle.std.proofs.Common.{◌++◌, ◌+◌, ◌∙◌, ◌∷◌, ◌≡◌, ◌≤◌, [], All, ap, append-nil, append_assoc, ap₂, arith, drop}
-use Rattle.std.proofs.Common.{false, length, length-append, List, map, Ok, refl, Some, sym, true, ℕ}
-use Rattle.std.{proofs.lemmas.List.Elements.{All-head, All-tail}, specs.{Fmt.{decimal}, List.{count_by, flat_map}}}
+use Rattle.std.proofs.Common.{◌++◌, ◌∙◌, ◌∷◌, ◌≡◌, ◌≤◌, [], All, ap, append-nil, append_assoc, ap₂, arith, drop, length}
+use Rattle.std.proofs.Common.{length-append, List, map, Ok, refl, Some, sym, true, ℕ}
+use Rattle.std.{proofs.lemmas.List.Elements.{All-head, All-tail}, specs.List.{count_by, flat_map}}
 use Rattle.fc_board.specs.{Boards.{IsWellFormed}, declared.rule.Variant.{Variant}, Games.{game_of}}
 use Rattle.fc_text.{proofs.PrintedTextLemmas.{text_spells}, specs.Printed.{text_of}}
 use Rattle.fc_record.proofs.{HeadingLemmas.{IsGiven}, PrintedPartLemmas.{lines_of_board}}
 use Rattle.fc_record.specs.Grammar.{Accepted, Contents, Reading, reading_of, with_header}
-use Rattle.fc_record.specs.Printing.{header_text, is_refused, list_line, printed, printed_by, refuses, show_lines}
+use Rattle.fc_record.specs.Printing.{header_text, is_refused, list_line, printed, printed_by, show_lines}
 use Rattle.fc_record.specs.RecordTexts.{RecordText}
 use Rattle.fc_collect.proofs.{MemberLemmas.{CanPrint}, PrintedRecordLemmas.{with_header-IsReadAs}}
 use Rattle.fc_collect.{proofs.ReadAgainLemmas.{IsReadAs, Reads, Reads-lines}, specs.Limits.{standard}}

@@ -1,6 +1,6 @@
 -- What a run promises of its counts and of its bytes.
 use Rattle.std.specs.{Io.KnownBytes.{Appends, Consumes, IsAtEnd}, Prelude.{◌++◌, ◌+◌, ◌≡◌, ◌≤◌}}
-use Rattle.std.specs.Prelude.{All, Bool, Err, length, List, Ok, OnOk, Option, Result, true, ℕ}
+use Rattle.std.specs.Prelude.{All, Err, length, List, Ok, OnOk, Option, Result, true, ℕ}
 use Rattle.{fc_card.specs.Types.{Text}, fc_record.specs.RecordTexts.{RecordText}}
 use Rattle.fc_collect.specs.Limits.{most_record_bytes}
 use Rattle.fc_collect.specs.Records.{cut, finished_from, first_of, records_from}

@@ -1,21 +1,26 @@
 -- What the code holds and promises on its way from a collection to its output, and what it keeps of records and groups. What is written is said without it.
-pub mod Wide
+pub mod Held
 use Rattle.std.specs.Io.KnownBytes.{Appends, Consumes, IsAtEnd, Keeps}
 use Rattle.std.specs.{List.{AllZip, count_by, flat_map}, Option.{is_some}, Prelude.{◌&&◌, ◌++◌}}
 use Rattle.std.specs.Prelude.{◌+◌, ◌<◌, ◌∷◌, ◌≡◌, ◌≤◌, [], All, Bool, codes, drop, Err, length}
 use Rattle.std.specs.{Prelude.{List, map, None, Ok, Option, Result, Some, take, ℕ}, Str.{bytes_eq}}
-use Rattle.{fc_board.specs.declared.rule.Variant.{Variant}, fc_card.specs.Types.{Text}}
+use Rattle.{fc_card.specs.Types.{Text}, fc_text.specs.Bytes.{blank}}
 use Rattle.fc_board.specs.Boards.{Board, IsWellFormed}
-use Rattle.fc_board.specs.{Games.{game_of, renamings_of, variant_word}, Moves.{ListFits}}
-use Rattle.fc_board.specs.Passages.{carried, Passage}
-use Rattle.{fc_canon.specs.{chosen_passage, HasCanonText, key_of}, fc_text.specs.Bytes.{blank}}
+use Rattle.fc_board.specs.Games.{game_of, renamings_of, variant_word}
+use Rattle.fc_board.specs.Passages.{carried, inverse_passage, Passage}
+use Rattle.fc_board.specs.declared.rule.bakers_game.BakersGame.{BakersGame as RuledBakersGame}
+use Rattle.fc_board.specs.declared.rule.eight_off.EightOff.{EightOff as RuledEightOff}
+use Rattle.fc_board.specs.declared.rule.freecell.FreeCell.{FreeCell as RuledFreeCell}
+use Rattle.fc_board.specs.declared.rule.Variant.{Variant}
+use Rattle.fc_canon.specs.{chosen_passage, HasCanonText, key_of}
+use Rattle.fc_canon.specs.declared.answers.CanonText.{CanonText}
 use Rattle.fc_record.specs.{Grammar.{Contents, Heading}, Printing.{printed_with}}
 use Rattle.fc_record.specs.RecordTexts.{header_mark, RecordText}
 use Rattle.fc_record.specs.declared.record.RecordFault.{RecordFault}
 use Rattle.fc_record.specs.declared.record.RecordText.{RecordText as GivenText}
 use Rattle.fc_collect.specs.Groups.{groups_of, leaders_after, Member, members_among, name_of_member}
 use Rattle.fc_collect.specs.Groups.{owner_among, passage_of, solution_of, summary_of, wins_of}
-use Rattle.fc_collect.specs.{inside.Wide.{IsWide}, Limits.{most_record_bytes}}
+use Rattle.fc_collect.specs.{inside.Held.{held, variant_of}, Limits.{most_record_bytes}}
 use Rattle.fc_collect.specs.{Promises.{Begins, fault_failures, IsSmall}, Records.{begun, cut}}
 use Rattle.fc_collect.specs.Records.{finished, if_record, next_number, next_text, records_among}
 use Rattle.fc_collect.specs.Streams.{CallCounts}
@@ -23,40 +28,25 @@ use Rattle.fc_collect.specs.declared.{
   commands.{closed.{KeptBoard.{KeptBoard}, KeptBoards.{KeptBoards}}, count.Figures.{Figures}},
   commands.{count.Tally.{Tally}, names.GroupNames.{GroupNames}},
   engine.progress.Progress.{Progress},
-  groups.any_board.AnyBoard.{AnyBoard, TheVariants.{BakersGame, EightOff, FreeCell}},
-  groups.{any_board.AnyCanon.{AnyCanon}, Gathered.{Gathered}, GroupKey.{GroupKey}},
-  groups.solution.{Shared.{Shared}, SharedMember.{SharedMember}, Solution.{Solution}},
+  groups.by_game.ByGame.{ByGame, TheVariants.{BakersGame, EightOff, FreeCell}},
+  groups.{Gathered.{Gathered}, GroupKey.{GroupKey}, solution.Shared.{Shared}},
+  groups.solution.{SharedMember.{SharedMember}, Solution.{Solution}},
   streams.faults.RunFault.{RunFault, TheVariants.{Memory, Read, ReaderNeverEnds, TooLarge, Write}},
   streams.{faults.Summary.{Summary}, limits.Limits.{Limits}},
 }
-use Rattle.fc_board.specs.declared.rule.Variant.TheVariants as variant
-use Rattle.fc_collect.specs.declared.groups.any_board.AnyCanon.TheVariants as canon
 
-abbrev pub board_held : AnyBoard → Board
-board_held (FreeCell board) = board
-board_held (BakersGame board) = board
-board_held (EightOff board) = board
-
--- the variant that names its game
-abbrev pub variant_held : AnyBoard → Variant
-variant_held (FreeCell board) = variant.FreeCell
-variant_held (BakersGame board) = variant.BakersGame
-variant_held (EightOff board) = variant.EightOff
+abbrev pub AnyCanon : Type 0
+AnyCanon = ByGame (CanonText RuledFreeCell) (CanonText RuledBakersGame) (CanonText RuledEightOff)
 
 abbrev pub text_held : AnyCanon → Text
-text_held (canon.FreeCell made) = made.text.items
-text_held (canon.BakersGame made) = made.text.items
-text_held (canon.EightOff made) = made.text.items
+text_held (FreeCell made) = made.text.items
+text_held (BakersGame made) = made.text.items
+text_held (EightOff made) = made.text.items
 
 abbrev pub passage_held : AnyCanon → Passage
-passage_held (canon.FreeCell made) = made.passage
-passage_held (canon.BakersGame made) = made.passage
-passage_held (canon.EightOff made) = made.passage
-
-abbrev pub canon_variant : AnyCanon → Variant
-canon_variant (canon.FreeCell made) = variant.FreeCell
-canon_variant (canon.BakersGame made) = variant.BakersGame
-canon_variant (canon.EightOff made) = variant.EightOff
+passage_held (FreeCell made) = made.passage
+passage_held (BakersGame made) = made.passage
+passage_held (EightOff made) = made.passage
 
 -- -------- What a window of bytes holds after a read put more after them.
 
@@ -262,11 +252,11 @@ pub record Gathers {K : Type 0} (keeps : K → List Member → Type 0) (gathered
 abbrev pub SameGame : Member → Member → Type 0
 SameGame member other = member.heading.variant ≡ other.heading.variant
 
--- the passage has the owner's orders, and the list is the owner's solution
+-- the passage is the owner's, and the list is the owner's solution
 pub record KeepsSolution (kept : Solution) (owner : Member) : Type 0 where
   pub number : kept.owner ≡ owner.number
-  pub passage : IsWide (game_of owner.heading.variant) kept.passage (passage_of owner)
-  pub fits : ListFits (game_of owner.heading.variant) kept.list
+  pub variant : variant_of kept.passage ≡ owner.heading.variant
+  pub passage : held kept.passage ≡ passage_of owner
   pub moves : solution_of owner ≡ Some kept.list
 
 -- a solution is kept where a member of the group has one
@@ -276,13 +266,13 @@ KeepsOwner None (Some owner) = ⊥
 KeepsOwner (Some kept) None = ⊥
 KeepsOwner (Some kept) (Some owner) = KeepsSolution kept owner
 
--- the member's number, name and board, and the orders of its passage
+-- the member's number, name and board, and the inverse of its passage
 pub record KeepsMember (kept : SharedMember) (member : Member) : Type 0 where
   pub number : kept.number ≡ member.number
   pub name : kept.name.items ≡ name_of_member member
-  pub variant : variant_held kept.board ≡ member.heading.variant
-  pub board : board_held kept.board ≡ member.contents.board
-  pub passage : IsWide (game_of member.heading.variant) kept.passage (passage_of member)
+  pub variant : variant_of kept.back ≡ member.heading.variant
+  pub board : held kept.board ≡ member.contents.board
+  pub back : held kept.back ≡ inverse_passage (passage_of member)
 
 -- all members, and the first list that wins
 pub record KeepsShared (kept : Shared) (members : List Member) : Type 0 where
@@ -293,7 +283,7 @@ pub record KeepsShared (kept : Shared) (members : List Member) : Type 0 where
 
 -- the canonical text of this member's board, and the passage to it
 pub record IsCanonOf (held : AnyCanon) (member : Member) : Type 0 where
-  pub variant : canon_variant held ≡ member.heading.variant
+  pub variant : variant_of held ≡ member.heading.variant
   pub canon : HasCanonText (game_of member.heading.variant) (renamings_of member.heading.variant) member.contents.board (text_held held) (passage_held held)
 
 -- those of the first member, once there is one
@@ -325,8 +315,8 @@ KeepsNames kept (first ∷ others) = AreNames kept first others
 -- the member's name and board
 pub record KeepsBoard (kept : KeptBoard) (member : Member) : Type 0 where
   pub name : kept.name.items ≡ name_of_member member
-  pub variant : variant_held kept.board ≡ member.heading.variant
-  pub board : board_held kept.board ≡ member.contents.board
+  pub variant : variant_of kept.board ≡ member.heading.variant
+  pub board : held kept.board ≡ member.contents.board
 
 -- the keys are those of the members' groups, and each board is kept
 pub record KeepsBoards (kept : KeptBoards) (members : List Member) : Type 0 where

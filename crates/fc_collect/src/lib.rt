@@ -14,8 +14,8 @@ pub(crate) use engine::{Accepted, Command, run_records, write_full};
 pub use engine::{is_within_limits, write_bytes, write_text};
 pub use fc_board::Variant;
 pub(crate) use groups::{
-    AnyBoard, AnyCanon, AnyGame, EachGroup, Gathered, Gathering, GroupKey, ShareLines,
-    key_and_passage,
+    AnyBoard, AnyCanon, AnyGame, AnyPassage, ByGame, EachGroup, Gathered, Gathering, GroupKey,
+    ShareLines, key_and_passage,
 };
 pub(crate) use streams::KeyHasher;
 pub use streams::{

@@ -5,13 +5,14 @@ ghost use Rattle.fc_board.specs.{Moves.{ListFits, MoveList as SaidList}, Play.{l
 ghost use Rattle.fc_canon.specs.{chosen_passage};
 ghost use Rattle.fc_record.specs.{Grammar.{heading_seen}, inside.Fitting.{AllFit}, Tables.{is_win}};
 ghost use Rattle.fc_collect.specs.Groups.{Member, member_lines, share_lines, solution_line};
-ghost use Rattle.fc_collect.specs.inside.{KeepsMember, KeepsOwner, KeepsShared, KeepsSolution};
-ghost use Rattle.fc_collect.specs.inside.{member_of, output_counts, SameGame, SendingFits};
-ghost use Rattle.fc_collect.specs.{inside.Wide.{IsWide}, Streams.{GrowsBy, HasRoom, inner_of}};
+ghost use Rattle.fc_collect.specs.inside.{Held.{held, variant_of}, KeepsMember, KeepsOwner};
+ghost use Rattle.fc_collect.specs.inside.{KeepsShared, KeepsSolution, member_of, output_counts};
+ghost use Rattle.fc_collect.specs.inside.{SameGame, SendingFits};
+ghost use Rattle.fc_collect.specs.Streams.{GrowsBy, HasRoom, inner_of};
 
-use crate::groups::solution::{Shared, SharedMember, Solution, as_eight_off, first_winning_list};
+use crate::groups::solution::{Shared, SharedMember, Solution, first_winning_list};
 use crate::groups::{Gathering, GroupKey};
-use crate::{Accepted, AnyGame, Counted, RunFault, write_full};
+use crate::{Accepted, AnyGame, ByGame, Counted, RunFault, write_full};
 use fc_board::{Board, Rule};
 use fc_canon::Passage;
 use fc_card::Group;
@@ -97,12 +98,12 @@ fn kept_member<R: AnyGame>(
         number,
         name,
         board: R::any_board(board),
-        passage: as_eight_off(passage),
+        back: R::any_inverse(passage),
     })
 }
 
 // The first list of a member that wins, if one does.
-fn solution_among<R: Rule>(
+fn solution_among<R: AnyGame>(
     owner: usize,
     board: &Board<R>,
     lists: Vec<MoveList>,
@@ -112,13 +113,14 @@ fn solution_among<R: Rule>(
     ensures first { option_map (λ solution. solution.list) result
         ≡ find (λ list. is_win (list_verdict R.game board.now list)) lists.items }
     ensures owner { IfSome result (λ solution. solution.owner ≡ owner) }
-    ensures passage { IfSome result (λ solution. IsWide R.game solution.passage passage.now) }
-    ensures fits { IfSome result (λ solution. ListFits R.game solution.list) }
+    ensures variant { IfSome result (λ solution. variant_of solution.passage ≡ R.VARIANT) }
+    ensures passage { IfSome result (λ solution. held solution.passage ≡ passage.now) }
 {
     let list = first_winning_list(board, lists)?;
+    // What is kept of a passage is its inverse.
     Some(Solution {
         owner,
-        passage: as_eight_off(passage),
+        passage: R::any_inverse(&passage.inverse()),
         list,
     })
 }
@@ -154,7 +156,7 @@ fn push_member(
         → KeepsMember member.now said → KeepsOwner solution.now owner
         → IfSome owner (SameGame said) → out.new.items ≡ out.old.items ++ member_lines owner said) }
 {
-    push_header(member.board.variant(), member.name.as_slice(), out)?;
+    push_header(member.back.variant(), member.name.as_slice(), out)?;
     member.board.push_text(out)?;
     match solution {
         Some(solution) => push_solution(alloc, member, solution, out),
@@ -177,6 +179,12 @@ fn push_solution(
     if solution.owner == member.number {
         return push_list(&solution.list, out);
     }
-    let passage = solution.passage.then(&member.passage.inverse());
-    push_image(&passage, solution.list.copy(alloc)?, out)
+    let list = solution.list.copy(alloc)?;
+    match (&solution.passage, &member.back) {
+        (ByGame::FreeCell(to), ByGame::FreeCell(back)) => push_image(&to.then(back), list, out),
+        (ByGame::BakersGame(to), ByGame::BakersGame(back)) => push_image(&to.then(back), list, out),
+        (ByGame::EightOff(to), ByGame::EightOff(back)) => push_image(&to.then(back), list, out),
+        // The members of a group are of one game.
+        _ => Ok(()),
+    }
 }

@@ -1,13 +1,11 @@
 //! What `share` keeps of a group.
 ghost use Rattle.std.specs.{List.{find}, Prelude.{◌≡◌, [], IfSome}};
-ghost use Rattle.fc_board.specs.{Games.{eight_off}, Moves.{ListFits}, Play.{list_verdict}};
+ghost use Rattle.fc_board.specs.{Moves.{ListFits}, Play.{list_verdict}};
 ghost use Rattle.fc_record.specs.{inside.Fitting.{AllFit, ListFits-prop}, Tables.{is_win}};
-ghost use Rattle.fc_collect.specs.inside.Wide.{IsWide, Widens};
+ghost use Rattle.fc_collect.specs.inside.Held.{game_held};
 
-use crate::AnyBoard;
-use fc_board::{Board, EightOff, Rule};
-use fc_canon::Passage;
-use fc_card::Order;
+use crate::{AnyBoard, AnyPassage};
+use fc_board::{Board, Rule};
 use fc_record::MoveList;
 use std::alloc::Global;
 
@@ -19,24 +17,24 @@ pub struct Shared {
     pub solution: Option<Solution>,
 }
 
-/// What is kept of a member: its number, its name as it is printed, its own board, and the orders
-/// of its passage to the canonical board.
+/// What is kept of a member: its number, its name as it is printed, its own board, and the passage
+/// back to it from the canonical board.
 #[derive(Drop)]
 pub struct SharedMember {
     pub number: usize,
     pub name: Vec<u8>,
     pub board: AnyBoard,
-    pub passage: Passage<EightOff>,
+    pub back: AnyPassage,
 }
 
-/// A list that wins from the board of its owner, with the number of that record and the orders of
-/// its passage to the canonical board.
+/// A list that wins from the board of its owner, with the number of that record and its passage to
+/// the canonical board.
 #[derive(Drop)]
 pub struct Solution {
     pub owner: usize,
-    pub passage: Passage<EightOff>,
+    pub passage: AnyPassage,
     pub list: MoveList,
-    ghost fit: { ListFits eight_off list } by { ListFits-prop eight_off list },
+    ghost fit: { ListFits (game_held passage) list } by { ListFits-prop (game_held passage) list },
 }
 
 impl Shared {
@@ -68,31 +66,4 @@ pub(crate) fn first_winning_list<R: Rule>(
         }
     }
     None
-}
-
-/// A passage with the same orders in the game with the most cells: what becomes of a move follows
-/// from the orders alone, so that passages of all games are kept as ones of this game.
-pub(crate) fn as_eight_off<R: Rule>(passage: &Passage<R>) -> Passage<EightOff>
-    ensures { IsWide R.game result passage.now }
-{
-    let columns = eight_places(passage.columns());
-    let cells = eight_places(passage.cells());
-    let Some(passage) = Passage::new(EightOff::renaming(0), columns, cells) else {
-        unreachable!()
-    };
-    passage
-}
-
-// The order with further places at its end, which stay, so that it has eight.
-fn eight_places(order: &Order) -> Order
-    ensures { Widens result order.now }
-{
-    let mut places = [0, 1, 2, 3, 4, 5, 6, 7];
-    for place in 0..order.len() {
-        places[place] = order.at(place) as u8;
-    }
-    let Some(order) = Order::new(&places) else {
-        unreachable!()
-    };
-    order
 }

@@ -1,17 +1,16 @@
-use Rattle.{fc_record.specs.Grammar.{heading_seen}, std.proofs.Common.{refl}}
-use Rattle.fc_collect.{proofs.ShareLemmas.{wide-of}, specs.inside.{member_of}}
+use Rattle.std.proofs.Common.{◌∙◌, ap, refl}
+use Rattle.{fc_board.specs.Passages.{inverse_passage}, fc_canon.specs.{chosen_passage}}
 use Rattle.fc_collect.proofs.groups.share.kept_member.Goals as goal
 
 pub returns : goal.returns
 returns g c =
-    let named = g.met.R.Rule.named in
+    let board = c.args.board.now in
     record {
       kept = λ lists. record {
         number = refl;
         name = rw c.new-name.ensures.items at c.in_ok-push_name.ensures.printed;
-        variant = c.any_board.ensures.variant;
+        variant = c.any_inverse.ensures.variant;
         board = c.any_board.ensures.board;
-        passage = wide-of _ _ (member_of c.args.number (heading_seen g.R.Rule.VARIANT c.args.heading) (record { board = c.args.board.now; lists = lists })) _ _
-            (named.game_is _ refl) (named.renamings_are _ refl) c.requires.passage c.as_eight_off.ensures;
+        back = c.any_inverse.ensures.inverse ∙ ap inverse_passage (c.requires.passage ∙ ap (λ renamings. chosen_passage renamings board) (g.met.R.Rule.named.renamings_are _ refl));
       };
     }
