@@ -184,6 +184,7 @@ fn push_solution(
         (ByGame::FreeCell(to), ByGame::FreeCell(back)) => push_image(&to.then(back), list, out),
         (ByGame::BakersGame(to), ByGame::BakersGame(back)) => push_image(&to.then(back), list, out),
         (ByGame::EightOff(to), ByGame::EightOff(back)) => push_image(&to.then(back), list, out),
+        // The members of a group are of one game.
         _ => Ok(()),
     }
 }
