@@ -1,19 +1,18 @@
 //! The cards and the moves that words name, and those of a board in the orders in which lines name
 //! them.
 ghost use Rattle.std.specs.{List.{flat_map}, Option.{option_to_list}, Prelude.{◌++◌, ◌↔◌, ◌≡◌}};
-ghost use Rattle.std.specs.Prelude.{◌≢◌, ◌≤◌, ◌⊎◌, [], All, IfOk, IsTrue, length, List, map, OnOk};
-ghost use Rattle.std.specs.Prelude.{slice_get, ℕ};
+ghost use Rattle.std.specs.Prelude.{◌≢◌, ◌≤◌, ◌⊎◌, [], All, IfOk, IfSome, IsSome, IsTrue, length};
+ghost use Rattle.std.specs.Prelude.{List, OnOk, slice_get, true, ℕ};
 ghost use Rattle.{fc_board.specs.Boards.{IsWellFormed}, fc_card.specs.{places}};
-ghost use Rattle.fc_text.specs.Lines.{with_end, words_from};
 ghost use Rattle.fc_import.specs.Import.{AreIn, ArePacked, by_columns, in_cells, in_row, IsPacked};
-ghost use Rattle.fc_import.specs.{Import.{lines_in, lines_of}, inside.{part}};
-ghost use Rattle.fc_import.specs.Scan.{named_card, named_cards, parts_words};
-ghost use Rattle.fc_import.specs.Words.{ended, named_lines};
-ghost use Rattle.fc_import.specs.declared.layout.Layout.TheVariants.{ColumnsInLine};
+ghost use Rattle.fc_import.specs.{Import.{lines_in, lines_of}, inside.{part}, Scan.{named_cards}};
+ghost use Rattle.fc_import.specs.{Strips.{are_below, tells_columns}, Words.{ended, named_lines}};
+ghost use Rattle.fc_import.specs.declared.layout.Layout.TheVariants.{ColumnsInLine, Rows};
 
 use crate::layout::Layout;
 use crate::marks::ends_column;
 use crate::scan::named_card;
+use crate::strips::{Strips, has_strips, is_told, strip_if};
 use crate::words::{Words, uncommented};
 use fc_board::{Board, Rule};
 use fc_card::Card;
@@ -31,49 +30,78 @@ pub(crate) fn named_lines(alloc: Global, text: &[u8]) -> Result<Vec<u8>, AllocEr
     ensures { IfOk result (λ cards. cards.items ≡ named_lines text.now) }
 {
     let mut cards = Vec::with_capacity(alloc, MOST)?;
-    let mut named = Vec::with_capacity(alloc, 8)?;
     for line in Lines::new(text) {
-        name_cards(line.text, &mut named)?;
-        push_part(&mut cards, named.as_slice(), true)?;
+        let start = cards.len();
+        push_named(&mut cards, line.text)?;
+        push_end(&mut cards, start, true)?;
     }
     Ok(cards)
 }
 
-// Appends the numbers of these cards, and then an end if they are to have one and there are any.
-fn push_part(all: &mut Vec<u8>, cards: &[Card], is_ended: bool) -> Result<(), AllocError>
-    ensures { OnOk result (all.new.items ≡ all.old.items ++ part is_ended cards.now) }
+// Appends the cards that the words of a line name before a comment, in their order.
+fn push_named(cards: &mut Vec<u8>, line: &[u8]) -> Result<(), AllocError>
+    ensures { OnOk result (cards.new.items ≡ cards.old.items ++ named_cards line.now) }
 {
-    for card in cards {
-        all.push(card.number())?;
-    }
-    if is_ended && !cards.is_empty() {
-        all.push(END)?;
-    }
-    Ok(())
-}
-
-// Puts the cards that the words of a line name before a comment, in their order, in place of those
-// that are there.
-fn name_cards(line: &[u8], cards: &mut Vec<Card>) -> Result<(), AllocError>
-    ensures { OnOk result (cards.new.items ≡ named_cards line.now) }
-{
-    cards.clear();
     if line.first() == Some(&b'@') {
         return Ok(());
     }
-    push_cards(cards, uncommented(line))
-}
-
-// Appends the cards that the words of a text name, in their order.
-fn push_cards(cards: &mut Vec<Card>, text: &[u8]) -> Result<(), AllocError>
-    ensures { OnOk result (cards.new.items ≡ cards.old.items ++ flat_map
-        (λ word. option_to_list (named_card word.0.bytes))
-        (map with_end (words_from parts_words 0 text.now))) }
-{
-    for word in Words::new(text) {
+    for word in Words::new(uncommented(line)) {
         push_some(cards, named_card(word.text))?;
     }
     Ok(())
+}
+
+/// The cards that the lines of rows name, in their order, with an end after those of each line, if
+/// each that is in no cell stands in the strip of its column.
+pub(crate) fn told_lines<R: Rule>(
+    alloc: Global,
+    strips: Strips,
+    lines: &[u8],
+    board: &Board<R>,
+) -> Result<Option<Vec<u8>>, AllocError>
+    ensures named { IfOk result (λ told. IfSome told (λ cards.
+        cards.items ≡ named_lines lines.now)) }
+    ensures told { IfOk result (λ told. IsSome told
+        → tells_columns (Rows strips) lines.now board.now ≡ true) }
+{
+    let mut cards = Vec::with_capacity(alloc, MOST)?;
+    for line in Lines::new(lines) {
+        let start = cards.len();
+        if !push_told(&mut cards, strips, line.text, board)? {
+            return Ok(None);
+        }
+        push_end(&mut cards, start, true)?;
+    }
+    Ok(Some(cards))
+}
+
+// Appends the cards that the words of a line name, if each that is in no cell stands in the strip
+// of its column. Returns whether they do; a header has no strips.
+fn push_told<R: Rule>(
+    cards: &mut Vec<u8>,
+    strips: Strips,
+    line: &[u8],
+    board: &Board<R>,
+) -> Result<bool, AllocError>
+    ensures named { IfOk result (λ told. IsTrue told
+        → cards.new.items ≡ cards.old.items ++ named_cards line.now) }
+    ensures told { IfOk result (λ told. IsTrue told
+        → are_below strips board.now line.now ≡ true) }
+{
+    if line.first() == Some(&b'@') {
+        return Ok(false);
+    }
+    let line = uncommented(line);
+    let has_strips = has_strips(strips, line, board);
+    for word in Words::new(line) {
+        let card = named_card(word.text);
+        let strip = strip_if(has_strips, strips, line, &word);
+        if !is_told(&card, board, strip) {
+            return Ok(false);
+        }
+        push_some(cards, card)?;
+    }
+    Ok(true)
 }
 
 /// Whether the lines, which name these cards, name those of the board in this layout, and those of
@@ -150,10 +178,21 @@ fn line_of_cells<R: Rule>(alloc: Global, board: &Board<R>) -> Result<Vec<u8>, Al
     ensures cards { IfOk result (λ cards. cards.items ≡ ended (in_cells board.now)) }
     ensures well_formed { IsWellFormed R.game board.now }
 {
-    let in_cells = cards_in_cells(alloc, board.cells())?;
+    let cells = board.cells();
     let mut cards = Vec::with_capacity(alloc, MOST)?;
-    push_part(&mut cards, in_cells.as_slice(), true)?;
+    push_cells(&mut cards, cells)?;
+    push_end(&mut cards, 0, true)?;
     Ok(cards)
+}
+
+fn push_cells(cards: &mut Vec<u8>, cells: &[Option<Card>]) -> Result<(), AllocError>
+    ensures { OnOk result
+        (cards.new.items ≡ cards.old.items ++ flat_map option_to_list cells.now) }
+{
+    for cell in cells {
+        push_some(cards, *cell)?;
+    }
+    Ok(())
 }
 
 // The cards of the columns as lines name them in this layout, with an end after those of each line.
@@ -163,20 +202,21 @@ fn lines_in<R: Rule>(alloc: Global, layout: Layout, board: &Board<R>) -> Result<
     let mut cards = Vec::with_capacity(alloc, MOST)?;
     match layout {
         Layout::Columns | Layout::ColumnsInLine => push_columns(&mut cards, board)?,
-        Layout::Rows(_) => push_rows(alloc, &mut cards, board, true)?,
+        Layout::Rows(_) => push_rows(&mut cards, board, true)?,
         Layout::Deal => {
-            push_rows(alloc, &mut cards, board, false)?;
-            push_end(&mut cards)?;
+            push_rows(&mut cards, board, false)?;
+            push_end(&mut cards, 0, true)?;
         }
     }
     Ok(cards)
 }
 
-// Appends an end if there are cards.
-fn push_end(cards: &mut Vec<u8>) -> Result<(), AllocError>
-    ensures { OnOk result (cards.new.items ≡ ended cards.old.items) }
+// Appends an end if there are cards after the first so many and they are to have one.
+fn push_end(cards: &mut Vec<u8>, start: usize, is_ended: bool) -> Result<(), AllocError>
+    ensures { (front more : List ℕ) → cards.old.items ≡ front ++ more → start ≡ length front
+        → OnOk result (cards.new.items ≡ front ++ part is_ended more) }
 {
-    if !cards.is_empty() {
+    if is_ended && cards.len() > start {
         cards.push(END)?;
     }
     Ok(())
@@ -190,7 +230,20 @@ fn push_columns<R: Rule>(cards: &mut Vec<u8>, board: &Board<R>) -> Result<(), Al
     // The board has eight columns.
     let _ = board.heights();
     for index in 0..8 {
-        push_part(cards, board.column(index), true)?;
+        push_column(cards, board.column(index))?;
+    }
+    Ok(())
+}
+
+// Appends the numbers of these cards, and then an end if there are any.
+fn push_column(all: &mut Vec<u8>, cards: &[Card]) -> Result<(), AllocError>
+    ensures { OnOk result (all.new.items ≡ all.old.items ++ ended cards.now) }
+{
+    for card in cards {
+        all.push(card.number())?;
+    }
+    if !cards.is_empty() {
+        all.push(END)?;
     }
     Ok(())
 }
@@ -198,7 +251,6 @@ fn push_columns<R: Rule>(cards: &mut Vec<u8>, board: &Board<R>) -> Result<(), Al
 // Appends the first card of each column, then the second of each, and so on, each row with an end
 // if they are to have one.
 fn push_rows<R: Rule>(
-    alloc: Global,
     cards: &mut Vec<u8>,
     board: &Board<R>,
     are_ended: bool,
@@ -206,13 +258,13 @@ fn push_rows<R: Rule>(
     ensures { OnOk result (cards.new.items ≡ cards.old.items
         ++ flat_map (λ row. part are_ended (in_row board.now row)) (places 52)) }
 {
-    let mut row = Vec::with_capacity(alloc, 8)?;
     for place in 0..52 {
         if are_past(board, place) {
             return Ok(());
         }
-        put_row(&mut row, board, place)?;
-        push_part(cards, row.as_slice(), are_ended)?;
+        let start = cards.len();
+        push_row(cards, board, place)?;
+        push_end(cards, start, are_ended)?;
     }
     Ok(())
 }
@@ -231,15 +283,14 @@ fn are_past<R: Rule>(board: &Board<R>, row: usize) -> bool
     true
 }
 
-// Puts the card of each column at this place, where it has one, in place of those that are there.
-fn put_row<R: Rule>(row: &mut Vec<Card>, board: &Board<R>, place: usize) -> Result<(), AllocError>
-    ensures { OnOk result (row.new.items ≡ in_row board.now place) }
+// Appends the card of each column at this place, where it has one.
+fn push_row<R: Rule>(cards: &mut Vec<u8>, board: &Board<R>, place: usize) -> Result<(), AllocError>
+    ensures { OnOk result (cards.new.items ≡ cards.old.items ++ in_row board.now place) }
 {
     // The board has eight columns.
     let _ = board.heights();
-    row.clear();
     for index in 0..8 {
-        push_some(row, card_at(board.column(index), place))?;
+        push_some(cards, card_at(board.column(index), place))?;
     }
     Ok(())
 }
@@ -253,21 +304,11 @@ fn card_at(column: &[Card], row: usize) -> Option<Card>
     }
 }
 
-fn cards_in_cells(alloc: Global, cells: &[Option<Card>]) -> Result<Vec<Card>, AllocError>
-    ensures { IfOk result (λ cards. cards.items ≡ flat_map option_to_list cells.now) }
-{
-    let mut cards = Vec::new(alloc);
-    for cell in cells {
-        push_some(&mut cards, *cell)?;
-    }
-    Ok(cards)
-}
-
-fn push_some(cards: &mut Vec<Card>, card: Option<Card>) -> Result<(), AllocError>
+fn push_some(cards: &mut Vec<u8>, card: Option<Card>) -> Result<(), AllocError>
     ensures { OnOk result (cards.new.items ≡ cards.old.items ++ option_to_list card) }
 {
     if let Some(card) = card {
-        cards.push(card)?;
+        cards.push(card.number())?;
     }
     Ok(())
 }

@@ -76,7 +76,6 @@ enum Solution {
 /// A text as it is imported.
 #[derive(Drop)]
 struct Importer<R: Rule> {
-    alloc: Global,
     made: Made<R>,
     /// The words of the last title, as the name of the next board.
     title: Vec<u8>,
@@ -96,7 +95,6 @@ pub(crate) fn import_text<R: Rule>(
         (λ made. (made.written.items ≡ text.now) × (made.notes.items ≡ [])) }
 {
     let mut importer = Importer {
-        alloc,
         made: Made::new(alloc, options),
         title: Vec::new(alloc),
         solution: Solution::Nothing,
@@ -157,7 +155,7 @@ impl<R: Rule> Importer<R> {
             (λ taken. (taken ≡ Some (length (header_text R.VARIANT name ++ text_of board)))
             × (self.new.made.last ≡ Some board)) }
     {
-        let taken = self.made.take_record(self.alloc, text)?;
+        let taken = self.made.take_record(text)?;
         if taken.is_some() {
             self.solution = Solution::Nothing;
             self.title.clear();
@@ -179,7 +177,7 @@ impl<R: Rule> Importer<R> {
             (λ taken. (taken ≡ Some (length (list_line list)))
             × (self.new.made.last ≡ Some board)) }
     {
-        let taken = self.made.take_list(self.alloc, text)?;
+        let taken = self.made.take_list(text)?;
         if taken.is_some() {
             self.solution = Solution::Nothing;
         }
@@ -271,12 +269,12 @@ impl<R: Rule> Importer<R> {
         match (layout, self.made.options.lines_are) {
             (Layout::Columns, LinesAre::Unsaid | LinesAre::Columns) => {
                 match read_columns::<R>(lines) {
-                    Some(board) => self.take_shown(lines, board)?,
+                    Some(board) => self.take_read(lines, board, layout, true)?,
                     None => return Ok(false),
                 }
             }
             (Layout::Rows(_), LinesAre::Unsaid | LinesAre::Rows) => match read_rows::<R>(lines) {
-                Some(board) => self.take_read(lines, board, layout)?,
+                Some(board) => self.take_read(lines, board, layout, false)?,
                 None => return Ok(false),
             },
             _ => return Ok(false),
@@ -291,7 +289,7 @@ impl<R: Rule> Importer<R> {
         self.solution = Solution::Nothing;
         self.title.clear();
         self.is_titled_otherwise = false;
-        self.made.take_name(self.alloc, line)
+        self.made.take_name(line)
     }
 
     // Takes a line that is no board's and no list's: the title of the next board. If it names
@@ -303,10 +301,10 @@ impl<R: Rule> Importer<R> {
             return self.take_no_moves(piece);
         }
         self.look_at_title(piece)?;
-        if self.made.pass(self.alloc, piece)? {
+        if self.made.pass(piece)? {
             return Ok(());
         }
-        if self.made.leave_out(self.alloc, piece, LEFT_OUT)? {
+        if self.made.leave_out(piece, LEFT_OUT)? {
             return Ok(());
         }
         self.made.refuse_board(piece, 0, NO_BOARD)
@@ -322,7 +320,7 @@ impl<R: Rule> Importer<R> {
         if line.trim_ascii().is_empty() {
             return Ok(());
         }
-        self.title = title_of(self.alloc, line)?;
+        self.title = title_of(self.made.alloc, line)?;
         if let (Some(variant), false) = (variant_titled(line), self.made.is_named()) {
             self.is_titled_otherwise = variant != R::VARIANT;
         }
@@ -347,7 +345,7 @@ impl<R: Rule> Importer<R> {
         ensures { OnOk result (Takes R.VARIANT R.game lines.now self.old.made self.new.made) }
     {
         match draft_of::<R>(lines, piece, self.made.options.lines_are) {
-            Drafted::Board(board, layout) => self.take_read(lines, board, layout),
+            Drafted::Board(board, layout) => self.take_read(lines, board, layout, false),
             Drafted::Question => self.refuse(lines, QUESTION),
             Drafted::Unplayable => self.refuse(lines, UNPLAYABLE),
             Drafted::NoBoard => self.take_no_board(lines, piece),
@@ -378,60 +376,43 @@ impl<R: Rule> Importer<R> {
         ensures kept { IfOk result (λ taken. taken ≡ false → self.new.made ≡ self.old.made) }
     {
         for strips in strips_of(lines, piece) {
-            if self
-                .made
-                .see_again(self.alloc, lines, Layout::Rows(strips))?
-            {
+            if self.made.see_again(lines, Layout::Rows(strips))? {
                 return Ok(true);
             }
         }
-        self.made.see_again(self.alloc, lines, Layout::Columns)
+        self.made.see_again(lines, Layout::Columns)
     }
 
     // Refuses a board for the word at this place.
     fn refuse_word(&mut self, lines: &[u8], at: usize, words: &[u8]) -> Result<(), AllocError>
         ensures { OnOk result (Takes R.VARIANT R.game lines.now self.old.made self.new.made) }
     {
-        let words = word_reason(self.alloc, lines, at, words)?;
+        let words = word_reason(self.made.alloc, lines, at, words)?;
         self.title.clear();
         self.made.refuse_board(lines, at, words.as_slice())
     }
 
-    // Takes a board that `show` reads in the lines, unless a solution begins with it that belongs
-    // to the last board.
-    fn take_shown(&mut self, piece: &[u8], board: Board<R>) -> Result<(), AllocError>
-        requires { Spells R.game piece.now board }
+    // Takes a board that the lines are read as in this layout, which may be known to be columns that
+    // `show` reads so, unless a solution begins with it that belongs to the last board.
+    fn take_read(
+        &mut self,
+        piece: &[u8],
+        board: Board<R>,
+        layout: Layout,
+        is_known: bool,
+    ) -> Result<(), AllocError>
+        requires { IsTrue is_known → Spells R.game piece.now board }
         ensures { OnOk result (Takes R.VARIANT R.game piece.now self.old.made self.new.made) }
     {
-        if self.is_again(&board) && self.made.see_again(self.alloc, piece, Layout::Columns)? {
+        if self.is_again(&board) && self.made.see_again(piece, layout)? {
             return Ok(());
         }
-        if self
-            .made
-            .put_shown(self.alloc, piece, self.title.as_slice(), board)?
-        {
+        let title = self.title.as_slice();
+        if self.made.put_read(piece, title, board, layout, is_known)? {
             self.title.clear();
             return Ok(());
         }
-        self.refuse(piece, UNPLAYABLE)
-    }
-
-    // Takes a board that the lines are read as in this layout, unless a solution begins with it
-    // that belongs to the last board.
-    fn take_read(&mut self, piece: &[u8], board: Board<R>, layout: Layout) -> Result<(), AllocError>
-        ensures { OnOk result (Takes R.VARIANT R.game piece.now self.old.made self.new.made) }
-    {
-        if self.is_again(&board) && self.made.see_again(self.alloc, piece, layout)? {
-            return Ok(());
-        }
-        if self
-            .made
-            .put_read(self.alloc, piece, self.title.as_slice(), board, layout)?
-        {
-            self.title.clear();
-            return Ok(());
-        }
-        self.refuse(piece, OTHER_CARDS)
+        self.refuse(piece, if is_known { UNPLAYABLE } else { OTHER_CARDS })
     }
 
     // Whether a solution begins with this board, which is the last one. It may go on with boards.
@@ -463,14 +444,10 @@ impl<R: Rule> Importer<R> {
             Some(board) => board.is_won(),
             None => false,
         };
-        if is_won
-            && self
-                .made
-                .put_list(self.alloc, piece, Form::Runs, b"", REWRITTEN)?
-        {
+        if is_won && self.made.put_list(piece, Form::Runs, b"", REWRITTEN)? {
             return Ok(());
         }
-        self.made.refuse_list(self.alloc, piece, 0, NO_MOVES)
+        self.made.refuse_list(piece, 0, NO_MOVES)
     }
 
     // Refuses the boards of a solution that has no moves.
@@ -493,7 +470,7 @@ impl<R: Rule> Importer<R> {
     fn refuse_fault(&mut self, piece: &[u8], fault: BoardFault) -> Result<(), AllocError>
         ensures { OnOk result (Takes R.VARIANT R.game piece.now self.old.made self.new.made) }
     {
-        let words = board_reason(self.alloc, piece, fault.place, fault.kind)?;
+        let words = board_reason(self.made.alloc, piece, fault.place, fault.kind)?;
         self.title.clear();
         self.made.refuse_board(piece, fault.place, words.as_slice())
     }
@@ -504,15 +481,13 @@ impl<R: Rule> Importer<R> {
     {
         self.solution = Solution::Nothing;
         let Some(board) = &self.made.last else {
-            return self.made.refuse_list(self.alloc, lines, 0, NO_BOARD_BEFORE);
+            return self.made.refuse_list(lines, 0, NO_BOARD_BEFORE);
         };
         if let Some(at) = piece.held.foreign {
-            let words = word_reason(self.alloc, lines, at, NO_MOVE)?;
-            return self
-                .made
-                .refuse_list(self.alloc, lines, at, words.as_slice());
+            let words = word_reason(self.made.alloc, lines, at, NO_MOVE)?;
+            return self.made.refuse_list(lines, at, words.as_slice());
         }
-        let read = moves_on(self.alloc, board, lines, piece.moves.as_slice())?;
+        let read = moves_on(self.made.alloc, board, lines, piece.moves.as_slice())?;
         self.take_read_moves(lines, read)
     }
 
@@ -524,16 +499,15 @@ impl<R: Rule> Importer<R> {
             ListRead::Moves(form, moves) => {
                 let taken = self
                     .made
-                    .put_list(self.alloc, lines, form, moves.as_slice(), REWRITTEN)?;
+                    .put_list(lines, form, moves.as_slice(), REWRITTEN)?;
                 if taken {
                     return Ok(());
                 }
-                self.made.refuse_list(self.alloc, lines, 0, NO_LIST)
+                self.made.refuse_list(lines, 0, NO_LIST)
             }
             ListRead::Illegal(number, fault) => {
-                let words = move_reason(self.alloc, number, fault)?;
-                self.made
-                    .refuse_list(self.alloc, lines, 0, words.as_slice())
+                let words = move_reason(self.made.alloc, number, fault)?;
+                self.made.refuse_list(lines, 0, words.as_slice())
             }
         }
     }
@@ -593,21 +567,26 @@ fn lines_len(text: &[u8], least: usize) -> usize
 fn deal_layout(text: &[u8]) -> Option<Layout> {
     let mut lines: usize = 0;
     let mut are_rows = true;
-    for (at, byte) in text.iter().enumerate().take(DEAL_LEN) {
-        if matches!(byte, b' ' | b'\n') != (at % 3 == 2) {
-            return None;
-        }
-        if *byte == b'\n' {
-            lines = lines.saturating_add(1);
-            are_rows = are_rows && (at % 24 == 23 || at == DEAL_LEN - 1);
+    for place in 0..52 {
+        let (word, end) = match text.get(3 * place..)? {
+            [first, second] if place == 51 => ([*first, *second], b'\n'),
+            [first, second, end, ..] => ([*first, *second], *end),
+            _ => return None,
+        };
+        let is_parted = word.iter().any(|byte| matches!(byte, b' ' | b'\n'));
+        match end {
+            _ if is_parted => return None,
+            b'\n' => {
+                lines = lines.saturating_add(1);
+                are_rows = are_rows && (place % 8 == 7 || place == 51);
+            }
+            b' ' if place < 51 => {}
+            _ => return None,
         }
     }
-    let is_cut = text.len().saturating_add(1) == DEAL_LEN;
-    let is_whole = is_cut || text.get(DEAL_LEN - 1) == Some(&b'\n');
-    let is_last = matches!(text.get(DEAL_LEN), None | Some(b'\n' | b'@'));
-    match lines.saturating_add(usize::from(is_cut)) {
-        8 if is_whole && is_last => Some(Layout::Columns),
-        7 if is_whole && is_last && are_rows => Some(Layout::Rows(DEALT)),
+    match (lines, text.get(DEAL_LEN)) {
+        (8, None | Some(b'\n' | b'@')) => Some(Layout::Columns),
+        (7, None | Some(b'\n' | b'@')) if are_rows => Some(Layout::Rows(DEALT)),
         _ => None,
     }
 }

@@ -8,7 +8,7 @@ use crate::options::LinesAre;
 use crate::piece::{Piece, PieceLine};
 use crate::playable::{MOST_DEALT, is_playable};
 use crate::scan::{Placed, named_card};
-use crate::strips::{Strips, fields_in, strip_of, tells_columns, words_in};
+use crate::strips::{Strips, fields_in, has_strips, strip_of, words_in};
 use crate::words::{Word, Words};
 use arrayvec::ArrayVec;
 use fc_board::{Board, Height, Rule, no_cards};
@@ -116,12 +116,18 @@ fn rows_of<R: Rule>(text: &[u8], piece: &Piece) -> Option<(Board<R>, Layout)> {
         }
         let layout = Layout::Rows(strips);
         if let Some(board) = board_in(text, piece, layout) {
-            if tells_columns(layout, text, &board) {
+            if have_strips(strips, text, piece, &board) {
                 return Some((board, layout));
             }
         }
     }
     None
+}
+
+// Whether each row with a card has strips of this kind.
+fn have_strips<R: Rule>(strips: Strips, text: &[u8], piece: &Piece, board: &Board<R>) -> bool {
+    let rows = piece.rows.as_slice();
+    rows.iter().all(|row| row.shape.cards == 0 || has_strips(strips, row.of(text), board))
 }
 
 fn if_playable<R: Rule>(board: Option<Board<R>>, layout: Layout) -> Drafted<R> {
@@ -234,26 +240,26 @@ fn board_in<R: Rule>(text: &[u8], piece: &Piece, layout: Layout) -> Option<Board
     board_of::<R>(heights, cells, columns)
 }
 
-/// The board of the rows of a deal, if no play could have made columns of their lines.
+/// The board of the rows of a deal, which have three bytes a card, if no play could have made
+/// columns of their lines.
 pub(crate) fn read_rows<R: Rule>(lines: &[u8]) -> Option<Board<R>> {
-    let read = read_board::<R>(lines).ok()?;
-    if is_playable(&read) {
+    let mut columns = no_cards();
+    let mut before: Option<Card> = None;
+    let mut may_be_columns = true;
+    for place in 0..52 {
+        let at = 3 * place;
+        let card = named_card(lines.get(at..at + 2)?)?;
+        if let (7, Some(above)) = (place % 8, before) {
+            may_be_columns = may_be_columns && R::builds(card, above);
+        }
+        before = Some(card);
+        let _ = columns[place % 8].try_push(card);
+    }
+    if may_be_columns {
         return None;
     }
-    // The board has eight columns.
-    let _ = read.heights();
-    let mut columns = no_cards();
-    for row in 0..7 {
-        put_row(read.column(row), &mut columns);
-    }
-    board_of::<R>(*read.heights(), [None; 8], columns)
-}
-
-// Puts each card of a row on its column.
-fn put_row(row: &[Card], columns: &mut [ArrayVec<Card, 52>; 8]) {
-    for (card, column) in row.iter().zip(columns.iter_mut()) {
-        let _ = column.try_push(*card);
-    }
+    let none = Height::new(0)?;
+    board_of::<R>([none; 4], [None; 8], columns)
 }
 
 // The board that has these parts, if its cells are the game's and each card is there once.

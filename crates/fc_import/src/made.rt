@@ -2,7 +2,8 @@
 //! what it is taken for.
 ghost use Rattle.std.specs.{List.{before_first, list_any}, Prelude.{◌&&◌, ◌++◌, ◌<◌, ◌==◌, ◌||◌}};
 ghost use Rattle.std.specs.Prelude.{◌↔◌, ◌≡◌, ◌≢◌, ◌≤◌, ◌⊎◌, [], codes, false, IfErr, IfOk, IfSome};
-ghost use Rattle.std.specs.{Prelude.{IsTrue, length, None, OnOk, Some, true}, Str.{bytes_eq}};
+ghost use Rattle.std.specs.Prelude.{IsSome, IsTrue, length, None, OnOk, Some, true};
+ghost use Rattle.std.specs.Str.{bytes_eq};
 ghost use Rattle.fc_card.specs.Types.{Text};
 ghost use Rattle.fc_board.specs.{Boards.{Board as AnyBoard, IsWellFormed}, Games.{eight_off}};
 ghost use Rattle.fc_board.specs.{Moves.{ListFits, move_count, MoveList as SaidList}, Play.{Legal}};
@@ -16,10 +17,11 @@ ghost use Rattle.fc_import.specs.Import.{ListNeedsNoNote, may_be, moves_of, Name
 ghost use Rattle.fc_import.specs.{Import.{SpellsOut}, inside.{form_of, IsMade, place_of, Says}};
 ghost use Rattle.fc_import.specs.{inside.{state_of, Takes, TakesName}, Labels.{says_column}};
 ghost use Rattle.fc_import.specs.Notes.{after, begun_after, goes_on_after, is_unmarked, name_by};
-ghost use Rattle.fc_import.specs.{Notes.{SaysUnless}, Scan.{words_of}, Words.{named_lines}};
+ghost use Rattle.fc_import.specs.{Notes.{SaysUnless}, Scan.{words_of}, Strips.{tells_columns}};
+ghost use Rattle.fc_import.specs.Words.{named_lines};
 ghost use Rattle.fc_import.specs.declared.tally.Fate.TheVariants.{ABoard};
 
-use crate::cards::{are_in, named_lines};
+use crate::cards::{are_in, named_lines, told_lines};
 use crate::hearing::is_in_words;
 use crate::labels::says_column;
 use crate::layout::{Layout, layout_words};
@@ -28,7 +30,6 @@ use crate::options::{ImportOptions, LinesAre, Noted};
 use crate::playable::can_be;
 use crate::quiet::{are_lists, are_no_board, are_prose, are_quiet, push_moves};
 use crate::spelled::{is_equal, is_read_as, spelled_needs_no_note, spells_out};
-use crate::strips::tells_columns;
 use crate::tally::{Fate, Tally, counted};
 use crate::walk::{Walk, line_after};
 use crate::words::{Words, before_mark, uncommented};
@@ -45,6 +46,7 @@ const ONCE_MORE: &[u8] = b"this is the board before once more, with which a solu
 /// What was written and said so far, and the state that this left.
 #[derive(Drop)]
 pub(crate) struct Made<R: Rule> {
+    pub(crate) alloc: Global,
     pub(crate) options: ImportOptions,
     pub(crate) written: Vec<u8>,
     pub(crate) notes: Vec<u8>,
@@ -78,6 +80,7 @@ impl<R: Rule> Made<R> {
         ensures notes { result.notes.items ≡ [] }
     {
         Made {
+            alloc,
             options,
             written: Vec::new(alloc),
             notes: Vec::new(alloc),
@@ -114,7 +117,7 @@ impl<R: Rule> Made<R> {
     }
 
     /// Passes lines that name no card, and are no list. Returns whether they are so.
-    pub(crate) fn pass(&mut self, alloc: Global, piece: &[u8]) -> Result<bool, AllocError>
+    pub(crate) fn pass(&mut self, piece: &[u8]) -> Result<bool, AllocError>
         ensures taken { IfOk result (λ taken. IsTrue taken
             → Takes R.VARIANT R.game piece.now self.old self.new) }
         ensures kept { IfOk result (λ taken. taken ≡ false → self.new ≡ self.old) }
@@ -122,7 +125,7 @@ impl<R: Rule> Made<R> {
         if !self.is_apart(piece) {
             return Ok(false);
         }
-        if !are_quiet::<R>(alloc, piece)? {
+        if !are_quiet::<R>(self.alloc, piece)? {
             return Ok(false);
         }
         self.go_on(piece, Fate::Passed);
@@ -131,23 +134,18 @@ impl<R: Rule> Made<R> {
 
     /// Leaves out lines that name cards, and of which none is a list or names cards by more than
     /// half of its words, with a note. Returns whether they are so.
-    pub(crate) fn leave_out(
-        &mut self,
-        alloc: Global,
-        piece: &[u8],
-        words: &[u8],
-    ) -> Result<bool, AllocError>
+    pub(crate) fn leave_out(&mut self, piece: &[u8], words: &[u8]) -> Result<bool, AllocError>
         ensures taken { IfOk result (λ taken. IsTrue taken
             → Takes R.VARIANT R.game piece.now self.old self.new) }
         ensures kept { IfOk result (λ taken. taken ≡ false → self.new ≡ self.old) }
     {
-        if named_lines(alloc, piece)?.is_empty() {
+        if named_lines(self.alloc, piece)?.is_empty() {
             return Ok(false);
         }
         if !self.is_apart(piece) {
             return Ok(false);
         }
-        if !are_prose::<R>(alloc, piece)? {
+        if !are_prose::<R>(self.alloc, piece)? {
             return Ok(false);
         }
         self.walk.push_note(piece, 0, words, &mut self.notes)?;
@@ -174,7 +172,6 @@ impl<R: Rule> Made<R> {
     /// board unless a line of the piece may be another board's.
     pub(crate) fn refuse_list(
         &mut self,
-        alloc: Global,
         piece: &[u8],
         at: usize,
         words: &[u8],
@@ -185,7 +182,7 @@ impl<R: Rule> Made<R> {
             return self.refuse_board(piece, at, words);
         }
         self.walk.push_note(piece, at, words, &mut self.notes)?;
-        if are_no_board::<R>(alloc, piece)? {
+        if are_no_board::<R>(self.alloc, piece)? {
             self.go_on(piece, Fate::RefusedList);
             return Ok(());
         }
@@ -195,10 +192,10 @@ impl<R: Rule> Made<R> {
     }
 
     /// Takes the name that the line of a header gives.
-    pub(crate) fn take_name(&mut self, alloc: Global, line: &[u8]) -> Result<(), AllocError>
+    pub(crate) fn take_name(&mut self, line: &[u8]) -> Result<(), AllocError>
         ensures { OnOk result (TakesName R.VARIANT line.now self.old self.new) }
     {
-        let name = name_given(alloc, R::VARIANT, line)?;
+        let name = name_given(self.alloc, R::VARIANT, line)?;
         self.put_name(name, line);
         Ok(())
     }
@@ -228,44 +225,18 @@ impl<R: Rule> Made<R> {
         };
     }
 
-    /// Writes a board that `show` reads in the lines, under its name or this title. Returns whether
-    /// play can make it.
-    pub(crate) fn put_shown(
-        &mut self,
-        alloc: Global,
-        piece: &[u8],
-        title: &[u8],
-        board: Board<R>,
-    ) -> Result<bool, AllocError>
-        requires { Spells R.game piece.now board }
-        ensures taken { IfOk result (λ taken. IsTrue taken
-            → Takes R.VARIANT R.game piece.now self.old self.new) }
-        ensures kept { IfOk result (λ taken. taken ≡ false → self.new ≡ self.old) }
-    {
-        if self.other_game {
-            return Ok(false);
-        }
-        if !may_be(self.options.lines_are, Layout::Columns, piece) {
-            return Ok(false);
-        }
-        if !can_be(piece, &board) {
-            return Ok(false);
-        }
-        self.say_change(piece, &board, RESPELLED)?;
-        self.put_board(alloc, piece, title, board)?;
-        Ok(true)
-    }
-
     /// Writes a board that the lines are read as in this layout, under its name or this title: with
-    /// a note, unless they spell it out. Returns whether play can make it, and the lines are that.
+    /// a note, unless they spell it out. It may be known that `show` reads them as that. Returns
+    /// whether play can make it, and the lines are that.
     pub(crate) fn put_read(
         &mut self,
-        alloc: Global,
         piece: &[u8],
         title: &[u8],
         board: Board<R>,
         layout: Layout,
+        is_known: bool,
     ) -> Result<bool, AllocError>
+        requires { IsTrue is_known → Spells R.game piece.now board }
         ensures taken { IfOk result (λ taken. IsTrue taken
             → Takes R.VARIANT R.game piece.now self.old self.new) }
         ensures kept { IfOk result (λ taken. taken ≡ false → self.new ≡ self.old) }
@@ -276,21 +247,17 @@ impl<R: Rule> Made<R> {
         if !can_be(piece, &board) {
             return Ok(false);
         }
-        if !self.say_read(alloc, piece, &board, layout, Fate::ABoard)? {
+        let told = (RESPELLED, layout_words(layout));
+        if !self.say_read(piece, &board, layout, is_known, told)? {
             return Ok(false);
         }
-        self.put_board(alloc, piece, title, board)?;
+        self.put_board(piece, title, board)?;
         Ok(true)
     }
 
     /// Passes lines that are the last board once more: with a note, unless none is needed. Returns
     /// whether they spell it out, or are it in this layout.
-    pub(crate) fn see_again(
-        &mut self,
-        alloc: Global,
-        piece: &[u8],
-        layout: Layout,
-    ) -> Result<bool, AllocError>
+    pub(crate) fn see_again(&mut self, piece: &[u8], layout: Layout) -> Result<bool, AllocError>
         ensures taken { IfOk result (λ taken. IsTrue taken
             → Takes R.VARIANT R.game piece.now self.old self.new) }
         ensures kept { IfOk result (λ taken. taken ≡ false → self.new ≡ self.old) }
@@ -302,7 +269,7 @@ impl<R: Rule> Made<R> {
             return Ok(false);
         };
         let board = last.copy();
-        if !self.say_read(alloc, piece, &board, layout, Fate::Again)? {
+        if !self.say_read(piece, &board, layout, false, (ONCE_MORE, ONCE_MORE))? {
             return Ok(false);
         }
         self.go_on(piece, Fate::Again);
@@ -313,7 +280,6 @@ impl<R: Rule> Made<R> {
     /// lines name it, and it is legal on the last board.
     pub(crate) fn put_list(
         &mut self,
-        alloc: Global,
         piece: &[u8],
         form: Form,
         moves: &[u8],
@@ -326,13 +292,13 @@ impl<R: Rule> Made<R> {
         if !self.is_apart(piece) {
             return Ok(false);
         }
-        if !is_named::<R>(alloc, piece, moves)? {
+        if !is_named::<R>(self.alloc, piece, moves)? {
             return Ok(false);
         }
-        let Some(list) = self.legal_list(alloc, form, moves)? else {
+        let Some(list) = self.legal_list(form, moves)? else {
             return Ok(false);
         };
-        self.say_list(alloc, piece, &list, words)?;
+        self.say_list(piece, &list, words)?;
         push_list(&list, &mut self.written)?;
         self.go_on(piece, Fate::AList);
         Ok(true)
@@ -353,13 +319,7 @@ impl<R: Rule> Made<R> {
     }
 
     // Writes the board of a piece.
-    fn put_board(
-        &mut self,
-        alloc: Global,
-        piece: &[u8],
-        title: &[u8],
-        board: Board<R>,
-    ) -> Result<(), AllocError>
+    fn put_board(&mut self, piece: &[u8], title: &[u8], board: Board<R>) -> Result<(), AllocError>
         ensures state { OnOk result
             (state_of self.new ≡ after (state_of self.old) piece.now (Some board) ABoard) }
         ensures written { OnOk result ((name : Text) × IsNamed (state_of self.old) name
@@ -368,7 +328,7 @@ impl<R: Rule> Made<R> {
         ensures notes { OnOk result (self.new.notes.items ≡ self.old.notes.items) }
         ensures well_formed { IsWellFormed R.game board }
     {
-        let name = self.next_name(alloc, title)?;
+        let name = self.next_name(title)?;
         push_record(name.as_slice(), &board, &mut self.written)?;
         self.last = Some(board);
         self.go_on(piece, Fate::ABoard);
@@ -377,22 +337,23 @@ impl<R: Rule> Made<R> {
 
     // The name of the next board: the header's, with a number from the second board on, or else the
     // title, or else the board's number.
-    fn next_name(&self, alloc: Global, title: &[u8]) -> Result<Vec<u8>, AllocError>
+    fn next_name(&self, title: &[u8]) -> Result<Vec<u8>, AllocError>
         ensures { IfOk result (λ name. IsNamed (state_of self.now) name.items) }
     {
         let header = self.walk.name.as_slice();
         if header.is_empty() {
-            return title_or_number(alloc, title, counted(self.tally.boards, 1));
+            return title_or_number(self.alloc, title, counted(self.tally.boards, 1));
         }
         if self.named == 0 {
-            return copied(alloc, header);
+            return copied(self.alloc, header);
         }
-        numbered(alloc, header, counted(self.named, 1))
+        numbered(self.alloc, header, counted(self.named, 1))
     }
 
-    // Whether the lines may be columns, and `show` reads them as the board: most that programs
-    // write need no more.
-    fn is_shown(&self, piece: &[u8], board: &Board<R>) -> bool
+    // Whether the lines may be columns, and `show` reads them as the board, which may be known: most
+    // that programs write need no more.
+    fn is_shown(&self, piece: &[u8], board: &Board<R>, is_known: bool) -> bool
+        requires { IsTrue is_known → Spells R.game piece.now board.now }
         ensures of { IsTrue result
             → IsReadAs self.now.options.lines_are R.game piece.now board.now }
         ensures spelled { IsTrue result → SpellsOut R.game piece.now board.now }
@@ -400,26 +361,50 @@ impl<R: Rule> Made<R> {
         if !may_be(self.options.lines_are, Layout::Columns, piece) {
             return false;
         }
+        if is_known {
+            return true;
+        }
         is_read_as(piece, board)
     }
 
-    // Whether the lines, which name these cards, are read as the board: they are it in this layout,
-    // or spell it out.
+    // The cards that the lines name, if they tell under which columns these stand.
+    fn told_cards(
+        &self,
+        piece: &[u8],
+        board: &Board<R>,
+        layout: Layout,
+    ) -> Result<Option<Vec<u8>>, AllocError>
+        ensures named { IfOk result (λ told. IfSome told (λ cards.
+            cards.items ≡ named_lines piece.now)) }
+        ensures told { IfOk result (λ told. IsSome told
+            → tells_columns layout piece.now board.now ≡ true) }
+    {
+        if let Layout::Rows(strips) = layout {
+            return told_lines(self.alloc, strips, piece, board);
+        }
+        let named = named_lines(self.alloc, piece)?;
+        Ok(Some(named))
+    }
+
+    // Whether the lines, which name these cards, tell their columns and may spell out the board,
+    // are read as it: they are it in this layout, or are columns that spell it out.
     fn is_read(
         &self,
-        alloc: Global,
         piece: &[u8],
         named: &[u8],
         board: &Board<R>,
         layout: Layout,
+        is_spelled: bool,
     ) -> Result<bool, AllocError>
-        requires { named.now ≡ named_lines piece.now }
+        requires named { named.now ≡ named_lines piece.now }
+        requires told { tells_columns layout piece.now board.now ≡ true }
+        requires spelled { IsTrue is_spelled → SpellsOut R.game piece.now board.now }
         ensures { IfOk result (λ is. IsTrue is
             → IsReadAs self.now.options.lines_are R.game piece.now board.now) }
     {
         let lines_are = self.options.lines_are;
-        if may_be(lines_are, layout, piece) && tells_columns(layout, piece, board) {
-            let is_laid = are_in(alloc, layout, piece, named, board)?;
+        if may_be(lines_are, layout, piece) {
+            let is_laid = are_in(self.alloc, layout, piece, named, board)?;
             if is_laid {
                 return Ok(true);
             }
@@ -427,14 +412,12 @@ impl<R: Rule> Made<R> {
         if !may_be(lines_are, Layout::Columns, piece) {
             return Ok(false);
         }
-        let is_spelled = spells_out(alloc, piece, named, board)?;
         Ok(is_spelled)
     }
 
     /// The list of these moves, if it is legal on the last board.
     pub(crate) fn legal_list(
         &self,
-        alloc: Global,
         form: Form,
         moves: &[u8],
     ) -> Result<Option<MoveList>, AllocError>
@@ -450,43 +433,45 @@ impl<R: Rule> Made<R> {
         let Some(board) = &self.last else {
             return Ok(None);
         };
-        match read_list::<R>(alloc, form, moves) {
+        match read_list::<R>(self.alloc, form, moves) {
             Ok(list) if plays(board, &list) => Ok(Some(list)),
             Err(MovesFault::Memory) => Err(AllocError),
             _ => Ok(None),
         }
     }
 
-    // Says of a board that the lines are read as in this layout, and that has this fate, that they
-    // are, unless they spell it out. Returns whether they are read so.
+    // Says of a board that the lines are read as in this layout, with the second of these words,
+    // that they are; or with the first that its spelling is changed, where they spell it out.
+    // Returns whether they are read so.
     fn say_read(
         &mut self,
-        alloc: Global,
         piece: &[u8],
         board: &Board<R>,
         layout: Layout,
-        fate: Fate,
+        is_known: bool,
+        told: (&[u8], &[u8]),
     ) -> Result<bool, AllocError>
+        requires { IsTrue is_known → Spells R.game piece.now board.now }
         ensures said { IfOk result (λ is. IsTrue is → Says R.game piece.now board.now
             self.old self.new) }
         ensures of { IfOk result (λ is. IsTrue is
             → IsReadAs self.old.options.lines_are R.game piece.now board.now) }
         ensures kept { IfOk result (λ is. is ≡ false → self.new ≡ self.old) }
     {
-        let (respelled, turned) = match fate {
-            Fate::Again => (ONCE_MORE, ONCE_MORE),
-            _ => (RESPELLED, layout_words(layout)),
-        };
-        if layout == Layout::Columns && self.is_shown(piece, board) {
+        let (respelled, turned) = told;
+        if layout == Layout::Columns && self.is_shown(piece, board, is_known) {
             self.say_change(piece, board, respelled)?;
             return Ok(true);
         }
-        let named = named_lines(alloc, piece)?;
+        let Some(named) = self.told_cards(piece, board, layout)? else {
+            return Ok(false);
+        };
         let named = named.as_slice();
-        if !self.is_read(alloc, piece, named, board, layout)? {
+        let is_spelled = spells_out(self.alloc, piece, named, board)?;
+        if !self.is_read(piece, named, board, layout, is_spelled)? {
             return Ok(false);
         }
-        if spells_out(alloc, piece, named, board)? {
+        if is_spelled {
             self.say_change(piece, board, respelled)?;
             return Ok(true);
         }
@@ -507,13 +492,7 @@ impl<R: Rule> Made<R> {
     }
 
     // Puts a note with these words, unless the lines need none of the list.
-    fn say_list(
-        &mut self,
-        alloc: Global,
-        piece: &[u8],
-        list: &MoveList,
-        words: &[u8],
-    ) -> Result<(), AllocError>
+    fn say_list(&mut self, piece: &[u8], list: &MoveList, words: &[u8]) -> Result<(), AllocError>
         requires { ListFits eight_off list.now }
         ensures said { OnOk result ((says : Text)
             × (self.new.notes.items ≡ self.old.notes.items ++ says)
@@ -522,7 +501,7 @@ impl<R: Rule> Made<R> {
         ensures state { OnOk result (state_of self.new ≡ state_of self.old) }
         ensures written { OnOk result (self.new.written.items ≡ self.old.written.items) }
     {
-        if list_needs_no_note::<R>(alloc, self.options.noted, piece, list)? {
+        if list_needs_no_note::<R>(self.alloc, self.options.noted, piece, list)? {
             return Ok(());
         }
         self.walk.push_note(piece, 0, words, &mut self.notes)?;

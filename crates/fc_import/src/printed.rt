@@ -23,11 +23,7 @@ use std::alloc::{AllocError, Global};
 impl<R: Rule> Made<R> {
     /// Takes the header and the board at the front of the text, if both are as fcanon prints them
     /// and the header gives a name. Returns how many bytes they have.
-    pub(crate) fn take_record(
-        &mut self,
-        alloc: Global,
-        text: &[u8],
-    ) -> Result<Option<usize>, AllocError>
+    pub(crate) fn take_record(&mut self, text: &[u8]) -> Result<Option<usize>, AllocError>
         requires { 0 < length text.now }
         ensures taken { IfOk result (λ taken. IfSome taken (λ len.
             TakesAsItIs R.VARIANT R.game text.now len self.old self.new)) }
@@ -44,7 +40,7 @@ impl<R: Rule> Made<R> {
         let Some(board) = take_printed::<R>(&mut rest) else {
             return Ok(None);
         };
-        let Some(name) = printed_name(alloc, R::VARIANT, line)? else {
+        let Some(name) = printed_name(self.alloc, R::VARIANT, line)? else {
             return Ok(None);
         };
         let end = text.len() - rest.len();
@@ -57,11 +53,7 @@ impl<R: Rule> Made<R> {
 
     /// Takes the list at the front of the text, if it is as fcanon prints it, and legal on the last
     /// board. Returns how many bytes it has.
-    pub(crate) fn take_list(
-        &mut self,
-        alloc: Global,
-        text: &[u8],
-    ) -> Result<Option<usize>, AllocError>
+    pub(crate) fn take_list(&mut self, text: &[u8]) -> Result<Option<usize>, AllocError>
         requires some { 0 < length text.now }
         requires no_header { begins_with header_mark text.now ≡ false }
         ensures taken { IfOk result (λ taken. IfSome taken (λ len.
@@ -76,10 +68,10 @@ impl<R: Rule> Made<R> {
         let len = line_len(text);
         let line = &text[..len];
         let (form, words) = printed_words(line);
-        let Some(list) = self.legal_list(alloc, form, words)? else {
+        let Some(list) = self.legal_list(form, words)? else {
             return Ok(None);
         };
-        if !is_equal(line, line_of(alloc, &list)?.as_slice()) {
+        if !is_equal(line, line_of(self.alloc, &list)?.as_slice()) {
             return Ok(None);
         }
         self.written.extend_from_slice(line)?;

@@ -1,15 +1,14 @@
 //! Under which columns the cards of rows stand: each column has a strip of each line.
-ghost use Rattle.std.specs.{List.{count_by, list_any}, Prelude.{◌≡◌, [], slice_index_or}};
-ghost use Rattle.fc_import.specs.{Seen.{piece_of}, Strips.{are_below, has_card, has_strips}};
-ghost use Rattle.fc_import.specs.Strips.{is_below, is_dealt, is_mark, parts_fields, strip_of};
-ghost use Rattle.fc_import.specs.Strips.{tells_columns, whole_strips, words_in};
+ghost use Rattle.std.specs.List.{count_by, list_any};
+ghost use Rattle.std.specs.Prelude.{◌≡◌, [], if◌then◌else◌, None, slice_index_or};
+ghost use Rattle.fc_import.specs.{Seen.{piece_of}, Strips.{has_card, has_strips, is_dealt}};
+ghost use Rattle.fc_import.specs.Strips.{is_mark, is_told, parts_fields, strip_of, whole_strips};
+ghost use Rattle.fc_import.specs.Strips.{words_in};
 
-use crate::layout::Layout;
-use crate::scan::named_card;
-use crate::words::{Word, Words, uncommented};
+use crate::words::Word;
 use fc_board::{Board, Rule};
 use fc_card::Card;
-use fc_text::{Lines, Tokens};
+use fc_text::Tokens;
 
 /// Where the strips are.
 #[derive(Clone, Copy, PartialEq, Eq, Debug)]
@@ -22,54 +21,19 @@ pub(crate) enum Strips {
     Words { base: u16, count: u16 },
 }
 
-/// Whether each card of a column stands in its strip, where the layout is one of rows.
-pub(crate) fn tells_columns<R: Rule>(layout: Layout, lines: &[u8], board: &Board<R>) -> bool
-    ensures { result ≡ tells_columns layout lines.now board.now }
+/// Whether a word that names this card, if any, and is in this strip, if any, names no card of a
+/// column, or one of the column that has the strip.
+pub(crate) fn is_told<R: Rule>(card: &Option<Card>, board: &Board<R>, strip: Option<usize>) -> bool
+    ensures { result ≡ is_told card.now board.now strip }
 {
-    let Layout::Rows(strips) = layout else {
-        return true;
-    };
-    for line in Lines::new(lines) {
-        if !are_below(strips, line.text, board) {
-            return false;
-        }
-    }
-    true
-}
-
-// Whether each word of the line that names a card of a column is in that column's strip.
-fn are_below<R: Rule>(strips: Strips, line: &[u8], board: &Board<R>) -> bool
-    ensures { result ≡ are_below strips board.now line.now }
-{
-    let line = uncommented(line);
-    let has_strips = has_strips(strips, line, board);
-    for word in Words::new(line) {
-        if !is_below(strips, has_strips, line, &word, board) {
-            return false;
-        }
-    }
-    true
-}
-
-// Whether the word, of a line that has strips or not, names no card of a column, or one of the
-// column in whose strip it is.
-fn is_below<R: Rule>(
-    strips: Strips,
-    has_strips: bool,
-    line: &[u8],
-    word: &Word<'_>,
-    board: &Board<R>,
-) -> bool
-    ensures { result ≡ is_below strips has_strips board.now line.now (piece_of word.now) }
-{
-    let Some(card) = named_card(word.text) else {
+    let Some(card) = *card else {
         return true;
     };
     if board.cells().contains(&Some(card)) {
         return true;
     }
-    match strip_of(strips, line, word) {
-        Some(number) => has_strips && is_in_column(board, number, card),
+    match strip {
+        Some(number) => is_in_column(board, number, card),
         None => false,
     }
 }
@@ -82,8 +46,8 @@ fn is_in_column<R: Rule>(board: &Board<R>, number: usize, card: Card) -> bool
     number < 8 && board.column(number).contains(&card)
 }
 
-// Whether the line has strips of this kind.
-fn has_strips<R: Rule>(strips: Strips, line: &[u8], board: &Board<R>) -> bool
+/// Whether the line has strips of this kind.
+pub(crate) fn has_strips<R: Rule>(strips: Strips, line: &[u8], board: &Board<R>) -> bool
     ensures { result ≡ has_strips strips board.now line.now }
 {
     match strips {
@@ -92,6 +56,23 @@ fn has_strips<R: Rule>(strips: Strips, line: &[u8], board: &Board<R>) -> bool
         Strips::Words { count, .. } => {
             fields_in(line) == 0 && (words_in(line) == usize::from(count) || is_dealt(board))
         }
+    }
+}
+
+/// The number of the column in whose strip a word of the line is, if the line has strips.
+pub(crate) fn strip_if(
+    has_strips: bool,
+    strips: Strips,
+    line: &[u8],
+    word: &Word<'_>,
+) -> Option<usize>
+    ensures { result
+        ≡ if has_strips then strip_of strips line.now (piece_of word.now) else None }
+{
+    if has_strips {
+        strip_of(strips, line, word)
+    } else {
+        None
     }
 }
 

@@ -1,4 +1,4 @@
-use Rattle.std.{proofs.Common.{◌++◌, ◌∙◌, ap, arith, List, ℕ}, specs.List.{flat_map}}
+use Rattle.std.{proofs.Common.{◌++◌, ◌∙◌, ap, arith, List, rules, ℕ}, specs.List.{flat_map}}
 use Rattle.fc_card.specs.{places}
 use Rattle.fc_import.proofs.TakingLemmas.{all_places, no_part, none_later, one_place, past_rows}
 use Rattle.fc_import.specs.{Import.{in_row}, inside.{part}}
@@ -9,7 +9,7 @@ loop-place-preserved g c =
     let of : ℕ → List ℕ = λ row. part c.args.are_ended (in_row c.args.board.now row) in
     one_place of 52 c.loop-place.place c.loop-place.cards.items _ (c.args.cards.now.items ++ flat_map of (places 52))
     c.loop-place-test.true c.loop-place.invariant
-    (c.in_ok-push_part.ensures ∙ ap (λ row. c.loop-place.cards.items ++ part c.args.are_ended row) (c.as_slice.ensures.value ∙ c.in_ok-put_row.ensures))
+    (c.in_ok-push_end.ensures c.loop-place.cards.items (in_row c.args.board.now c.loop-place.place) c.in_ok-push_row.ensures (search rules))
 
 pub returns-then-are_past : goal.returns-then-are_past
 returns-then-are_past g c =

@@ -4,8 +4,7 @@ use Rattle.fc_import.proofs.made.Made.is_read.Goals as goal
 
 pub returns-then-is_laid : goal.returns-then-is_laid
 returns-then-is_laid g c = λ is.
-    laid c.args.layout (sym c.may_be.ensures ∙ c.if-may_be.true) (sym c.tells_columns.ensures ∙ c.if-tells_columns.true)
-    (c.in_ok-is_laid.ensures c.if-is_laid.true)
+    laid c.args.layout (sym c.may_be.ensures ∙ c.if-may_be.true) c.requires.told (c.in_ok-is_laid.ensures c.if-is_laid.true)
 
 pub returns : goal.returns
-returns g c = λ is. spelled (sym c.may_be-2.ensures ∙ c.if-not-may_be.false) (c.in_ok-is_spelled.ensures.is.0 is)
+returns g c = λ is. spelled (sym c.may_be-2.ensures ∙ c.if-not-may_be.false) (c.requires.spelled is)

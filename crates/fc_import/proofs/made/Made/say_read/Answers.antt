@@ -11,8 +11,8 @@ returns-clause-said g c = λ is.
       is = inr (
         (λ silent.
             let spelled = spelled_out c.args.self.now.options.noted g.R.Rule.game c.args.piece.now c.args.board.now
-            c.in_ok-spells_out.ensures.well_formed silent in
-            absurd (let e : false ≡ true = sym c.if-branch.false ∙ c.in_ok-spells_out.ensures.is.1 spelled in cc)),
+            c.in_ok-is_spelled.ensures.well_formed silent in
+            absurd (let e : false ≡ true = sym c.if-is_spelled.false ∙ c.in_ok-is_spelled.ensures.is.1 spelled in cc)),
         note,
       );
       state = refl;
