@@ -233,11 +233,12 @@ FCANON_CALL uint32_t fcanon_sums(uint32_t game, const fcanon_board *board, fcano
 FCANON_CALL uint32_t fcanon_move_sums(uint32_t game, uint8_t card, uint8_t from, uint8_t onto,
     fcanon_class_sums *sums);
 
-/* The hash of the class of the board that has these sums, 16 bytes: the least of them, its lowest byte
- * first. Boards that have one key have one class hash. It is another hash than that of fcanon_hash, and
- * not as good: its sums are of products of a card's weight and that of what it lies on, 64 bits of
- * SipHash each. So take it for no more than 64 good bits, by which two of n classes meet with a chance of
- * n * n / 2^65; and where a wrong match would do harm, compare the keys. */
+/* The hash of the class of the board that has these sums, 16 bytes: the least of them, where lower words are
+ * compared first; its upper word and then its lower one, each with its lowest byte first. Boards that have
+ * one key have one class hash. It is another hash than that of fcanon_hash, and not as good: its sums are of
+ * products of a card's weight and that of what it lies on, 64 bits of SipHash each. So take it for no more
+ * than 64 good bits, by which two of n classes meet with a chance of n * n / 2^65; and where a wrong match
+ * would do harm, compare the keys. */
 FCANON_CALL uint32_t fcanon_class_hash(uint32_t game, const fcanon_class_sums *sums, uint8_t hash[16]);
 
 /* The canonical board of the board after a move, and the passage to it from the board after the

@@ -11,8 +11,9 @@ use Rattle.fc_board.specs.declared.moves.Place.TheVariants.{Cell as ToCell, Colu
 use Rattle.fc_board.specs.declared.moves.Source.{Source}
 use Rattle.fc_board.specs.declared.moves.Source.TheVariants.{Cell as FromCell, Column as FromColumn}
 use Rattle.fc_board.specs.declared.run_move.RunMove.{RunMove, TheVariants.{One, Run}}
-use Rattle.fc_bytes.specs.class_hash.{card_weight, place_weight, renamed_place}
-use Rattle.fc_bytes.specs.declared.board.BoardBytes.{BoardBytes}
+use Rattle.fc_bytes.specs.class_hash.{card_weight, least_sum, moved_sums, place_weight, renamed_place, sums_in}
+use Rattle.fc_bytes.specs.{class_hash.{turned}, declared.board.BoardBytes.{BoardBytes}}
+use Rattle.fc_bytes.specs.declared.class_hash.{MovedSums.{MovedSums}, PlacedWord.{PlacedWord}}
 
 -- the byte of a card
 abbrev pub card_byte : ℕ → ℕ
@@ -103,6 +104,31 @@ abbrev pub sums_with : (List ℕ → ℕ) → List (List ℕ) → List ℕ → L
 sums_with number [] sums = sums
 sums_with number (renaming ∷ renamings) [] = []
 sums_with number (renaming ∷ renamings) (sum ∷ sums) = (sum + number renaming) % 2 ^ 128 ∷ sums_with number renamings sums
+
+-- ---- sums as a card's move makes them
+pub record CanBeMoved (moved : MovedSums) : Type 0 where
+  pub sums : length moved.sums.now.sums ≡ 24
+  pub card : moved.card ≤ 52
+  pub from : moved.from ≤ 54
+  pub onto : moved.onto ≤ 54
+
+abbrev pub sums_after : List Renaming → MovedSums → List ℕ
+sums_after renamings moved = moved_sums renamings moved.card moved.from moved.onto (sums_in renamings moved.sums.now)
+
+-- the one at this place, with its words exchanged
+abbrev pub turned_at : List Renaming → MovedSums → (place : ℕ) → ℕ
+turned_at renamings moved place = turned (slice_index_or (sums_after renamings moved) place 0)
+
+-- the place of one of them, and its lower word
+pub record IsPlaced (renamings : List Renaming) (moved : MovedSums) (word : PlacedWord) : Type 0 where
+  pub inside : word.place < length renamings
+  pub low : word.low ≡ slice_index_or (sums_after renamings moved) word.place 0 % 2 ^ 64
+
+-- with what comes from the end on, it is the least of what comes from the start on
+abbrev pub IsLeastFrom : List Renaming → MovedSums → (start end : ℕ) → PlacedWord → Type 0
+IsLeastFrom renamings moved start end word =
+    let all = map turned (sums_after renamings moved) in
+    min (turned_at renamings moved word.place) (least_sum (drop end all)) ≡ least_sum (drop start all)
 
 -- ---- columns that are asked for a card
 -- of so many first columns, those that take a card are asked for cards of its rank

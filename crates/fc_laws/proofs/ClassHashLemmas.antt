@@ -23,10 +23,11 @@ use Rattle.fc_board.specs.declared.moves.{Move.{Move}, Place.{Place}}
 use Rattle.fc_board.specs.declared.moves.{Place.TheVariants.{Cell as ToCell, Column as ToColumn, Home}, Source.{Source}}
 use Rattle.fc_board.specs.declared.moves.Source.TheVariants.{Cell as FromCell, Column as FromColumn}
 use Rattle.{fc_canon.specs.{Equivalent}, fc_text.proofs.BoardViewLemmas.{number-renamed}}
-use Rattle.fc_bytes.{proofs.SumLemmas.{least_bound}, specs.{cell_byte, class_hash.{AreMoved, AreSums, board_total}}}
-use Rattle.fc_bytes.specs.class_hash.{CanMove, card_weight, cell_total, child_hash, class_hash, class_sum, class_sums}
+use Rattle.fc_bytes.{proofs.SumLemmas.{least_below, least_bound}, specs.{cell_byte, class_hash.{AreMoved, AreSums}}}
+use Rattle.fc_bytes.specs.class_hash.{board_total, CanMove, card_weight, cell_total, child_hash, class_hash, class_sum, class_sums}
 use Rattle.fc_bytes.specs.class_hash.{column_total, hash_of_sums, least_sum, lies_on, moved_sum, moved_sums}
-use Rattle.fc_bytes.specs.{class_hash.{place_weight, put_onto, renamed_place, sum_in, sums_in, term, words_of}, padded}
+use Rattle.fc_bytes.specs.class_hash.{place_weight, put_onto, renamed_place, sum_in, sums_in, term, turned, words_of}
+use Rattle.fc_bytes.specs.{padded}
 use Rattle.fc_bytes.specs.declared.class_hash.ClassSums.{ClassSums}
 
 -- ---- one renaming after the other
@@ -101,12 +102,6 @@ carried_total game passage board renaming is well two =
     ∙ cells_twice passage.renaming renaming is.renames two board.cells)
 
 -- ---- the least sum
-least_below : (sums : List ℕ) (place : ℕ) → place < length sums → least_sum sums ≤ get_or sums place 0
-least_below [] place inside = omega (arith, inside)
-least_below (sum ∷ sums) zero inside = omega arith
-least_below (sum ∷ sums) (suc place) inside = let below = least_below sums place (omega (arith, inside)) in omega
-    (arith, below)
-
 bound_below : (bound : ℕ) (sums : List ℕ) → bound ≤ 2 ^ 128 - 1
     → ((place : ℕ) → place < length sums → bound ≤ get_or sums place 0) → bound ≤ least_sum sums
 bound_below bound [] few below = few
@@ -115,38 +110,52 @@ bound_below bound (sum ∷ sums) few below =
     let rest = bound_below bound sums few (λ place inside. below (suc place) (omega (arith, inside))) in
     omega (arith, here, rest)
 
+abbrev least_turned : List (List ℕ) → Board → ℕ
+least_turned renamings board = least_sum (map turned (class_sums renamings board))
+
+turned_there : (renamings : List (List ℕ)) (board : Board) (place : ℕ) (default : List ℕ) → place < length renamings →
+    get_or (map turned (class_sums renamings board)) place 0 ≡ turned (class_sum board (get_or renamings place default))
+turned_there renamings board place default inside =
+    get_or-map turned (class_sums renamings board) place 0 0
+    (omega (arith, inside, length-map renamings (class_sum board)))
+    ∙ ap turned (get_or-map (class_sum board) renamings place default 0 inside)
+
+turned_long : (renamings : List (List ℕ)) (board : Board) →
+    length (map turned (class_sums renamings board)) ≡ length renamings
+turned_long renamings board = length-map (class_sums renamings board) turned ∙ length-map renamings (class_sum board)
+
 module _ {game : Game} {renamings : List (List ℕ)} {cells count : ℕ} {kings_only : Bool}
     (laws : RuleLaws game renamings cells count kings_only) where
   -- each sum of the other board is one of the board
   least_there : (passage : Passage) (board : Board) → IsPassage game passage → IsWellFormed game board → (place : ℕ)
       → place < length renamings →
-      least_sum (class_sums renamings board) ≤ get_or (class_sums renamings (carried passage board)) place 0
+      least_turned renamings board ≤ get_or (map turned (class_sums renamings (carried passage board))) place 0
   least_there passage board is well place inside =
       let renaming = get_or renamings place [] in
       let listed : Contains renamings renaming = (place, inside, get_or_default renamings place renaming [] inside) in
       let (j, within, found) = product-listed laws passage.renaming renaming
       (laws.keeping_are_listed passage.renaming is.renames is.keeps) listed in
       let both = renaming_product passage.renaming renaming in
-      let one : get_or (class_sums renamings (carried passage board)) place 0 ≡ class_sum board both =
-      get_or-map (class_sum (carried passage board)) renamings place [] 0 inside
-      ∙ ap (λ total. total % 2 ^ 128) (carried_total game passage board renaming is well
+      let one : get_or (map turned (class_sums renamings (carried passage board))) place 0 ≡ turned (class_sum board both) =
+      turned_there renamings (carried passage board) place [] inside
+      ∙ ap (λ total. turned (total % 2 ^ 128)) (carried_total game passage board renaming is well
       (laws.listed_are_renamings renaming listed)) in
-      let other : get_or (class_sums renamings board) j 0
-      ≡ class_sum board both = get_or-map (class_sum board) renamings j both 0 within
-      ∙ ap (class_sum board) found in
-      let below = least_below (class_sums renamings board) j
-      (omega (arith, within, length-map renamings (class_sum board))) in
+      let other : get_or (map turned (class_sums renamings board)) j 0
+      ≡ turned (class_sum board both) = turned_there renamings board j both within
+      ∙ ap (λ renaming. turned (class_sum board renaming)) found in
+      let below = least_below (map turned (class_sums renamings board)) j
+      (omega (arith, within, turned_long renamings board)) in
       omega (arith, one, other, below)
 
   least_half : (passage : Passage) (board other : Board) → IsWellFormed game board → Carries game passage board other →
-      least_sum (class_sums renamings board) ≤ least_sum (class_sums renamings other)
+      least_turned renamings board ≤ least_turned renamings other
   least_half passage board other well carries =
-      subst (λ other. least_sum (class_sums renamings board) ≤ least_sum (class_sums renamings other))
+      subst (λ other. least_turned renamings board ≤ least_turned renamings other)
       (sym carries.there)
-      (bound_below (least_sum (class_sums renamings board)) (class_sums renamings (carried passage board))
-      (least_bound (class_sums renamings board))
+      (bound_below (least_turned renamings board) (map turned (class_sums renamings (carried passage board)))
+      (least_bound (map turned (class_sums renamings board)))
       (λ place inside. least_there passage board carries.is_passage well place
-      (omega (arith, inside, length-map renamings (class_sum (carried passage board))))))
+      (omega (arith, inside, turned_long renamings (carried passage board)))))
 
   pub one_class_hash : (board other : Board) → IsWellFormed game board → Equivalent game board other
       → class_hash renamings board ≡ class_hash renamings other
@@ -156,8 +165,7 @@ module _ {game : Game} {renamings : List (List ℕ)} {cells count : ℕ} {kings_
       let forth = least_half passage board other well carries in
       let back = least_half (inverse_passage passage) other board there
       (Carries-inverse game passage board other well.piles carries) in
-      let same : least_sum (class_sums renamings board)
-      ≡ least_sum (class_sums renamings other) = omega (arith, forth, back) in
+      let same : least_turned renamings board ≡ least_turned renamings other = omega (arith, forth, back) in
       ap (to_le_bytes w128) same
 
 -- ---- a card more at the end of a column

@@ -68,12 +68,12 @@ pub fn child_hashes_are_class_hashes<R: Rule>()
 #[rattlefmt::skip]
 pub fn class_hashes_of_boards()
     ensures clubs_king_left { class_hash colour_renamings clubs_king_left
-        ≡ 192 ∷ 22 ∷ 122 ∷ 36 ∷ 9 ∷ 139 ∷ 227 ∷ 149
-        ∷ 53 ∷ 172 ∷ 227 ∷ 88 ∷ 4 ∷ 223 ∷ 222 ∷ 12 ∷ [] }
+        ≡ 122 ∷ 189 ∷ 245 ∷ 13 ∷ 112 ∷ 6 ∷ 219 ∷ 22
+        ∷ 0 ∷ 196 ∷ 120 ∷ 7 ∷ 53 ∷ 135 ∷ 185 ∷ 79 ∷ [] }
     ensures two_spades_left { class_hash all_renamings two_spades_left
-        ≡ 249 ∷ 155 ∷ 240 ∷ 211 ∷ 156 ∷ 165 ∷ 28 ∷ 29
-        ∷ 68 ∷ 107 ∷ 196 ∷ 185 ∷ 75 ∷ 10 ∷ 155 ∷ 37 ∷ [] }
+        ≡ 68 ∷ 107 ∷ 196 ∷ 185 ∷ 75 ∷ 10 ∷ 155 ∷ 37
+        ∷ 249 ∷ 155 ∷ 240 ∷ 211 ∷ 156 ∷ 165 ∷ 28 ∷ 29 ∷ [] }
     ensures four_in_a_column { class_hash colour_renamings four_in_a_column
-        ≡ 128 ∷ 78 ∷ 165 ∷ 157 ∷ 222 ∷ 20 ∷ 219 ∷ 238
-        ∷ 57 ∷ 120 ∷ 1 ∷ 241 ∷ 209 ∷ 95 ∷ 3 ∷ 128 ∷ [] }
+        ≡ 126 ∷ 0 ∷ 176 ∷ 152 ∷ 30 ∷ 174 ∷ 181 ∷ 134
+        ∷ 175 ∷ 163 ∷ 173 ∷ 125 ∷ 188 ∷ 235 ∷ 140 ∷ 34 ∷ [] }
 {}
