@@ -10,6 +10,7 @@ pub mod KeyPartLemmas
 pub mod LeadingOrders
 pub mod LeadingPairs
 pub mod LeastTextLemmas
+pub mod ExchangeLemmas
 pub mod OrderRanks
 pub mod PackedLemmas
 pub mod PassageParts
