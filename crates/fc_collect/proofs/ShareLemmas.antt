@@ -5,7 +5,7 @@ use Rattle.std.proofs.Common.{refl, Some, subst, suc, sym, take, take_all, true,
 use Rattle.std.proofs.lemmas.{Bool.{eq-eqb, ne_eqb}, List.{Elements.{All-weaker}, Folds.{find-append}}}
 use Rattle.std.proofs.lemmas.{Result.{on_ok_weaker}, Slice.Zip.{all_zipped_more, AllZip-long}}
 use Rattle.std.specs.{List.{AllZip, find, flat_map}, Option.{option_or, option_to_list}, Prelude.{OnOk, Result}}
-use Rattle.{fc_board.specs.{Moves.{MoveList}, Passages.{Passage, passage_product}}, fc_card.specs.{GroupLaws}}
+use Rattle.fc_board.specs.{Moves.{MoveList}, Passages.{Passage, passage_product}}
 use Rattle.{fc_board.specs.declared.rule.Variant.TheVariants.{FreeCell}, fc_text.specs.Printed.{text_of}}
 use Rattle.fc_record.{proofs.LineLemmas.{three_parts}, specs.Printing.{header_text, image_line, list_line}}
 use Rattle.fc_collect.{proofs.GroupLemmas.{AllZip-at}, specs.Groups.{Member, member_lines, name_of_member, owner_among}}
@@ -35,20 +35,6 @@ module _ {X : Type 0} (test : X → Bool) where
           → cond b (Some first) (find test xs) ≡ Some x
       by true none on = cc none
       by false none on = on none
-
-module _ {G : Type 0} {IsMember : G → Type 0} {identity : G} {product : G → G → G} {inverse : G → G} (laws : GroupLaws IsMember identity product inverse) where
-  -- the inverse of the inverse
-  pub inverse-inverse : (x : G) → IsMember x → inverse (inverse x) ≡ x
-  inverse-inverse x is_x =
-      let is_inverse = laws.inverse-IsMember x is_x in
-      let is_twice = laws.inverse-IsMember (inverse x) is_inverse in
-      rw (
-        ← laws.right_identity (inverse (inverse x)) is_twice,
-        ← laws.left_inverse x is_x,
-        ← laws.associative (inverse (inverse x)) (inverse x) x is_twice is_inverse is_x,
-        laws.left_inverse (inverse x) is_inverse,
-        laws.left_identity x is_x,
-      )
 
 -- ---- one more member
 

@@ -61,6 +61,11 @@ pub trait AnyGame: Rule + Sized {
         ensures variant { variant_of result ≡ Self.VARIANT }
         ensures board { held result ≡ board.now };
 
+    /// The same passage, as that of one of the three games.
+    fn any_passage(passage: &Passage<Self>) -> AnyPassage
+        ensures variant { variant_of result ≡ Self.VARIANT }
+        ensures passage { held result ≡ passage.now };
+
     /// The inverse passage, as that of one of the three games.
     fn any_inverse(passage: &Passage<Self>) -> AnyPassage
         ensures variant { variant_of result ≡ Self.VARIANT }
@@ -85,6 +90,10 @@ impl AnyGame for FreeCell {
         AnyBoard::FreeCell(board.copy())
     }
 
+    fn any_passage(passage: &Passage<FreeCell>) -> AnyPassage {
+        AnyPassage::FreeCell(passage.copy())
+    }
+
     fn any_inverse(passage: &Passage<FreeCell>) -> AnyPassage {
         AnyPassage::FreeCell(passage.inverse())
     }
@@ -106,6 +115,10 @@ impl AnyGame for BakersGame {
         AnyBoard::BakersGame(board.copy())
     }
 
+    fn any_passage(passage: &Passage<BakersGame>) -> AnyPassage {
+        AnyPassage::BakersGame(passage.copy())
+    }
+
     fn any_inverse(passage: &Passage<BakersGame>) -> AnyPassage {
         AnyPassage::BakersGame(passage.inverse())
     }
@@ -125,6 +138,10 @@ impl AnyGame for BakersGame {
 impl AnyGame for EightOff {
     fn any_board(board: &Board<EightOff>) -> AnyBoard {
         AnyBoard::EightOff(board.copy())
+    }
+
+    fn any_passage(passage: &Passage<EightOff>) -> AnyPassage {
+        AnyPassage::EightOff(passage.copy())
     }
 
     fn any_inverse(passage: &Passage<EightOff>) -> AnyPassage {

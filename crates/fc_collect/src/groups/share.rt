@@ -117,10 +117,9 @@ fn solution_among<R: AnyGame>(
     ensures passage { IfSome result (λ solution. held solution.passage ≡ passage.now) }
 {
     let list = first_winning_list(board, lists)?;
-    // What is kept of a passage is its inverse.
     Some(Solution {
         owner,
-        passage: R::any_inverse(&passage.inverse()),
+        passage: R::any_passage(passage),
         list,
     })
 }
