@@ -146,13 +146,6 @@ AscendTo-lowered count start (end ∷ ends) (suc i) most inside up some = (up.0,
 
 -- ---- cards more
 
--- cards that are moved on piece by piece from the last on: those from here on are moved, and those before where they go are as they were
-pub record IsRising (old new : List ℕ) (at last count : ℕ) : Type 0 where
-  pub size : length new ≡ length old
-  pub moved : (k : ℕ) → at ≤ k → k < last → get_or new (k + count) 0 ≡ get_or old k 0
-  pub before : (k : ℕ) → k < at + count → get_or new k 0 ≡ get_or old k 0
-  pub on : at ≤ last
-
 more_before : (old new : List ℕ) (place last : ℕ) (cards : List ℕ) (from to : ℕ) → AreIn old new place last cards → from ≤ to → to ≤ place →
     place ≤ length old → slice_range new from to ≡ slice_range old from to
 more_before old new place last cards from to put up before within =

@@ -1,7 +1,7 @@
 -- Moves of every game are moves of Eight Off.
-use Rattle.std.proofs.{Common.{◌≤◌, arith}, lemmas.List.Elements.{All-weaker}}
+use Rattle.std.proofs.Common.{◌≤◌, arith}
 use Rattle.fc_board.specs.Games.{eight_off, Game}
-use Rattle.fc_board.specs.Moves.{Fits, ListFits, MoveList, OneCard, PlaceFits, RunFits, Runs, SourceFits}
+use Rattle.fc_board.specs.Moves.{Fits, PlaceFits, RunFits, SourceFits}
 use Rattle.fc_board.specs.declared.moves.{Move.{Move}, Place.{Place}}
 use Rattle.fc_board.specs.declared.moves.{Place.TheVariants.{Cell as ToCell, Column as ToColumn, Home}, Source.{Source}}
 use Rattle.fc_board.specs.declared.moves.Source.TheVariants.{Cell as FromCell, Column as FromColumn}
@@ -22,7 +22,3 @@ move_fits game few move (from, to) = (source_fits game few move.from from, targe
 pub run_fits : (game : Game) → game.cells ≤ 8 → (move : RunMove) → RunFits game move → RunFits eight_off move
 run_fits game few (One move) (fits, touches) = (move_fits game few move fits, touches)
 run_fits game few (Run from to count) fits = fits
-
-pub list_fits : (game : Game) → game.cells ≤ 8 → (list : MoveList) → ListFits game list → ListFits eight_off list
-list_fits game few (OneCard moves) = All-weaker (Fits game) (Fits eight_off) (move_fits game few) moves
-list_fits game few (Runs moves) = All-weaker (RunFits game) (RunFits eight_off) (run_fits game few) moves

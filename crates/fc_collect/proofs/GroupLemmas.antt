@@ -8,6 +8,7 @@ use Rattle.std.proofs.lemmas.List.{Elements.{filter_passes}, Folds.{list_any-app
 use Rattle.std.proofs.{lemmas.{List.Sums.{prefix_len-le-length}, Slice.Zip.{AllZip-long}}, Math.Bool.{or-false}}
 use Rattle.std.specs.Cmp.{and_equiv, IsEquivalence, Lexicographic.{on_texts_equal}}
 use Rattle.std.specs.List.{AllZip, list_any, position_or_len}
+use Rattle.std.proofs.Math.Bool.{or-true}
 use Rattle.fc_collect.proofs.KeyedLemmas.{boards-more, leaders-All, one_key, same-together}
 use Rattle.fc_collect.specs.Groups.{belong_together, canonical_text, groups_of, leaders_after, Member}
 use Rattle.fc_collect.specs.inside.{Gathers, group_key, HasBoard, IsPlaceAmong, same_key}
@@ -47,10 +48,6 @@ module _ {K X : Type 0} (keeps : K → List X → Type 0) where
       (all.0, joined-last kept groups place new member (omega (arith, last)) all.1 begun)
 
 -- ---- members that belong together
-
-or-true : (b : Bool) → (b || true) ≡ true
-or-true true = refl
-or-true false = refl
 
 or_regroup : (a b c : Bool) → ((a || (b || false)) || c) ≡ (a || (b || c))
 or_regroup true b c = refl

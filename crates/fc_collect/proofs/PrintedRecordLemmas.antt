@@ -1,10 +1,9 @@
 -- What is printed for a record is read as that record again.
-use Rattle.std.proofs.Common.{◌++◌, ◌+◌, ◌-◌, ◌∙◌, ◌∷◌, ◌≡◌, ◌≤◌, [], All, ap, append-nil, append_assoc, arith, Bool}
-use Rattle.std.proofs.Common.{codes, cond, Contains, drop, false, if◌then◌else◌, length, List, map, None, Option, refl}
+use Rattle.std.proofs.Common.{◌++◌, ◌+◌, ◌-◌, ◌∙◌, ◌∷◌, ◌≡◌, ◌≤◌, [], All, ap, append_assoc, Bool}
+use Rattle.std.proofs.Common.{codes, cond, Contains, drop, false, if◌then◌else◌, length, List, map, refl}
 use Rattle.std.proofs.Common.{Some, subst, sym, true, ℕ}
-use Rattle.std.proofs.lemmas.List.{Elements.{All-contains_itself, All-head, All-tail, All-weaker}, Folds.{find-append}}
-use Rattle.std.{proofs.Math.Seq.{drop-append_seam, take-append_seam}, specs.{Fmt.{decimal}, List.{find, flat_map}}}
-use Rattle.std.specs.Option.{option_map, unwrap_or}
+use Rattle.std.proofs.lemmas.List.Elements.{All-contains_itself, All-head, All-tail, All-weaker}
+use Rattle.std.{proofs.Math.Seq.{drop-append_seam, take-append_seam}, specs.{Fmt.{decimal}, List.{flat_map}}}
 use Rattle.fc_board.specs.{Boards.{Board, IsWellFormed}, Games.{Game, game_of, variant_word}}
 use Rattle.fc_board.specs.Moves.{MoveList, OneCard, Runs}
 use Rattle.fc_board.specs.declared.rule.Variant.{Variant}
@@ -15,17 +14,17 @@ use Rattle.fc_text.{proofs.WordLemmas.{after_separator, words_from-moved}, specs
 use Rattle.fc_text.specs.Lines.{lines_from, moved, Piece, words_from}
 use Rattle.fc_text.specs.Notation.{IsRunToken, IsToken, Listed, print, separates_tokens}
 use Rattle.fc_text.specs.{Printed.{column_line, text_of}, Rows.{is_empty, line_of}, Spelling.{Spells}}
-use Rattle.fc_record.proofs.{ContentsLemmas.{begins_list}, HeadingLemmas.{given_name, header_gone, header_read}}
-use Rattle.fc_record.proofs.HeadingLemmas.{heading_said, in_line, IsGiven, IsHeading, named, numbered, unnamed, without}
+use Rattle.fc_record.proofs.HeadingLemmas.{given_name, header_gone, header_read, heading_said, in_line, IsGiven}
+use Rattle.fc_record.proofs.HeadingLemmas.{IsHeading, named, numbered, unnamed, without}
 use Rattle.fc_record.proofs.PrintedListLemmas.{list_bytes, list_in_line}
-use Rattle.fc_record.proofs.{PrintedPartLemmas.{IsPlain, lines_of_board, no_list}, TextLineLemmas.{AreLines}}
+use Rattle.fc_record.proofs.{PrintedPartLemmas.{IsPlain, lines_of_board, starts_after}, TextLineLemmas.{AreLines}}
 use Rattle.fc_record.proofs.TextLineLemmas.{AreLines-append, AreLines-flat_map, AreLines-line, ends-after}
-use Rattle.fc_record.{proofs.TextLineLemmas.{ends-line_feed, lines_after}, specs.Grammar.{Accepted, after_header}}
+use Rattle.fc_record.{proofs.TextLineLemmas.{ends-line_feed}, specs.Grammar.{Accepted, after_header}}
 use Rattle.fc_record.specs.Grammar.{AreLists, begins_with, board_part, Contents, Heading, IsList, list_lines, list_mark}
 use Rattle.fc_record.specs.Grammar.{lists_start, next_list, no_header, no_lines, Reading, reading_of, with_header}
 use Rattle.fc_record.specs.Grammar.{without_header}
 use Rattle.fc_record.specs.Printing.{after_blank, header_text, heading_line, list_line, name_of, printed, show_lines}
-use Rattle.fc_record.specs.RecordTexts.{header_mark, RecordText}
+use Rattle.fc_record.specs.{inside.{ends_board}, RecordTexts.{header_mark, RecordText}}
 use Rattle.fc_collect.proofs.AcceptanceLemmas.{accepted-from_Says, few_cells, Says-from_accepted}
 use Rattle.fc_collect.proofs.HeaderLemmas.{marks, marks-lines, starts_of}
 use Rattle.fc_collect.proofs.HeaderSaysLemmas.{HeaderSays-from_ok, ok-from_HeaderSays}
@@ -88,36 +87,13 @@ module _ (game : Game) (few : game.cells ≤ 8) where
     abbrev body : List ℕ
     body = above ++ flat_map list_line lists
 
-    none_above : find begins_list (lines_from 0 above) ≡ None
-    none_above =
-        no_list (lines_from 0 above)
-        (All-weaker (λ line. IsPlain line.bytes) (λ line. begins_list line ≡ false) (λ line is. is.1) (lines_from 0 above) (are.lines 0))
-
-    found : find begins_list (lines_from 0 body) ≡ find begins_list (lines_from (0 + length above) (flat_map list_line lists))
-    found = rw (
-      lines_after 0 above (flat_map list_line lists) are.ends,
-      find-append begins_list (lines_from 0 above) (lines_from (0 + length above) (flat_map list_line lists)),
-      none_above,
-    )
-
     starts : lists_start body ≡ length above
-    starts = rw (found, by_lists lists can)
+    starts = starts_after above (flat_map list_line lists) are (ends lists)
       where
-        start_by : Option Piece → List ℕ → ℕ
-        start_by found text = unwrap_or (option_map (λ line. line.start) found) (length text)
-
-        by_lists : (lists : List MoveList) → All (CanPrint game) lists
-            → start_by (find begins_list (lines_from (0 + length above) (flat_map list_line lists))) (above ++ flat_map list_line lists)
-            ≡ length above
-        by_lists [] can = ap length (append-nil above)
-        by_lists (list ∷ lists) can =
-            let piece : Piece = record { start = 0 + length above; bytes = list_bytes list } in
-            let later = lines_from (0 + length above + length (list_bytes list) + 1) (flat_map list_line lists) in
-            let text = above ++ flat_map list_line (list ∷ lists) in
-            ap (λ lines. start_by (find begins_list lines) text)
-            (first_list (0 + length above) list (flat_map list_line lists) (All-head (CanPrint game) list lists can))
-            ∙ ap (λ b. start_by (cond b (Some piece) (find begins_list later)) text) (marked list)
-            ∙ omega arith
+        ends : (lists : List MoveList) → ends_board (flat_map list_line lists) ≡ true
+        ends [] = refl
+        ends (OneCard moves ∷ lists) = refl
+        ends (Runs moves ∷ lists) = refl
 
     pub body_read : (place : ℕ) (board : Board) → Spells game above board
         → Spells game (board_part body) board × AreLists game (list_lines place body) lists

@@ -1,10 +1,11 @@
 -- What is printed for the records of a collection is read as those that were accepted.
-use Rattle.std.proofs.Common.{◌&&◌, ◌++◌, ◌+◌, ◌==◌, ◌||◌, ◌∙◌, ◌∷◌, ◌≡◌, ◌≤◌, [], All, ap, append-nil, append_assoc}
+use Rattle.std.proofs.Common.{◌&&◌, ◌++◌, ◌+◌, ◌==◌, ◌∙◌, ◌∷◌, ◌≡◌, ◌≤◌, [], All, ap, append-nil, append_assoc}
 use Rattle.std.proofs.Common.{arith, Bool, codes, cond, drop, eqb, false, length, length-append, List, map, not, Option}
 use Rattle.std.proofs.Common.{refl, slice_index, suc, sym, true, zero, ℕ}
 use Rattle.std.proofs.lemmas.List.Elements.{All-append, All-cons, All-head, All-nil, All-tail, All-weaker}
 use Rattle.std.proofs.lemmas.List.{Folds.{list_any-append}, map-append, Sums.{AllPass-from_list_all}}
 use Rattle.std.specs.{Fmt.{decimal}, List.{flat_map, list_all, list_any}}
+use Rattle.std.proofs.Math.Bool.{or-false}
 use Rattle.fc_card.specs.{card_text, rank_letter, rank_letters, rank_of, suit_letter, suit_letters, suit_of}
 use Rattle.fc_board.proofs.BoardLemmas.{All-right}
 use Rattle.fc_text.proofs.{BlankLineLemmas.{begins_comment}, LineLemmas.{first_line, InLine}}
@@ -139,12 +140,8 @@ module _ (variant : Variant) where
           line_found (0 + length bytes),
           list_any-append holds (lines_from 0 bytes) (record { start = 0 + length bytes; bytes = line } ∷ []),
           begins_comment (0 + length bytes) comment,
-          or_false (list_any holds (lines_from 0 bytes)),
+          or-false (list_any holds (lines_from 0 bytes)),
         )
-      where
-        or_false : (b : Bool) → (b || false) ≡ b
-        or_false true = refl
-        or_false false = refl
 
     -- a comment after a collection whose records are all accepted
     pub Reads-comment : (collection : List ℕ) (readings : List Reading) → All IsAccepted readings → Reads collection readings

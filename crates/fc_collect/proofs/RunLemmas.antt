@@ -5,6 +5,7 @@ use Rattle.std.proofs.{Common.{true, ℕ}, KnownBytes.{Appends-nil, Appends-tran
 use Rattle.std.proofs.lemmas.List.{Elements.{All-append, All-cons, All-head, All-nil}, Sums.{sum_by-append}}
 use Rattle.std.{proofs.Math.Seq.{drop-append_seam, take-append_seam}, specs.Io.KnownBytes.{Appends, Consumes}}
 use Rattle.std.specs.List.{count_by}
+use Rattle.std.proofs.lemmas.List.{nil_from_length}
 use Rattle.fc_board.{proofs.BoardLemmas.{All-left, All-right}, specs.declared.rule.Variant.{Variant}}
 use Rattle.fc_record.specs.{Grammar.{Contents, Heading}, Printing.{is_refused}, RecordTexts.{RecordText}}
 use Rattle.fc_record.specs.declared.record.RecordFault.{RecordFault}
@@ -327,9 +328,6 @@ take_up_bytes run ending keeps start old left after joined given searched fault 
     none : Begins [] (outputs_after run.output_of (finished_from run.limits read) (records_in old.progress joined searched))
     none = (_, refl)
 
-    appended : (front : List ℕ) → Appends old.ends.written after front → Appends start.written after (output_to run read ++ front)
-    appended front sent = Appends-trans start.written old.ends.written after _ _ so_far.written sent
-
     Begun : List ℕ → Type 0
     Begun written = IsWithinLimits run.limits (read ++ more) × Begins written (all_output run ending (read ++ more))
 
@@ -339,7 +337,7 @@ take_up_bytes run ending keeps start old left after joined given searched fault 
       read = read ++ more;
       written = output_to run read ++ f.1.written;
       consumed = consumed;
-      appended = appended f.1.written f.1.appended;
+      appended = Appends-trans _ _ _ _ _ so_far.written f.1.appended;
       fits = fits (output_to run read ++ f.1.written) (limits_joined joins so_far.within f.0, follows f.1.written f.1.begins);
     }
 
@@ -351,20 +349,16 @@ take_up_bytes run ending keeps start old left after joined given searched fault 
       read = read ++ more;
       written = output_to run read ++ [];
       consumed = consumed;
-      appended = appended [] f.1;
+      appended = Appends-trans _ _ _ _ _ so_far.written f.1;
       fits = (λ within. f.0 (allowed_joined joins within), follows [] none);
     }
     by_fault ReaderNeverEnds f = absurd f
 
 -- ---- the end
 
-nil_of_length : (xs : List ℕ) → length xs ≡ 0 → xs ≡ []
-nil_of_length [] e = refl
-nil_of_length (x ∷ xs) e = absurd (omega (arith, e))
-
 pub filled_none : (held joined : List ℕ) (left left' : Option (List ℕ)) (given : ℕ) → given ≡ 0 → FillsWindow held joined left left' given → joined ≡ held
 filled_none held joined left left' given none filled =
-    filled.follows ∙ ap (λ l. held ++ l) (nil_of_length filled.given (filled.long ∙ none)) ∙ append-nil held
+    filled.follows ∙ ap (λ l. held ++ l) (nil_from_length filled.given (filled.long ∙ none)) ∙ append-nil held
 
 pub finish_bytes : {R W : Type 0} (run : Run) (ending : List RecordText → List ℕ) (keeps : List RecordText → Type 0) (start : Ends R W) (old : State R W)
     (left after : Option (List ℕ)) (joined shown : List ℕ) (given : ℕ) (result : Result Summary RunFault)
@@ -390,13 +384,10 @@ finish_bytes run ending keeps start old left after joined shown given result so_
     is_last = ap (text_at old.progress) (is_shown ∙ filled_none old.held joined old.ends.left left given none filled) ∙ sym so_far.begins
 
     consumed : Consumes start.left left read
-    consumed = subst (Consumes start.left left) (ap (λ l. read ++ l) (nil_of_length filled.given (filled.long ∙ none)) ∙ append-nil read) (Consumes-trans start.left old.ends.left left read filled.given so_far.consumed filled.consumed)
+    consumed = subst (Consumes start.left left) (ap (λ l. read ++ l) (nil_from_length filled.given (filled.long ∙ none)) ∙ append-nil read) (Consumes-trans start.left old.ends.left left read filled.given so_far.consumed filled.consumed)
 
     output : List ℕ
     output = last_output (outputs_after run.output_of seen) ending seen last
-
-    appended : (front : List ℕ) → Appends old.ends.written after front → Appends start.written after (output_to run read ++ front)
-    appended front sent = Appends-trans start.written old.ends.written after _ _ so_far.written sent
 
     begins : (front : List ℕ) → Begins front output → Begins (output_to run read ++ front) (all_output run ending read)
     begins front (rest, e) = (rest, append_assoc (output_to run read) front rest ∙ ap (λ l. output_to run read ++ l) e ∙ sym (whole_last run ending read))
@@ -423,7 +414,7 @@ finish_bytes run ending keeps start old left after joined shown given result so_
       read = read;
       written = output_to run read ++ f.written;
       consumed = consumed;
-      appended = appended f.written f.appended;
+      appended = Appends-trans _ _ _ _ _ so_far.written f.appended;
       fits = fits (output_to run read ++ f.written) (so_far.within, begins f.written f.begins);
     }
 
@@ -432,7 +423,7 @@ finish_bytes run ending keeps start old left after joined shown given result so_
       read = read;
       written = output_to run read ++ output;
       consumed = consumed;
-      appended = appended output f.written;
+      appended = Appends-trans _ _ _ _ _ so_far.written f.written;
       fits = (filled.ended none, whole summary f);
     }
     by_result (Err Read) f = absurd f.0

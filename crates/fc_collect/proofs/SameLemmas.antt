@@ -1,6 +1,7 @@
 -- Which passage leads from the first member to another.
 use Rattle.std.proofs.Common.{◌++◌, ◌↔◌, ◌∙◌, ◌∷◌, ◌≡◌, ◌≢◌, [], ap, append_assoc, ap₂, Bool, cond, false, IfSome}
 use Rattle.std.proofs.Common.{IsSome, List, None, Option, refl, Some, subst, sym, true, true≢false, ℕ}
+use Rattle.std.proofs.lemmas.Option.{same_Some}
 use Rattle.fc_board.specs.{Boards.{Board, IsWellFormed}, Games.{Game, game_of, renamings_of}}
 use Rattle.fc_board.specs.Passages.{Carries, inverse_passage, Passage, passage_product}
 use Rattle.fc_board.specs.declared.rule.Variant.{Variant}
@@ -74,9 +75,6 @@ canon-kept held member variant game renamings played listed kept own board there
 
 -- ---- laws
 
-some-same : {X : Type 0} (x y : X) → Some x ≡ Some y → x ≡ y
-some-same x y e = cc e
-
 module _ (first member : Member) (well : IsWellFormed (game_of first.heading.variant) first.contents.board) (well' : IsWellFormed (game_of member.heading.variant) member.contents.board) where
   pub passage-carries : (passage : Passage) → passage_to first member ≡ Some passage → Carries (game_of first.heading.variant) passage first.contents.board member.contents.board
   passage-carries passage is = by (belong_together first member) refl is
@@ -86,7 +84,7 @@ module _ (first member : Member) (well : IsWellFormed (game_of first.heading.var
       by true e is =
           let alike = (together-Equivalent first member well well').0 e in
           let chosen' = subst (λ variant. Chosen (game_of variant) (renamings_of variant) member.contents.board (passage_of member)) (sym alike.0) (chosen member.heading.variant member.contents.board well') in
-          subst (λ passage. Carries (game_of first.heading.variant) passage first.contents.board member.contents.board) (some-same _ _ is)
+          subst (λ passage. Carries (game_of first.heading.variant) passage first.contents.board member.contents.board) (same_Some _ _ is)
           (chosen-between (game_of first.heading.variant) (renamings_of first.heading.variant) first.contents.board member.contents.board _ _ well
           (subst (λ variant. IsWellFormed (game_of variant) member.contents.board) (sym alike.0) well') (chosen first.heading.variant first.contents.board well) chosen' alike.1)
       by false e is = absurd (cc is)

@@ -27,7 +27,7 @@ unmarked_line place text line are is_piece = by_bytes line.bytes is_piece.text_i
     by_bytes [] is = refl
     by_bytes (byte ∷ rest) is = at_place Unmarked is_piece.before byte (rest ++ is_piece.after) (subst (All Unmarked) is are)
 
-pub no_list : (lines : List Piece) → All (λ line. begins_list line ≡ false) lines → find begins_list lines ≡ None
+no_list : (lines : List Piece) → All (λ line. begins_list line ≡ false) lines → find begins_list lines ≡ None
 no_list [] are = refl
 no_list (line ∷ lines) are =
     first_list-later (line ∷ lines) lines line refl (All-head (λ line. begins_list line ≡ false) line lines are)
@@ -83,8 +83,6 @@ mark_found body place found ends =
     sym (take-append-drop place body) ∙ ap (λ later. take place body ++ later) (drop_more body place 0 inside ∙ ap (λ byte. byte ∷ drop (place + 1) body) (eqb-true _ _ found.1)) in
     ap lists_start whole ∙ first_mark (take place body) (drop (place + 1) body) are ends ∙ long
 
--- ---- the lines of a board
-
 -- ---- a printed board is all of a record's board text, where a list or nothing follows
 
 -- a line that begins neither a header nor a list
@@ -101,16 +99,10 @@ lines_of_board game board well =
     (All-weaker (λ column. All InLine (column_bytes column)) (λ column. AreLines IsPlain (column_line column))
     (λ column are. AreLines-line IsPlain (column_bytes column) are (refl, refl)) board.columns columns))
 
--- the first list begins after the board
-starts_after : (game : Game) (board : Board) (rest : List ℕ) → IsWellFormed game board → ends_board rest ≡ true → lists_start (text_of board ++ rest) ≡ length (text_of board)
-starts_after game board rest well ends = by_rest rest ends
+-- the first list begins after plain lines
+pub starts_after : (above rest : List ℕ) → AreLines IsPlain above → ends_board rest ≡ true → lists_start (above ++ rest) ≡ length above
+starts_after above rest are ends = by_rest rest ends
   where
-    above : List ℕ
-    above = text_of board
-
-    are : AreLines IsPlain above
-    are = lines_of_board game board well
-
     none_above : find begins_list (lines_from 0 above) ≡ None
     none_above = no_list (lines_from 0 above) (All-weaker (λ line. IsPlain line.bytes) (λ line. begins_list line ≡ false) (λ line is. is.1) (lines_from 0 above) (are.lines 0))
 
@@ -132,7 +124,7 @@ pub part_starts : (game : Game) (board : Board) (body rest : List ℕ) → IsWel
 part_starts game board body rest well is ends =
     let long = ap length is ∙ length-append (text_of board) rest in
     let end : length body - length rest ≡ length (text_of board) = omega (arith, long) in
-    end ∙ sym (ap lists_start is ∙ starts_after game board rest well ends)
+    end ∙ sym (ap lists_start is ∙ starts_after (text_of board) rest (lines_of_board game board well) ends)
 
 -- what is before it is the board's text
 pub part_text : (board : Board) (body rest : List ℕ) → body ≡ text_of board ++ rest → take (length body - length rest) body ≡ text_of board

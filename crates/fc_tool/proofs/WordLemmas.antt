@@ -8,6 +8,7 @@ use Rattle.clap.specs.Words.{is_simple_and_free, IsAmong, kind_of, Kinds, rows_o
 use Rattle.std.proofs.Common.{◌∙◌, ◌≡◌, ◌≤◌, ap, ap₂, arith, Bool, codes, cond, Err, false, FitsSigned, inl, inr, List}
 use Rattle.std.proofs.Common.{None, of_z, Ok, Option, option_and_then, option_map, refl, Result, Some, subst, suc, sym}
 use Rattle.std.{proofs.{Common.{to_z, true, zero, ℤ, ℕ}, lemmas.Int.{ints, to_z-of_z}}, specs.Borrow.{Bor}}
+use Rattle.std.proofs.lemmas.Option.{same_Some}
 use Rattle.std.specs.{Int.{FitsUnsignedBits, w64}, Prelude.{◌≤ℤ◌, neg_ℤ, negsuc, pos, unsigned_abs}}
 use Rattle.std.specs.{Result.{OkIff, result_ok}, Str.Parse.{digits_value, IsNumeral, ParsesSigned, signed_digits_value}}
 use Rattle.std.specs.Str.Parse.{starts_with_minus, without_leading_sign}
@@ -117,21 +118,18 @@ module _ (least most : ℕ) where
   of_size (pos n) number fits is = ap pos (sym is)
   of_size (negsuc n) number fits is = absurd fits
 
-  some_is : {A : Type 0} (y z : A) → Some y ≡ Some z → y ≡ z
-  some_is y z is = cc
-
   pub read : {E F : Type 0} (text : List ℕ) (parsed : Result ℤ E) (z : ℤ) (result : Result ℕ F) (number : ℕ)
       → ParsesSigned w64 10 text parsed → result_ok parsed ≡ Some z
       → OkIff result (FitsUnsignedBits 64 (to_z w64 (of_z w64 z))) (unsigned_abs (to_z w64 (of_z w64 z)))
       → result_ok result ≡ Some number → IsRead text number
   read text (Ok y) z (Ok n) number parses is given same =
-      let value : z ≡ signed_digits_value 10 text = sym (some_is y z is) ∙ parses.1 in
+      let value : z ≡ signed_digits_value 10 text = sym (same_Some y z is) ∙ parses.1 in
       let kept : to_z w64 (of_z w64 z) ≡ z = to_z-of_z w64 z (subst (FitsSigned w64) (sym value) parses.0.1) in
       let sized = subst (λ of. FitsUnsignedBits 64 of × (n ≡ unsigned_abs of)) (kept ∙ value) given in
       record {
         numeral = parses.0.0;
         fits = parses.0.1;
-        value = of_size _ number sized.0 (sym (some_is n number same) ∙ sized.1);
+        value = of_size _ number sized.0 (sym (same_Some n number same) ∙ sized.1);
       }
   read text (Ok y) z (Err e) number parses is given same = absurd (cc)
   read text (Err e) z result number parses is given same = absurd (cc)
@@ -153,5 +151,5 @@ module _ (least most : ℕ) where
       by true test =
           let given = accepts-Accepts false (parser.Signed (pos least) (pos most)) text test in
           let named' : Some (digits_value 10 (without_leading_sign text)) ≡ Some number = named text given ∙ is in
-          subst (λ of. (least ≤ of) × (of ≤ most)) (size_of_text text ∙ some_is _ number named') (between _ given.2 given.3)
+          subst (λ of. (least ≤ of) × (of ≤ most)) (size_of_text text ∙ same_Some _ number named') (between _ given.2 given.3)
       by false test = let none = rw test at is in absurd (cc)
