@@ -1,13 +1,7 @@
 -- The moves are copied, in the form that the list has.
-use Rattle.std.proofs.{Common.{◌∙◌, ap, sym}, lemmas.Result.{IfOk-from_err}}
+use Rattle.std.proofs.Common.{◌∙◌, ap, sym}
 use Rattle.{fc_board.specs.Moves.{OneCard, Runs}, fc_record.specs.inside.Fitting.{list_seen}}
 use Rattle.fc_record.proofs.record.move_list.MoveList.copy.Goals as goal
-
-pub returns-in_err-copy_of-in-OneCard : goal.returns-in_err-copy_of-in-OneCard
-returns-in_err-copy_of-in-OneCard c = IfOk-from_err _ _ c.from_residual.ensures.0
-
-pub returns-in_err-copy_of-in-Runs : goal.returns-in_err-copy_of-in-Runs
-returns-in_err-copy_of-in-Runs c = IfOk-from_err _ _ c.from_residual-in_err-copy_of-in-Runs.ensures.0
 
 pub returns-in_ok-copy_of-in-OneCard : goal.returns-in_ok-copy_of-in-OneCard
 returns-in_ok-copy_of-in-OneCard c =
