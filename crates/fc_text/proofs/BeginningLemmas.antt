@@ -5,6 +5,7 @@ use Rattle.std.proofs.{Common.{Some, sym, take, take-append-drop, true, ℕ}, le
 use Rattle.std.proofs.lemmas.{Grind.{flat_map-append}, List.{drop_all, drop_more}}
 use Rattle.std.proofs.lemmas.{List.{Elements.{All-get_or, All-head, All-tail}, take_all}, Option.{same_Some}}
 use Rattle.std.specs.List.{flat_map}
+use Rattle.std.proofs.NetLemmas.Arrays.{four_items}
 use Rattle.fc_card.{proofs.Letters.{answers, answers-true, same_card_text}, specs.{card_text, IsCard}}
 use Rattle.fc_board.{proofs.BoardLemmas.{in_cells, in_columns}, specs.Boards.{Board, IsHeight, IsWellFormed}}
 use Rattle.fc_board.specs.{Games.{Game}, inside.{size_of}, laws.ListWords.{IsCell}}
@@ -35,14 +36,6 @@ height_back height is =
 
 same_height : (height other : ℕ) → IsHeight height → IsHeight other → height_letter height ≡ height_letter other → height ≡ other
 same_height height other is is' e = same_Some height other (sym (height_back height is) ∙ ap height_read e ∙ height_back other is')
-
-four_items : (items : List ℕ) → length items ≡ 4 → items ≡ get_or items 0 0 ∷ get_or items 1 0 ∷ get_or items 2 0 ∷ get_or items 3 0 ∷ []
-four_items [] long = absurd (omega arith)
-four_items (a ∷ []) long = absurd (omega arith)
-four_items (a ∷ b ∷ []) long = absurd (omega arith)
-four_items (a ∷ b ∷ c ∷ []) long = absurd (omega arith)
-four_items (a ∷ b ∷ c ∷ d ∷ []) long = refl
-four_items (a ∷ b ∷ c ∷ d ∷ e ∷ items) long = absurd (omega arith)
 
 -- a text begins with one line of foundations
 pub same_heights : (heights others rest later : List ℕ) → length heights ≡ 4 → length others ≡ 4 → All IsHeight heights → All IsHeight others

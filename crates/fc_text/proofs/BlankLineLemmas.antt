@@ -3,6 +3,7 @@ use Rattle.std.proofs.Common.{◌++◌, ◌+◌, ◌<◌, ◌∙◌, ◌∷◌, 
 use Rattle.std.proofs.Common.{Bool, cond, drop, false, inl, inr, length, List, ltb, map, not, refl, Some, subst, suc}
 use Rattle.std.proofs.{Common.{sym, true, zero, ℕ}, lemmas.{Bool.Decides.{nat_tests}, List.Elements.{All-cons}}}
 use Rattle.std.{proofs.lemmas.List.{map-append}, specs.List.{list_any, prefix_len}}
+use Rattle.std.proofs.{lemmas.Bool.{false_from_ne_true}, Math.Numerals.{one-add}}
 use Rattle.fc_board.specs.{Boards.{Board}, Games.{Game}}
 use Rattle.fc_text.proofs.{LineLemmas.{first_line, InLine, lines_joined}, RowLemmas.{length-kept}}
 use Rattle.fc_text.{proofs.TakingLemmas.{held_first, ltb_tells}, specs.Bytes.{line_feed, number_sign}}
@@ -81,10 +82,7 @@ last_within left (Content row ∷ lines) line =
 pub skipped : (line : Line) (lines : List Line) → is_empty line ≡ true → rows_of_lines (line ∷ lines) ≡ rows_of_lines lines
 skipped line lines e =
     ap (λ b. rows_within 8 (drop (cond b (1 + prefix_len is_empty lines) 0) (line ∷ lines))) e
-    ∙ ap (λ n. rows_within 8 (drop n (line ∷ lines))) (one_suc (prefix_len is_empty lines))
-  where
-    one_suc : (n : ℕ) → 1 + n ≡ suc n
-    one_suc n = omega arith
+    ∙ ap (λ n. rows_within 8 (drop n (line ∷ lines))) (one-add (prefix_len is_empty lines))
 
 abbrev Last : List Line → Line → Type 0
 Last lines line = rows_of_lines (lines ++ line ∷ []) ≡ rows_of_lines lines ++ rows_of_line (list_any holds lines) (ltb (columns (rows_of_lines lines)) 8) line
@@ -147,11 +145,7 @@ only_rows (empty_column {lines} {rows} are start some room) =
     has_room : (count : ℕ) → count < 8 → ltb count 8 ≡ true
     has_room count h = grind (arith, nat_tests)
 only_rows (blank_before_all {lines} {rows} are start not_some) =
-    rw (only_rows are, last_line lines (Blank start), none_hold (list_any holds lines) not_some, append-nil (rows_of_lines lines))
-  where
-    none_hold : (b : Bool) → (b ≡ true → ⊥) → b ≡ false
-    none_hold true h = absurd (h refl)
-    none_hold false h = refl
+    rw (only_rows are, last_line lines (Blank start), false_from_ne_true (list_any holds lines) not_some, append-nil (rows_of_lines lines))
 only_rows (blank_after_all {lines} {rows} are start no_room) =
     let same = only_rows are in
     let none = full (columns (rows_of_lines lines)) (λ h. no_room (rw same h)) in

@@ -4,6 +4,7 @@ use Rattle.std.proofs.Common.{false, get_or, length, List, not, refl, suc, take,
 use Rattle.std.proofs.lemmas.{Bool.Decides.{nat_tests}, List.{Folds.{list_any_at}, Sums.{passes_at_first}}}
 use Rattle.std.specs.{Char.{to_ascii_lowercase}, List.{before_first, list_any, position_or_len}}
 use Rattle.std.specs.Str.{str_eq_ignore_ascii_case}
+use Rattle.std.proofs.Math.{Bool.{and-false}, Numerals.{one-add}}
 use Rattle.fc_text.specs.{Bytes.{is_gap}, Lines.{words_from}, reader.{begins_head, IsHead}}
 use Rattle.fc_text.specs.Rows.{cells_names, column_row, heights_names, is_colon, is_named, named_row, Row, row_of}
 use Rattle.fc_text.specs.declared.board.reader.Section.{Section, TheVariants.{Column, Foundations, Freecells}}
@@ -121,19 +122,12 @@ unnamed_front : (names : List (List ℕ)) (byte : ℕ) (rest : List ℕ) → is_
 unnamed_front names byte rest colon unlike =
     ap (λ name. list_any is_colon (byte ∷ rest) && list_any (str_eq_ignore_ascii_case name) names) front
     ∙ ap (λ b. list_any is_colon (byte ∷ rest) && b) (unlike (take (position_or_len is_colon rest) rest))
-    ∙ and_false (list_any is_colon (byte ∷ rest))
+    ∙ and-false (list_any is_colon (byte ∷ rest))
   where
     front : before_first is_colon (byte ∷ rest) ≡ byte ∷ take (position_or_len is_colon rest) rest
     front =
         ap (λ b. take (cond (not b) (1 + position_or_len is_colon rest) 0) (byte ∷ rest)) colon
-        ∙ ap (λ n. take n (byte ∷ rest)) (one_suc (position_or_len is_colon rest))
-      where
-        one_suc : (n : ℕ) → 1 + n ≡ suc n
-        one_suc n = omega arith
-
-    and_false : (b : Bool) → (b && false) ≡ false
-    and_false true = refl
-    and_false false = refl
+        ∙ ap (λ n. take n (byte ∷ rest)) (one-add (position_or_len is_colon rest))
 
 -- a line that begins with another byte is a column without a colon
 pub bare_front : (start : ℕ) (bytes : List ℕ) → 1 ≤ length bytes → begins_head (get_or bytes 0 0) ≡ false → IsHead start bytes Column 0

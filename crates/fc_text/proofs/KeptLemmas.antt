@@ -6,6 +6,7 @@ use Rattle.std.proofs.lemmas.{Bool.{cases_eq, eq-eqb, le-leb, lt-leb}, List.{dro
 use Rattle.std.proofs.lemmas.List.{get_or-set_other, length-set, length-take-le}
 use Rattle.std.proofs.lemmas.List.{Sums.{count_by-le-length, sum_by-cons, sum_by-set}, take_more_set}
 use Rattle.std.specs.{List.{list_any}, Option.{IsNone, option_to_list}}
+use Rattle.std.proofs.{lemmas.Bool.{or_left}, Math.Bool.{or-false}}
 use Rattle.fc_board.specs.{Games.{Game}, inside.{AreBounds, columns_between}}
 use Rattle.fc_text.proofs.FinishLemmas.{AreBounds-begun, AreBounds-card, columns_between-begun, columns_from-card}
 use Rattle.fc_text.proofs.FinishLemmas.{length-columns_between}
@@ -44,10 +45,6 @@ count_more (was ∷ old) (is ∷ new) long each =
     first false is stays = omega arith
     first true is stays = omega (arith, ap one_if (stays refl))
 
-was_true : (a b : Bool) → a ≡ true → (a || b) ≡ true
-was_true true b e = refl
-was_true false b e = absurd (cc)
-
 -- as many cards or more are seen
 pub count-grows : {X : Type 0} (old new cards : List ℕ) (result : Result X BoardFaultKind)
     → Sees (seen_of old) cards (seen_of new) result → count_seen old ≤ count_seen new
@@ -55,7 +52,7 @@ count-grows old new cards (Ok taken) h =
     let seen = seen_of old in
     let size = length-seen_of old in
     rw h.1 (count_more seen (also_seen seen cards) (length-also_seen seen cards ∙ sym size)
-    (λ card inside was. also_seen_at seen cards card (omega (arith, inside, size)) ∙ was_true (is_seen seen card) (list_any (λ other. eqb other card) cards) was))
+    (λ card inside was. also_seen_at seen cards card (omega (arith, inside, size)) ∙ or_left (is_seen seen card) (list_any (λ other. eqb other card) cards) was))
 count-grows old new cards (Err kind) h = rw h.2 (omega arith)
 
 -- a card that was not seen is one more
@@ -72,7 +69,7 @@ one_more seen card long inside unlike =
       count_more (set seen card true) (also_seen seen (card ∷ [])) (length-also_seen seen (card ∷ []) ∙ sym (size ∙ long))
           (λ other within was. also_seen_at seen (card ∷ []) other (omega (arith, within, size, long)) ∙ elim (cases_eq card other) [
             | inl same ↦ is_last (is_seen seen other) (eqb card other) (eq-eqb card other same)
-            | inr apart ↦ was_true (is_seen seen other) (eqb card other || false) (sym (get_or-set_other seen card other true false (λ e. apart (sym e))) ∙ was)
+            | inr apart ↦ or_left (is_seen seen other) (eqb card other || false) (sym (get_or-set_other seen card other true false (λ e. apart (sym e))) ∙ was)
           ]),
     )
   where
@@ -225,11 +222,7 @@ module _ {cell_count : ℕ} (kept : Kept) (is : IsKept cell_count kept) (card : 
   later = also_seen (seen_of kept.seen) (card ∷ [])
 
   one_seen : count_seen kept.seen + 1 ≤ count_true later
-  one_seen = one_more (seen_of kept.seen) card (length-seen_of kept.seen) in_deck (sym (or_nothing (is_seen (seen_of kept.seen) card)) ∙ none)
-    where
-      or_nothing : (b : Bool) → (b || false) ≡ b
-      or_nothing true = refl
-      or_nothing false = refl
+  one_seen = one_more (seen_of kept.seen) card (length-seen_of kept.seen) in_deck (sym (or-false (is_seen (seen_of kept.seen) card)) ∙ none)
 
   -- there is room for it
   pub room_for_card : kept.card_count < 52

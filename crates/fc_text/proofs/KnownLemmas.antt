@@ -7,6 +7,7 @@ use Rattle.std.proofs.lemmas.List.Folds.{list_any-append}
 use Rattle.std.proofs.lemmas.List.{get_or-replicate, get_or-set_other, get_or-set_same, length-set, map-append}
 use Rattle.std.{proofs.lemmas.List.Sums.{sum_by-cons}, specs.List.{flat_map, list_any}}
 use Rattle.std.specs.Option.{is_some, option_map, option_or, option_to_list}
+use Rattle.std.proofs.Math.Bool.{or-false, or-true}
 use Rattle.{fc_board.specs.Games.{Game}, fc_card.specs.{count_of, IsCard}}
 use Rattle.fc_text.proofs.CardLemmas.{among_counted, cards_held, count_first, foundation_spelled-IsFoundation}
 use Rattle.fc_text.proofs.{CardLemmas.{IsFoundation}, SeeingLemmas.{also_seen_at}}
@@ -54,14 +55,6 @@ pub after-append : (known : Known) (xs ys : List Item) → after_items known (xs
 after-append known [] ys = refl
 after-append known (item ∷ xs) ys = after-append (after_item known item) xs ys
 
-or_nothing : (b : Bool) → (b || false) ≡ b
-or_nothing true = refl
-or_nothing false = refl
-
-or_true : (b : Bool) → (b || true) ≡ true
-or_true true = refl
-or_true false = refl
-
 -- ---- the lines
 
 lines_next : (counted : Section) (item : Item) (items : List Item)
@@ -69,7 +62,7 @@ lines_next : (counted : Section) (item : Item) (items : List Item)
 lines_next counted item items = sum_by-cons (λ item. cond (is_section counted item.section && not (is_some item.word)) 1 0) item items
 
 line_next : (b flag : Bool) (n m : ℕ) → m ≡ cond b 1 0 + n → (leb 1 n || (b || flag)) ≡ (leb 1 m || flag)
-line_next true flag n m e = or_true (leb 1 n) ∙ sym (ap (λ b. b || flag) (le-leb 1 m (omega (arith, e))))
+line_next true flag n m e = or-true (leb 1 n) ∙ sym (ap (λ b. b || flag) (le-leb 1 m (omega (arith, e))))
 line_next false flag n m e = ap (λ n. leb 1 n || flag) (let same : n ≡ m = omega (arith, e) in same)
 
 foundations_line_known : (known : Known) (items : List Item)
@@ -280,13 +273,13 @@ heights_known game items sound suit small =
 
 seen_next : (seen : List Bool) (section : Section) (part : Option (List ℕ)) (card : ℕ) → card < 52
     → is_seen (seen_after seen section part) card ≡ (is_seen seen card || list_any (λ other. eqb other card) (flat_map (cards_of_word section) (option_to_list part)))
-seen_next seen section None card small = sym (or_nothing (is_seen seen card))
+seen_next seen section None card small = sym (or-false (is_seen seen card))
 seen_next seen section (Some word) card small =
     rw (also_seen_at seen (cards_of_word section word) card small, append-nil (cards_of_word section word))
 
 seen_from : (known : Known) (items : List Item) (card : ℕ) → card < 52
     → is_seen (after_items known items).seen card ≡ (is_seen known.seen card || list_any (λ other. eqb other card) (flat_map cards_of_item items))
-seen_from known [] card small = sym (or_nothing (is_seen known.seen card))
+seen_from known [] card small = sym (or-false (is_seen known.seen card))
 seen_from known (item ∷ items) card small =
     let is_this = λ (other : ℕ). eqb other card in rw (
       seen_from (after_item known item) items card small,
@@ -313,8 +306,8 @@ same_any P p q same (x ∷ xs) are =
     rw (same x (All-head P x xs are), same_any P p q same xs (All-tail P x xs are))
 
 same_line : (earlier : List Item) (section : Section) → known_line_fault (after_items nothing_known earlier) section ≡ fault_of_line section earlier
-same_line earlier Foundations = rw (foundations_line_known nothing_known earlier, or_nothing (leb 1 (count_of_lines Foundations earlier)))
-same_line earlier Freecells = rw (cells_line_known nothing_known earlier, or_nothing (leb 1 (count_of_lines Freecells earlier)))
+same_line earlier Foundations = rw (foundations_line_known nothing_known earlier, or-false (leb 1 (count_of_lines Foundations earlier)))
+same_line earlier Freecells = rw (cells_line_known nothing_known earlier, or-false (leb 1 (count_of_lines Freecells earlier)))
 same_line earlier Column =
     let all : length (after_items nothing_known earlier).columns ≡ count_of_lines Column earlier = omega (arith, length-columns nothing_known earlier) in rw all
 

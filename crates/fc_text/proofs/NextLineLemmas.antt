@@ -4,6 +4,7 @@ use Rattle.std.proofs.Common.{drop-drop, eqb, false, get_or, inl, inr, length, l
 use Rattle.std.proofs.{Common.{subst, suc, sym, take, true, ℕ}, lemmas.{Bool.Decides.{leb_tells}, List.{drop_more}}}
 use Rattle.std.proofs.{lemmas.List.{Elements.{All-head}, length-drop}, Math.ListN.{drop_of_length-le}}
 use Rattle.std.{proofs.Math.Seq.{take-length}, specs.List.{position_or_len}}
+use Rattle.std.proofs.Math.Numerals.{one-add}
 use Rattle.fc_text.specs.Lines.{in_line, IsPieceOf, lines_from, Piece}
 
 -- ---- the first line
@@ -29,9 +30,6 @@ first_by place byte rest false e later = line_cons place byte rest false e ∙ j
     k : ℕ
     k = position_or_len is_feed rest
 
-    one_suc : (n : ℕ) → 1 + n ≡ suc n
-    one_suc n = omega arith
-
     suc_sum : 1 + k + 1 ≡ suc (k + 1)
     suc_sum = omega arith
 
@@ -39,7 +37,7 @@ first_by place byte rest false e later = line_cons place byte rest false e ∙ j
         → in_line place byte (lines_from (place + 1) rest)
         ≡ record { start = place; bytes = take (1 + k) (byte ∷ rest) } ∷ lines_from (place + (1 + k) + 1) (drop (1 + k + 1) (byte ∷ rest))
     joined (inl (none, empty)) = rw (none, empty)
-    joined (inr found) = let place_is : place + (1 + k) + 1 ≡ place + 1 + k + 1 = omega arith in rw (found, place_is, suc_sum, one_suc k)
+    joined (inr found) = let place_is : place + (1 + k) + 1 ≡ place + 1 + k + 1 = omega arith in rw (found, place_is, suc_sum, one-add k)
 
 -- the first line of a text ends before its first line feed, or with the text
 pub line_first : (place byte : ℕ) (rest : List ℕ) → FirstLine place (byte ∷ rest) (position_or_len is_feed (byte ∷ rest))

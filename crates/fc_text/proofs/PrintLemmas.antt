@@ -3,6 +3,7 @@ use Rattle.std.proofs.Common.{◌*◌, ◌++◌, ◌+◌, ◌-◌, ◌<◌, ◌�
 use Rattle.std.proofs.Common.{arith, get_or, length, length-append, length-take, List, map, refl, subst, suc, sym, take}
 use Rattle.std.proofs.{Common.{zero, ℕ}, lemmas.List.{Elements.{All-head, All-tail}, Sums.{sum_by-cons}, take_more}}
 use Rattle.std.specs.List.{AllZip, join_with_byte, sum_by}
+use Rattle.std.proofs.Math.Nat.{zero-add}
 use Rattle.fc_board.{proofs.BoardLemmas.{All-left}, specs.{Games.{Game}, Moves.{Fits, RunFits}}}
 use Rattle.fc_board.specs.declared.{moves.Move.{Move}, run_move.RunMove.{RunMove}}
 use Rattle.fc_text.proofs.ListedLemmas.{each_from_zip, one_zip}
@@ -131,9 +132,6 @@ module _ {Item : Type 0} (Names : List ℕ → Item → Type 0) (token_of : Item
       let long = length-append (token_of item) (blank ∷ printed token_of (next ∷ items)) in
       omega arith
 
-  from_zero : (n : ℕ) → 0 + n ≡ n
-  from_zero n = omega arith
-
   printed-TooManyAt : (items : List Item) → All CanPrint items → most_moves < length items → TooManyAt Names (printed token_of items) (width (take most_moves items))
   printed-TooManyAt items can more =
       let (good, next, later, found, long, start) = split_at most_moves 0 items more in
@@ -146,7 +144,7 @@ module _ {Item : Type 0} (Names : List ℕ → Item → Type 0) (token_of : Item
         words_are = words_are;
         all_good = All-left (HasToken Names) good (next ∷ later) (subst (All (HasToken Names)) words_are all);
         is_fault = long;
-        starts = subst (λ at. next.start ≡ at) (from_zero (width (take most_moves items))) start;
+        starts = subst (λ at. next.start ≡ at) (zero-add (width (take most_moves items))) start;
       }
 
 -- ---- moves of one card

@@ -6,6 +6,7 @@ use Rattle.std.proofs.lemmas.{Bool.{not-false, true_from_ne_false}, List.Element
 use Rattle.std.proofs.lemmas.List.Elements.{All-from_get_or, All-get_or, All-head, All-map, All-nil, All-tail}
 use Rattle.std.proofs.lemmas.List.{FromFn.{get_or-range_with_len, length-range_with_len}, length-map, length-replicate}
 use Rattle.std.specs.{List.{find, flat_map, list_any, range_with_len}, Option.{option_map, option_or, option_to_list}}
+use Rattle.std.proofs.Math.Nat.{zero-add}
 use Rattle.fc_card.specs.{count_of, IsCard, rank_of, suit_of}
 use Rattle.fc_board.proofs.BoardLemmas.{count_of-append, parts_same}
 use Rattle.fc_board.specs.Boards.{Board, cards_in_play, count_of_places, is_home, IsHeight, IsWellFormed}
@@ -98,10 +99,7 @@ none_missing cards e card small =
     let at = get_or-range_with_len 0 52 card 0 small in
     let here : not (is_among cards (get_or (range_with_len 0 52) card 0)) ≡ false =
     All-get_or (λ card. not (is_among cards card) ≡ false) (range_with_len 0 52) card 0 (omega (arith, length-range_with_len 0 52)) all in
-    present card cards (not-false (is_among cards card) (ap (λ c. not (is_among cards c)) (sym (at ∙ zero_plus card)) ∙ here))
-  where
-    zero_plus : (n : ℕ) → 0 + n ≡ n
-    zero_plus n = omega arith
+    present card cards (not-false (is_among cards card) (ap (λ c. not (is_among cards c)) (sym (at ∙ zero-add card)) ∙ here))
 
 pub all_present : (cards : List ℕ) → ((card : ℕ) → IsCard card → 1 ≤ count_of card cards) → lowest_missing cards ≡ None
 all_present cards there =

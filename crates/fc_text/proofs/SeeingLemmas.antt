@@ -6,6 +6,7 @@ use Rattle.std.proofs.lemmas.Bool.{Decides.{leb_tells, nat_tests}, le-leb, lt-le
 use Rattle.std.proofs.lemmas.List.Elements.{All-head, All-tail}
 use Rattle.std.proofs.lemmas.List.FromFn.{fill_by_all, get_or-map-range_with_len, length-map-range_with_len}
 use Rattle.std.{proofs.lemmas.List.{get_or-replicate, length-replicate}, specs.List.{list_any}}
+use Rattle.std.proofs.lemmas.Bool.{or_right}
 use Rattle.fc_card.specs.{AreCountsOf, count_of, Counts, CountsNoneUpTo, CountsUpTo, is_up_to, IsCard, IsLowest, NoCard}
 use Rattle.fc_text.proofs.CardLemmas.{among_counted, cards_at_home-IsCard, cards_from, count_first, count_home}
 use Rattle.fc_text.specs.reader.{also_seen, is_seen, seen_of}
@@ -105,12 +106,8 @@ one_of : (seen : List Bool) (cards : List ℕ) (card : ℕ) → 1 ≤ count_of c
 one_of seen [] card some here = absurd (omega (arith, some))
 one_of seen (first ∷ cards) card some here = elim (count_first first card cards) [
   | inl (same, count) ↦ ap (λ test. test || list_any (is_seen seen) cards) (ap (is_seen seen) same ∙ here)
-  | inr (other, count) ↦ later (is_seen seen first) (list_any (is_seen seen) cards) (one_of seen cards card (omega (arith, some, count)) here)
+  | inr (other, count) ↦ or_right (is_seen seen first) (list_any (is_seen seen) cards) (one_of seen cards card (omega (arith, some, count)) here)
 ]
-  where
-    later : (a b : Bool) → b ≡ true → (a || b) ≡ true
-    later true b e = refl
-    later false b e = e
 
 pub home_counted : (old new : List ℕ) (suit height : ℕ) → suit < 4 → CountsUpTo old new suit height → Counts old new (cards_from suit 1 height)
 home_counted old new suit height below counted card in_deck = omega (arith, counted card in_deck, count_home suit height card below)

@@ -5,6 +5,7 @@ use Rattle.std.proofs.{Common.{suc, sym, true, zero, ℕ}, lemmas.Bool.{cases_eq
 use Rattle.std.proofs.lemmas.List.Concat.{flat_map-append}
 use Rattle.std.proofs.lemmas.List.{Elements.{All-append, All-cons, All-head, All-nil, All-tail}, Sums.{sum_by-cons}}
 use Rattle.std.specs.{List.{cons_option, flat_map}, Option.{is_some, option_to_list}}
+use Rattle.std.proofs.Math.Nat.{add-zero, zero-add}
 use Rattle.fc_card.specs.{count_of, rank_of, suit_of}
 use Rattle.fc_board.proofs.BoardLemmas.{All-left, All-right, count_of-append, count_of-cons}
 use Rattle.fc_text.proofs.CardLemmas.{foundation_spelled-IsFoundation, IsFoundation, none_from_run, one_of_run}
@@ -217,12 +218,6 @@ count_home (foundation ∷ rest) card are once =
     at_most true n m e h = omega arith
     at_most false n m e h = omega arith
 
-    plus_zero : (n : ℕ) → n + 0 ≡ n
-    plus_zero n = omega arith
-
-    zero_plus : (n : ℕ) → 0 + n ≡ n
-    zero_plus n = omega arith
-
     by_suit : (foundation.suit ≡ suit_of card) ⊎ (foundation.suit ≢ suit_of card)
         → (count_of_suit (suit_of card) rest ≤ 1 → count_of card (flat_map cards_at_home rest) ≡ home (height_in rest (suit_of card)))
         → count_of card (cards_at_home foundation) + count_of card (flat_map cards_at_home rest) ≡ home (height_in (foundation ∷ rest) (suit_of card))
@@ -232,14 +227,14 @@ count_home (foundation ∷ rest) card are once =
         (suit_count-cons (suit_of card) foundation rest) once in
         ap (λ n. n + count_of card (flat_map cards_at_home rest)) (home_in_suit foundation card whole (sym same))
         ∙ ap (λ n. home foundation.height + n) (not_at_home rest card others none)
-        ∙ plus_zero (home foundation.height)
+        ∙ add-zero (home foundation.height)
         ∙ ap home (sym (ap (λ b. cond b foundation.height (height_in rest (suit_of card))) test))
     by_suit (inr other) later =
         let test = ne_eqb foundation.suit (suit_of card) other in
         let few = at_most (eqb foundation.suit (suit_of card)) (count_of_suit (suit_of card) (foundation ∷ rest)) (count_of_suit (suit_of card) rest)
         (suit_count-cons (suit_of card) foundation rest) once in
         ap (λ n. n + count_of card (flat_map cards_at_home rest)) (home_elsewhere foundation card whole (λ same. other (sym same)))
-        ∙ zero_plus (count_of card (flat_map cards_at_home rest))
+        ∙ zero-add (count_of card (flat_map cards_at_home rest))
         ∙ later few
         ∙ ap home (sym (ap (λ b. cond b foundation.height (height_in rest (suit_of card))) test))
 

@@ -5,6 +5,7 @@ use Rattle.std.proofs.Common.{ltb, map, min, None, not, Option, refl, Some, suc,
 use Rattle.std.proofs.lemmas.{Bool.{both_ways, Decides.{leb_tells, nat_tests}}, List.{drop_more}}
 use Rattle.std.proofs.lemmas.List.{Elements.{All-cons, All-nil}, length-drop, length-take, Sums.{prefix_len-le-length}}
 use Rattle.std.{proofs.lemmas.List.{take-append-drop}, specs.{List.{flat_map, prefix_len}, Option.{option_or}}}
+use Rattle.std.proofs.Math.Numerals.{one-add}
 use Rattle.fc_board.specs.Games.{Game}
 use Rattle.fc_text.{proofs.{KnownLemmas.{length-with_card}, WordLemmas.{EndsWord, first_word}}, specs.Bytes.{is_gap}}
 use Rattle.fc_text.specs.{Faults.{Item, items_of_row}, Lines.{lines_from, Piece, words_from}, reader.{after_item}}
@@ -29,9 +30,6 @@ fault-append game known (item ∷ xs) ys =
 
 -- ---- the words of a line, from the front
 
-one_suc : (n : ℕ) → 1 + n ≡ suc n
-one_suc n = omega arith
-
 abbrev in_word_byte : ℕ → Bool
 in_word_byte byte = not (is_gap byte)
 
@@ -47,7 +45,7 @@ solid_front (byte ∷ rest) = by_gap (is_gap byte) refl (solid_front rest)
         → All (λ byte. is_gap byte ≡ false) (take (cond (not b) (1 + prefix_len in_word_byte rest) 0) (byte ∷ rest))
     by_gap true e are = All-nil (λ byte. is_gap byte ≡ false)
     by_gap false e are =
-        rw (one_suc (prefix_len in_word_byte rest)) (All-cons (λ byte. is_gap byte ≡ false) byte (take (prefix_len in_word_byte rest) rest) e are)
+        rw (one-add (prefix_len in_word_byte rest)) (All-cons (λ byte. is_gap byte ≡ false) byte (take (prefix_len in_word_byte rest) rest) e are)
 
 gap_follows : (bytes : List ℕ) → EndsWord is_gap (drop (prefix_len in_word_byte bytes) bytes)
 gap_follows [] = tt
@@ -56,7 +54,7 @@ gap_follows (byte ∷ rest) = by_gap (is_gap byte) refl (gap_follows rest)
     by_gap : (b : Bool) → is_gap byte ≡ b → EndsWord is_gap (drop (prefix_len in_word_byte rest) rest)
         → EndsWord is_gap (drop (cond (not b) (1 + prefix_len in_word_byte rest) 0) (byte ∷ rest))
     by_gap true e ends = e
-    by_gap false e ends = rw (one_suc (prefix_len in_word_byte rest)) ends
+    by_gap false e ends = rw (one-add (prefix_len in_word_byte rest)) ends
 
 -- a word that begins with this byte ends before the next gap
 word_here : (place byte : ℕ) (rest : List ℕ) → is_gap byte ≡ false → (let k = prefix_len in_word_byte rest in
@@ -96,7 +94,7 @@ word_at start bytes at inside e =
     long = length-drop (at + 1) bytes
 
     front : take (1 + k) (drop at bytes) ≡ byte ∷ take k rest
-    front = rw (split, one_suc k)
+    front = rw (split, one-add k)
 
     follows : drop (at + (1 + k)) bytes ≡ drop k rest
     follows = ap (λ n. drop n bytes) (shuffle at k) ∙ sym (drop-drop k (at + 1) bytes)
@@ -199,7 +197,7 @@ rows_first known Comment lines = by_begun (is_begun known)
         comment_first : (left : ℕ) → rows_within left (Comment ∷ lines) ≡ rows_within left lines
         comment_first zero = refl
         comment_first (suc left) = refl
-    by_begun false = rw (one_suc (prefix_len is_empty lines))
+    by_begun false = rw (one-add (prefix_len is_empty lines))
 rows_first known (Content row) lines =
     rows_held (is_begun known) (8 - length known.columns) row lines
     ∙ ap (λ rest. row ∷ rest) (sym later)
@@ -241,4 +239,4 @@ rows_first known (Blank start) lines = by_begun (is_begun known) refl (has_room 
         blank_skipped : (left : ℕ) → left ≡ 0 → rows_within left (Blank start ∷ lines) ≡ rows_within left lines
         blank_skipped zero e = refl
         blank_skipped (suc left) e = absurd (omega arith)
-    by_begun false begun p place = rw (one_suc (prefix_len is_empty lines), begun)
+    by_begun false begun p place = rw (one-add (prefix_len is_empty lines), begun)
