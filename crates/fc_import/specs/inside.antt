@@ -10,12 +10,13 @@ use Rattle.fc_collect.specs.declared.streams.faults.RunFault.{RunFault, TheVaria
 use Rattle.fc_collect.specs.declared.streams.faults.RunFault.TheVariants.{ReaderNeverEnds, TooLarge}
 use Rattle.fc_collect.specs.declared.streams.faults.RunFault.TheVariants.{Write}
 use Rattle.fc_collect.specs.declared.streams.faults.Summary.{Summary}
-use Rattle.fc_import.specs.Import.{BoardNeedsNoNote, Imported, IsPrinted, Makes, Reading}
+use Rattle.fc_import.specs.Import.{BoardNeedsNoNote, Imported, IsNoBoard, IsPrinted, Makes, Reading}
 use Rattle.fc_import.specs.Notes.{after_heading, IsNote, Place, SaysUnless, State}
-use Rattle.fc_import.specs.Words.{ended, is_between}
+use Rattle.fc_import.specs.{Scan.{IsProse, IsQuiet}, Words.{ended, is_between}}
 use Rattle.fc_import.specs.declared.made.Form.{Form}
 use Rattle.fc_import.specs.declared.made.Form.TheVariants.{OneCard as InOneCard, Runs as InRuns}
 use Rattle.fc_import.specs.declared.{made.Made.{Made}, options.ImportOptions.{ImportOptions}}
+use Rattle.fc_import.specs.declared.quiet.Aside.{Aside, TheVariants.{NoBoard, Prose, Quiet}}
 use Rattle.fc_import.specs.declared.walk.Walk.{Walk}
 
 -- -------- Signs that are read as they are.
@@ -29,6 +30,12 @@ is_alone byte = is_between 0 10 byte || is_between 14 127 byte
 -- with an end after them, if they are to have one
 abbrev pub part : (is_ended : Bool) → List Card → List ℕ
 part is_ended cards = if is_ended then ended cards else cards
+
+-- a line of which no board and no list is made is this
+abbrev pub IsAside : Aside → Game → (line : Text) → Type 0
+IsAside Quiet game line = IsQuiet game line
+IsAside Prose game line = IsProse game line
+IsAside NoBoard game line = IsNoBoard game line
 
 -- -------- Boards of the laws.
 

@@ -565,17 +565,17 @@ fn lines_len(text: &[u8], least: usize) -> usize
 // The layout of a deal at the front of the text, in eight lines of columns or seven of rows, with
 // one blank between cards, and a header or nothing in the line after it.
 fn deal_layout(text: &[u8]) -> Option<Layout> {
-    let mut lines: usize = 0;
+    let (mut left, mut lines) = (text, 0usize);
     let mut are_rows = true;
     for place in 0..52 {
-        let (word, end) = match text.get(3 * place..)? {
-            [first, second] if place == 51 => ([*first, *second], b'\n'),
-            [first, second, end, ..] => ([*first, *second], *end),
+        let end = match left {
+            [b' ' | b'\n', ..] | [_, b' ' | b'\n', ..] => return None,
+            [_, _, end, ..] => *end,
+            [_, _] if place == 51 => b'\n',
             _ => return None,
         };
-        let is_parted = word.iter().any(|byte| matches!(byte, b' ' | b'\n'));
+        left = left.get(3..).unwrap_or(b"");
         match end {
-            _ if is_parted => return None,
             b'\n' => {
                 lines = lines.saturating_add(1);
                 are_rows = are_rows && (place % 8 == 7 || place == 51);
@@ -584,7 +584,7 @@ fn deal_layout(text: &[u8]) -> Option<Layout> {
             _ => return None,
         }
     }
-    match (lines, text.get(DEAL_LEN)) {
+    match (lines, left.first()) {
         (8, None | Some(b'\n' | b'@')) => Some(Layout::Columns),
         (7, None | Some(b'\n' | b'@')) if are_rows => Some(Layout::Rows(DEALT)),
         _ => None,

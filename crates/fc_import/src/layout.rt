@@ -285,12 +285,7 @@ fn has_only_cells_of_game<R: Rule>(cells: &[Option<Card>; 8]) -> bool
 fn are_free(cells: &[Option<Card>]) -> bool
     ensures { IsTrue result → All IsNone cells.now }
 {
-    for cell in cells {
-        if cell.is_some() {
-            return false;
-        }
-    }
-    true
+    cells.iter().all(|cell| cell.is_none())
 }
 
 fn heights_of(piece: &Piece) -> Option<[Height; 4]> {
@@ -402,12 +397,8 @@ fn put_row_in(
 
 // The first row with a card: before it a solver may draw a line of dashes.
 fn first_with_cards(piece: &Piece) -> Option<&PieceLine> {
-    for row in piece.rows.as_slice() {
-        if row.shape.cards > 0 {
-            return Some(row);
-        }
-    }
-    None
+    let rows = piece.rows.as_slice();
+    rows.iter().find(|row| row.shape.cards > 0)
 }
 
 /// The strips that the rows may have, by the first one: of words, which tell where they are

@@ -28,8 +28,8 @@ use crate::layout::{Layout, layout_words};
 use crate::naming::{copied, name_given, names_game, numbered, title_or_number};
 use crate::options::{ImportOptions, LinesAre, Noted};
 use crate::playable::can_be;
-use crate::quiet::{are_lists, are_no_board, are_prose, are_quiet, push_moves};
-use crate::spelled::{is_equal, is_read_as, spelled_needs_no_note, spells_out};
+use crate::quiet::{Aside, are_aside, are_lists, push_moves};
+use crate::spelled::{is_equal, is_shown, spelled_needs_no_note, spells_out};
 use crate::tally::{Fate, Tally, counted};
 use crate::walk::{Walk, line_after};
 use crate::words::{Words, before_mark, uncommented};
@@ -125,7 +125,7 @@ impl<R: Rule> Made<R> {
         if !self.is_apart(piece) {
             return Ok(false);
         }
-        if !are_quiet::<R>(self.alloc, piece)? {
+        if !are_aside::<R>(self.alloc, Aside::Quiet, piece)? {
             return Ok(false);
         }
         self.go_on(piece, Fate::Passed);
@@ -145,7 +145,7 @@ impl<R: Rule> Made<R> {
         if !self.is_apart(piece) {
             return Ok(false);
         }
-        if !are_prose::<R>(self.alloc, piece)? {
+        if !are_aside::<R>(self.alloc, Aside::Prose, piece)? {
             return Ok(false);
         }
         self.walk.push_note(piece, 0, words, &mut self.notes)?;
@@ -182,7 +182,7 @@ impl<R: Rule> Made<R> {
             return self.refuse_board(piece, at, words);
         }
         self.walk.push_note(piece, at, words, &mut self.notes)?;
-        if are_no_board::<R>(self.alloc, piece)? {
+        if are_aside::<R>(self.alloc, Aside::NoBoard, piece)? {
             self.go_on(piece, Fate::RefusedList);
             return Ok(());
         }
@@ -350,23 +350,6 @@ impl<R: Rule> Made<R> {
         numbered(self.alloc, header, counted(self.named, 1))
     }
 
-    // Whether the lines may be columns, and `show` reads them as the board, which may be known: most
-    // that programs write need no more.
-    fn is_shown(&self, piece: &[u8], board: &Board<R>, is_known: bool) -> bool
-        requires { IsTrue is_known → Spells R.game piece.now board.now }
-        ensures of { IsTrue result
-            → IsReadAs self.now.options.lines_are R.game piece.now board.now }
-        ensures spelled { IsTrue result → SpellsOut R.game piece.now board.now }
-    {
-        if !may_be(self.options.lines_are, Layout::Columns, piece) {
-            return false;
-        }
-        if is_known {
-            return true;
-        }
-        is_read_as(piece, board)
-    }
-
     // The cards that the lines name, if they tell under which columns these stand.
     fn told_cards(
         &self,
@@ -459,7 +442,8 @@ impl<R: Rule> Made<R> {
         ensures kept { IfOk result (λ is. is ≡ false → self.new ≡ self.old) }
     {
         let (respelled, turned) = told;
-        if layout == Layout::Columns && self.is_shown(piece, board, is_known) {
+        let is_shown = is_shown(piece, board, layout, is_known);
+        if is_shown && layout == Layout::Columns && may_be(self.options.lines_are, layout, piece) {
             self.say_change(piece, board, respelled)?;
             return Ok(true);
         }
@@ -467,7 +451,7 @@ impl<R: Rule> Made<R> {
             return Ok(false);
         };
         let named = named.as_slice();
-        let is_spelled = spells_out(self.alloc, piece, named, board)?;
+        let is_spelled = spells_out(self.alloc, piece, named, board, is_shown)?;
         if !self.is_read(piece, named, board, layout, is_spelled)? {
             return Ok(false);
         }

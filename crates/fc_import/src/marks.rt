@@ -307,12 +307,7 @@ fn is_gap(mark: &[u8]) -> bool {
 
 // Whether each byte of the mark is one of these.
 fn is_all(mark: &[u8], bytes: &[u8]) -> bool {
-    for byte in mark {
-        if memchr(*byte, bytes).is_none() {
-            return false;
-        }
-    }
-    true
+    mark.iter().all(|byte| memchr(*byte, bytes).is_some())
 }
 
 /// Whether a mark ends a column, where one line has all columns.

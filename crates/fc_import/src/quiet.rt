@@ -4,6 +4,7 @@ ghost use Rattle.fc_text.specs.Lines.{lines_from};
 ghost use Rattle.fc_import.specs.Import.{AreLists, IsNoBoard, moves_of, moves_of_line};
 ghost use Rattle.fc_import.specs.Scan.{cards_in, HasFewMoves, is_list, IsProse, IsQuiet};
 ghost use Rattle.fc_import.specs.{Scan.{lists_moves, words_of}, Seen.{cards_of, IsHeard, IsSeen}};
+ghost use Rattle.fc_import.specs.inside.{IsAside};
 
 use crate::hearing::{LineHeard, is_drawn, is_in_words};
 use crate::scan::{LineSeen, Placed};
@@ -82,17 +83,42 @@ fn count_of(placed: &[Placed]) -> usize
     count
 }
 
-/// Whether each line names no card, is no list, and names few moves.
-pub(crate) fn are_quiet<R: Rule>(alloc: Global, lines: &[u8]) -> Result<bool, AllocError>
-    ensures { IfOk result (λ quiet. IsTrue quiet
-        → All (λ line. IsQuiet R.game line.bytes) (lines_from 0 lines.now)) }
+/// What each of some lines is, of which no board and no list is made.
+#[derive(Clone, Copy)]
+pub(crate) enum Aside {
+    /// It names no card, is no list, and names few moves.
+    Quiet,
+    /// It is no list, names few moves, and names cards by at most half of its words.
+    Prose,
+    /// It is a list, or at most half of its words name cards: no board has it.
+    NoBoard,
+}
+
+/// Whether each line is so.
+pub(crate) fn are_aside<R: Rule>(
+    alloc: Global,
+    aside: Aside,
+    lines: &[u8],
+) -> Result<bool, AllocError>
+    ensures { IfOk result (λ are. IsTrue are
+        → All (λ line. IsAside aside R.game line.bytes) (lines_from 0 lines.now)) }
 {
     for line in Lines::new(lines) {
-        if !is_quiet::<R>(alloc, line.text)? {
+        if !is_aside::<R>(alloc, aside, line.text)? {
             return Ok(false);
         }
     }
     Ok(true)
+}
+
+fn is_aside<R: Rule>(alloc: Global, aside: Aside, line: &[u8]) -> Result<bool, AllocError>
+    ensures { IfOk result (λ is. IsTrue is → IsAside aside R.game line.now) }
+{
+    match aside {
+        Aside::Quiet => is_quiet::<R>(alloc, line),
+        Aside::Prose => is_prose::<R>(alloc, line),
+        Aside::NoBoard => is_no_board::<R>(alloc, line),
+    }
 }
 
 fn is_quiet<R: Rule>(alloc: Global, line: &[u8]) -> Result<bool, AllocError>
@@ -105,19 +131,6 @@ fn is_quiet<R: Rule>(alloc: Global, line: &[u8]) -> Result<bool, AllocError>
     Ok(scanned.has_few_moves::<R>(line))
 }
 
-/// Whether each line is no list, names few moves, and names cards by at most half of its words.
-pub(crate) fn are_prose<R: Rule>(alloc: Global, lines: &[u8]) -> Result<bool, AllocError>
-    ensures { IfOk result (λ prose. IsTrue prose
-        → All (λ line. IsProse R.game line.bytes) (lines_from 0 lines.now)) }
-{
-    for line in Lines::new(lines) {
-        if !is_prose::<R>(alloc, line.text)? {
-            return Ok(false);
-        }
-    }
-    Ok(true)
-}
-
 fn is_prose<R: Rule>(alloc: Global, line: &[u8]) -> Result<bool, AllocError>
     ensures { IfOk result (λ prose. IsTrue prose → IsProse R.game line.now) }
 {
@@ -126,19 +139,6 @@ fn is_prose<R: Rule>(alloc: Global, line: &[u8]) -> Result<bool, AllocError>
         return Ok(false);
     }
     Ok(!scanned.is_list::<R>(line) && scanned.has_few_moves::<R>(line))
-}
-
-/// Whether no line may be a board's: each is a list, or at most half of its words name cards.
-pub(crate) fn are_no_board<R: Rule>(alloc: Global, lines: &[u8]) -> Result<bool, AllocError>
-    ensures { IfOk result (λ are. IsTrue are
-        → All (λ line. IsNoBoard R.game line.bytes) (lines_from 0 lines.now)) }
-{
-    for line in Lines::new(lines) {
-        if !is_no_board::<R>(alloc, line.text)? {
-            return Ok(false);
-        }
-    }
-    Ok(true)
 }
 
 fn is_no_board<R: Rule>(alloc: Global, line: &[u8]) -> Result<bool, AllocError>

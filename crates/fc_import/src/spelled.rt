@@ -1,14 +1,15 @@
 //! Whether lines spell out a board, and whether that is noted.
-ghost use Rattle.std.specs.Prelude.{◌↔◌, ◌≡◌, IfOk, IsTrue};
+ghost use Rattle.std.specs.Prelude.{◌<◌, ◌↔◌, ◌≡◌, IfOk, IsTrue, length};
 ghost use Rattle.fc_board.specs.Boards.{IsWellFormed};
-ghost use Rattle.fc_text.specs.{Printed.{text_of}, Spelling.{Spells}};
+ghost use Rattle.fc_text.specs.{Lines.{lines_from}, Printed.{text_of}, Spelling.{Spells}};
 ghost use Rattle.fc_import.specs.Import.{BoardNeedsNoNote, by_columns, IsPacked, SpellsOut};
 ghost use Rattle.fc_import.specs.Words.{named_lines};
 
 use crate::cards::{by_columns, is_packed};
+use crate::layout::Layout;
 use crate::options::Noted;
 use fc_board::{Board, Rule};
-use fc_text::{BoardView, read_board, write_board};
+use fc_text::{BoardView, Lines, read_board, write_board};
 use std::alloc::{AllocError, Global};
 
 /// Whether each line that names cards names those of the cells or of the next column of the board,
@@ -26,27 +27,70 @@ pub(crate) fn has_columns<R: Rule>(
     Ok(is_equal(named, columns.as_slice()) && is_packed(board))
 }
 
-/// Whether `show` reads the lines, which name these cards, as the board, or they are its cells and
-/// columns.
+/// Whether `show` reads the lines, which name these cards, as the board, which is known, or they are
+/// its cells and columns.
 pub(crate) fn spells_out<R: Rule>(
     alloc: Global,
     lines: &[u8],
     named: &[u8],
     board: &Board<R>,
+    is_shown: bool,
 ) -> Result<bool, AllocError>
-    requires { named.now ≡ named_lines lines.now }
+    requires named { named.now ≡ named_lines lines.now }
+    requires shown { IsTrue is_shown ↔ Spells R.game lines.now board.now }
     ensures is { IfOk result (λ is. IsTrue is ↔ SpellsOut R.game lines.now board.now) }
     ensures well_formed { IsWellFormed R.game board.now }
 {
-    if is_read_as(lines, board) {
+    if is_shown {
         return Ok(true);
     }
     let has_columns = has_columns(alloc, named, board)?;
     Ok(has_columns)
 }
 
-/// Whether `show` reads the lines as the board.
-pub(crate) fn is_read_as<R: Rule>(lines: &[u8], board: &Board<R>) -> bool
+/// Whether `show` reads the lines, which look like this layout, as the board, which may be known:
+/// not rows that are fewer than its columns.
+pub(crate) fn is_shown<R: Rule>(
+    lines: &[u8],
+    board: &Board<R>,
+    layout: Layout,
+    is_known: bool,
+) -> bool
+    requires { IsTrue is_known → Spells R.game lines.now board.now }
+    ensures { IsTrue result ↔ Spells R.game lines.now board.now }
+{
+    if is_known {
+        return true;
+    }
+    if layout != Layout::Columns && are_too_few(lines, board) {
+        return false;
+    }
+    is_read_as(lines, board)
+}
+
+// Whether the lines are fewer than eight, and the last column has a card.
+fn are_too_few<R: Rule>(lines: &[u8], board: &Board<R>) -> bool
+    ensures { IsTrue result → ¬ Spells R.game lines.now board.now }
+{
+    // The board has eight columns.
+    let _ = board.heights();
+    !board.column(7).is_empty() && are_below_eight(lines)
+}
+
+fn are_below_eight(lines: &[u8]) -> bool
+    ensures { IsTrue result → length (lines_from 0 lines.now) < 8 }
+{
+    let mut left: usize = 7;
+    for _line in Lines::new(lines) {
+        if left == 0 {
+            return false;
+        }
+        left -= 1;
+    }
+    true
+}
+
+fn is_read_as<R: Rule>(lines: &[u8], board: &Board<R>) -> bool
     ensures { IsTrue result ↔ Spells R.game lines.now board.now }
 {
     match read_board::<R>(lines) {

@@ -29,12 +29,9 @@ pub(crate) fn is_told<R: Rule>(card: &Option<Card>, board: &Board<R>, strip: Opt
     let Some(card) = *card else {
         return true;
     };
-    if board.cells().contains(&Some(card)) {
-        return true;
-    }
     match strip {
-        Some(number) => is_in_column(board, number, card),
-        None => false,
+        Some(number) if is_in_column(board, number, card) => true,
+        _ => board.cells().contains(&Some(card)),
     }
 }
 
@@ -142,18 +139,16 @@ pub(crate) fn words_in(text: &[u8]) -> usize
 fn has_mark(line: &[u8]) -> bool
     ensures { result ≡ list_any is_mark line.now }
 {
-    for byte in line {
-        if is_mark(*byte) {
-            return true;
-        }
-    }
-    false
+    line.iter().any(|byte| is_mark(*byte))
 }
 
 fn is_mark(byte: u8) -> bool
     ensures { result ≡ is_mark byte }
 {
-    parts_fields(byte) || matches!(byte, b'-' | b'*' | b'.' | b'_' | b'[' | b']' | b'"' | b'\'')
+    matches!(
+        byte,
+        b',' | b';' | b'|' | b'/' | b'\t' | b'-' | b'*' | b'.' | b'_' | b'[' | b']' | b'"' | b'\''
+    )
 }
 
 fn parts_fields(byte: u8) -> bool

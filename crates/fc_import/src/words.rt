@@ -27,7 +27,7 @@ impl<'a> Words<'a> {
     ghost use Rattle.fc_import.specs.Seen.{words_left};
 
     /// The words of the text; places count from its first byte.
-    pub fn new(text: &'a [u8]) -> Words<'a>
+    pub(crate) fn new(text: &'a [u8]) -> Words<'a>
         ensures { words_left result ≡ map with_end (words_from parts_words 0 text.now) }
     {
         Words { text, at: 0 }

@@ -14,4 +14,4 @@ returns-clause-taken g c = λ is.
     cc
     in
     noted {R = g.row.R.Denot} g.R.Rule.VARIANT g.R.Rule.game c.args.piece.now c.args.self.now c.go_on.new.self _ c.go_on.ensures.state said
-    (left_out said (c.is_apart.ensures.0 c.if-not-is_apart.false) named (c.in_ok-are_prose.ensures c.if-not-branch.false) note) c.go_on.ensures.written (c.go_on.ensures.notes ∙ grows)
+    (left_out said (c.is_apart.ensures.0 c.if-not-is_apart.false) named (c.in_ok-are_aside.ensures c.if-not-branch.false) note) c.go_on.ensures.written (c.go_on.ensures.notes ∙ grows)
