@@ -146,11 +146,10 @@ fn have_cards<R: Rule>(
 fn columns_of_line(alloc: Global, line: &[u8]) -> Result<Vec<u8>, AllocError>
     ensures { IfOk result (λ lines. lines.items ≡ lines_of ColumnsInLine line.now) }
 {
-    let mut lines = Vec::new(alloc);
-    for byte in line {
-        lines.push(if ends_column(*byte) { b'\n' } else { *byte })?;
-    }
-    Ok(lines)
+    let bytes = line.iter();
+    bytes
+        .map(|byte| if ends_column(*byte) { b'\n' } else { *byte })
+        .collect(alloc)
 }
 
 fn is_joined(whole: &[u8], first: &[u8], second: &[u8]) -> bool

@@ -218,9 +218,5 @@ fn first_heard(is_said: bool) -> Heard
 pub(crate) fn moves_in(moves: &[u8]) -> usize
     ensures { result ≡ count_by (λ byte. byte == blank) moves.now }
 {
-    let mut count = 0;
-    for byte in moves {
-        count += usize::from(*byte == b' ');
-    }
-    count
+    moves.iter().filter(|byte| **byte == b' ').count()
 }

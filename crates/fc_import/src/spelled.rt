@@ -65,7 +65,10 @@ pub(crate) fn is_shown<R: Rule>(
     if layout != Layout::Columns && are_too_few(lines, board) {
         return false;
     }
-    is_read_as(lines, board)
+    match read_board::<R>(lines) {
+        Ok(read) => is_same(&read, board),
+        Err(_) => false,
+    }
 }
 
 // Whether the lines are fewer than eight, and the last column has a card.
@@ -88,15 +91,6 @@ fn are_below_eight(lines: &[u8]) -> bool
         left -= 1;
     }
     true
-}
-
-fn is_read_as<R: Rule>(lines: &[u8], board: &Board<R>) -> bool
-    ensures { IsTrue result ↔ Spells R.game lines.now board.now }
-{
-    match read_board::<R>(lines) {
-        Ok(read) => is_same(&read, board),
-        Err(_) => false,
-    }
 }
 
 /// Whether nothing is to be noted of lines that spell out the board.

@@ -117,11 +117,7 @@ fn is_dealt<R: Rule>(board: &Board<R>) -> bool
 pub(crate) fn fields_in(text: &[u8]) -> usize
     ensures { result ≡ count_by parts_fields text.now }
 {
-    let mut count = 0;
-    for byte in text {
-        count += usize::from(parts_fields(*byte));
-    }
-    count
+    text.iter().filter(|byte| parts_fields(**byte)).count()
 }
 
 /// How many words between blanks the text has, counted up to 65,535.

@@ -116,11 +116,9 @@ fn column_after(text: &[u8]) -> usize {
         Some(feed) => feed.saturating_add(1),
         None => 0,
     };
-    let mut column: usize = 1;
-    for byte in text.get(start..).unwrap_or(b"") {
-        column = column.saturating_add(usize::from(begins_character(*byte)));
-    }
-    column
+    let line = text.get(start..).unwrap_or(b"");
+    let before = line.iter().filter(|byte| begins_character(**byte)).count();
+    before.saturating_add(1)
 }
 
 // Whether a character of UTF-8 begins with this byte.

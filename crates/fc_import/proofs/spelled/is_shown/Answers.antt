@@ -1,6 +1,6 @@
 use Rattle.{fc_text.specs.Spelling.{Spells}, std.proofs.Common.{subst}}
 use Rattle.fc_import.proofs.TakingLemmas.{none_read, read_alone}
-use Rattle.fc_import.proofs.spelled.is_read_as.Goals as goal
+use Rattle.fc_import.proofs.spelled.is_shown.Goals as goal
 
 pub returns-in-Ok : goal.returns-in-Ok
 returns-in-Ok g c =
