@@ -8,8 +8,9 @@ ghost use Rattle.fc_import.specs.Words.{named_lines};
 use crate::cards::{by_columns, is_packed};
 use crate::layout::Layout;
 use crate::options::Noted;
+use crate::walk::line_feeds;
 use fc_board::{Board, Rule};
-use fc_text::{BoardView, Lines, read_board, write_board};
+use fc_text::{BoardView, read_board, write_board};
 use std::alloc::{AllocError, Global};
 
 /// Whether each line that names cards names those of the cells or of the next column of the board,
@@ -80,17 +81,11 @@ fn are_too_few<R: Rule>(lines: &[u8], board: &Board<R>) -> bool
     !board.column(7).is_empty() && are_below_eight(lines)
 }
 
+// Whether the lines are fewer than eight, by the line feeds before their last byte.
 fn are_below_eight(lines: &[u8]) -> bool
     ensures { IsTrue result → length (lines_from 0 lines.now) < 8 }
 {
-    let mut left: usize = 7;
-    for _line in Lines::new(lines) {
-        if left == 0 {
-            return false;
-        }
-        left -= 1;
-    }
-    true
+    line_feeds(&lines[..lines.len().saturating_sub(1)]) < 7
 }
 
 /// Whether nothing is to be noted of lines that spell out the board.
