@@ -1,4 +1,5 @@
 pub mod CollectionLemmas
+pub mod FewLineLemmas
 pub mod FrontLemmas
 pub mod NameLemmas
 pub mod PieceLemmas

@@ -30,7 +30,7 @@ no_longer : (place byte : ℕ) (lines : List Piece) → length lines ≤ 1 → l
 no_longer place byte [] one = omega arith
 no_longer place byte (line ∷ lines) one = one
 
-alone : (place byte : ℕ) (test : Bool) → length (if test then record { start = place; bytes = [] } ∷ [] else in_line place byte []) ≤ 1
+pub alone : (place byte : ℕ) (test : Bool) → length (if test then record { start = place; bytes = [] } ∷ [] else in_line place byte []) ≤ 1
 alone place byte true = omega arith
 alone place byte false = omega arith
 

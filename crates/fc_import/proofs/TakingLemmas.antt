@@ -1,24 +1,20 @@
 -- Lemmas on pieces of a text, and on the words of texts.
-use Rattle.std.proofs.Common.{◌++◌, ◌+◌, ◌-◌, ◌<◌, ◌==◌, ◌↔◌, ◌∙◌, ◌∷◌, ◌≡◌, ◌≢◌, ◌≤◌, ◌⊎◌, [], All, ap, append-nil, append_assoc}
-use Rattle.std.proofs.Common.{ap₂, arith, Bool, cond, drop, false, get_or, if◌then◌else◌, inl, inr, IsTrue, length, List, map, None}
-use Rattle.std.proofs.{Common.{refl, replicate, Some, subst, subst₂, suc, sym, take, true, zero, ℕ}, lemmas.Bool.Decides.{leb_tells}}
-use Rattle.std.proofs.lemmas.List.{at_drop_more, drop_all, Elements.{All-cons, All-nil}, get_or-append_right}
-use Rattle.std.proofs.lemmas.List.{get_or-replicate, length-drop, length-map, Sums.{count_by-le-length, length-filter, sum_by-cons}}
+use Rattle.std.proofs.Common.{◌++◌, ◌+◌, ◌<◌, ◌↔◌, ◌∙◌, ◌∷◌, ◌≡◌, ◌≢◌, ◌≤◌, ◌⊎◌, [], All, ap, append-nil, append_assoc}
+use Rattle.std.proofs.Common.{ap₂, arith, Bool, drop, false, if◌then◌else◌, inl, inr, IsTrue, length, List, map, None}
+use Rattle.std.proofs.{Common.{refl, Some, subst, subst₂, suc, sym, true, zero, ℕ}, lemmas.Bool.Decides.{leb_tells}}
+use Rattle.std.proofs.lemmas.List.{at_drop_more, drop_all, Elements.{All-cons, All-nil}}
 use Rattle.std.proofs.lemmas.{List.FromFn.{get_or-range_with_len, length-range_with_len}, Option.{slice_get_past}}
-use Rattle.std.specs.{List.{flat_map, prefix_len}, Option.{option_to_list}, Prelude.{slice_get, slice_index_or}}
+use Rattle.std.specs.{List.{flat_map}, Option.{option_to_list}, Prelude.{slice_get}}
 use Rattle.{fc_board.specs.{Boards.{Board, IsWellFormed}, Games.{Game}, Moves.{MoveList}}, fc_card.specs.{places}}
 use Rattle.{fc_board.specs.declared.rule.Variant.{Variant}, fc_text.specs.declared.fault.BoardFault.{BoardFault}}
 use Rattle.fc_text.proofs.{ReadingLemmas.{faultless-from_Spells, Spells-board_of}, SpellingLemmas.{spelled}}
-use Rattle.fc_text.specs.{Faults.{first_fault}, Lines.{in_line, lines_from, Piece, with_end}, Printed.{text_of}}
-use Rattle.fc_text.specs.Bytes.{line_feed}
-use Rattle.fc_text.specs.Rows.{Blank, columns_left, Comment, Content, is_empty, Line, line_of, rows_of, rows_within}
-use Rattle.fc_text.specs.{declared.board.reader.Section.TheVariants.{Column}, Spelling.{is_section, lines_of, Spells}}
+use Rattle.fc_text.specs.{Faults.{first_fault}, Lines.{Piece, with_end}, Printed.{text_of}, Spelling.{Spells}}
 use Rattle.fc_record.specs.{Printing.{header_text, list_line}, RecordTexts.{ends_line}}
 use Rattle.fc_import.{proofs.SilenceLemmas.{both_empty}, specs.Import.{a_board, AreLists, BoardNeedsNoNote, by_columns}}
 use Rattle.fc_import.specs.Import.{CanBe, HasNoHeader, headed, Imported, IsHeading, IsNamed, IsPacked, IsReadAs}
 use Rattle.fc_import.specs.Import.{ListNeedsNoNote, none_yet, once_more, one_more, Reading, SpellsOut}
 use Rattle.fc_import.specs.inside.{IsMade, part, printing, Says, state_of, Takes, TakesName}
-use Rattle.fc_import.specs.{Notes.{after, first_state, line_feeds, State, tally_of}, Scan.{named_cards}}
+use Rattle.fc_import.specs.{Notes.{after, first_state, State, tally_of}, Scan.{named_cards}}
 use Rattle.fc_import.specs.Words.{ended, is_between, named_lines}
 use Rattle.fc_import.specs.declared.{made.Made.{Made}, options.{ImportOptions.{ImportOptions}, Noted.{Noted}}}
 use Rattle.fc_import.specs.declared.options.Noted.TheVariants.{Changes, Doubts, Strict}
@@ -118,51 +114,6 @@ pub read_alone : (game : Game) (piece : List ℕ) (read board : Board) → Spell
     → read ≡ board
 read_alone game piece read board spells spelled =
     Spells-board_of game piece read spells ∙ sym (Spells-board_of game piece board spelled)
-
--- lines have no more rows than they are
-few_rows : (left : ℕ) (lines : List Line) → length (rows_within left lines) ≤ length lines
-few_rows left [] = omega arith
-few_rows left (Comment ∷ lines) = omega (arith, few_rows left lines)
-few_rows zero (Blank start ∷ lines) = omega (arith, few_rows zero lines)
-few_rows (suc left) (Blank start ∷ lines) = omega (arith, few_rows left lines)
-few_rows left (Content row ∷ lines) = omega (arith, few_rows (columns_left row.section left) lines)
-
--- `show` reads no card of an eighth column where the lines are fewer
-pub no_last_column : (game : Game) (piece : List ℕ) (board : Board) → length (lines_from 0 piece) < 8 → Spells game piece board
-    → slice_index_or board.columns 7 [] ≡ []
-no_last_column game piece board few spelled =
-    let lines = map line_of (lines_from 0 piece) in
-    let rows = rows_of piece in
-    let columns : length spelled.columns ≡ length (lines_of Column rows) = sym (length-map spelled.columns _)
-    ∙ sym (ap length spelled.columns_spelled) ∙ length-map (lines_of Column rows) _ in
-    let held = length-filter (λ row. is_section Column row.section) rows in
-    let count = count_by-le-length (λ row. is_section Column row.section) rows in
-    let fewer = few_rows 8 (drop (prefix_len is_empty lines) lines) in
-    let short : length spelled.columns < 8 = omega (arith, columns, held, count, fewer, length-drop (prefix_len is_empty lines) lines, length-map (lines_from 0 piece) line_of, few) in
-    ap (λ columns. get_or columns 7 []) spelled.columns_given
-    ∙ get_or-append_right spelled.columns (replicate (8 - length spelled.columns) []) (length spelled.columns) 7 [] refl (omega (arith, short))
-    ∙ get_or-replicate (8 - length spelled.columns) (7 - length spelled.columns) [] [] (omega (arith, short))
-
--- a line begins where a text does, or after a line feed
-lines_more : (place byte : ℕ) (ends : Bool) (lines : List Piece) (feeds : ℕ) → length lines ≤ feeds + 1
-    → length (if ends then record { start = place; bytes = [] } ∷ lines else in_line place byte lines) ≤ cond ends 1 0 + feeds + 1
-lines_more place byte true lines feeds few = omega (arith, few)
-lines_more place byte false [] feeds few = omega arith
-lines_more place byte false (line ∷ lines) feeds few = omega (arith, few)
-
-alone : (place byte : ℕ) (ends : Bool) → length (if ends then record { start = place; bytes = [] } ∷ [] else in_line place byte []) ≤ 1
-alone place byte true = omega arith
-alone place byte false = omega arith
-
--- a text has at most one line more than line feeds before its last byte
-pub few_lines : (place : ℕ) (text : List ℕ) (end : ℕ) → length text ≤ end + 1 → length (lines_from place text) ≤ line_feeds (take end text) + 1
-few_lines place [] end long = omega arith
-few_lines place (byte ∷ []) end long = omega (arith, alone place byte (byte == line_feed))
-few_lines place (byte ∷ next ∷ rest) zero long = absurd (omega (arith, long))
-few_lines place (byte ∷ next ∷ rest) (suc end) long =
-    subst (λ feeds. length (lines_from place (byte ∷ next ∷ rest)) ≤ feeds + 1)
-    (sym (sum_by-cons (λ byte. cond (byte == line_feed) 1 0) byte (take end (next ∷ rest))))
-    (lines_more place byte (byte == line_feed) (lines_from (place + 1) (next ∷ rest)) (line_feeds (take end (next ∷ rest))) (few_lines (place + 1) (next ∷ rest) end (omega (arith, long))))
 
 -- and where it finds a fault, none
 pub none_read : (game : Game) (piece : List ℕ) (board : Board) (fault : BoardFault)

@@ -2,9 +2,9 @@
 ghost use Rattle.std.specs.Prelude.{◌++◌, ◌↔◌, ◌≡◌, ◌⊎◌, All, IfOk, IsTrue, length, OnOk, true};
 ghost use Rattle.fc_text.specs.Lines.{lines_from};
 ghost use Rattle.fc_import.specs.Import.{AreLists, IsNoBoard, moves_of, moves_of_line};
-ghost use Rattle.fc_import.specs.Scan.{cards_in, HasFewMoves, is_list, IsProse, IsQuiet};
-ghost use Rattle.fc_import.specs.{Scan.{lists_moves, words_of}, Seen.{cards_of, IsHeard, IsSeen}};
-ghost use Rattle.fc_import.specs.inside.{IsAside};
+ghost use Rattle.fc_import.specs.{inside.{IsAside}, Scan.{cards_in, HasFewMoves, is_list, IsProse}};
+ghost use Rattle.fc_import.specs.Scan.{IsQuiet, lists_moves, words_of};
+ghost use Rattle.fc_import.specs.Seen.{cards_of, IsHeard, IsSeen};
 
 use crate::hearing::{LineHeard, is_drawn, is_in_words};
 use crate::scan::{LineSeen, Placed};

@@ -1,5 +1,5 @@
 use Rattle.std.proofs.{Common.{◌<◌, arith}, lemmas.Bool.{ltb-true}}
-use Rattle.fc_import.proofs.TakingLemmas.{few_lines}
+use Rattle.fc_import.proofs.FewLineLemmas.{few_lines}
 use Rattle.fc_import.proofs.spelled.are_below_eight.Goals as goal
 
 pub returns : goal.returns

@@ -1,5 +1,5 @@
 use Rattle.std.proofs.Common.{◌==◌, ◌∙◌, ◌≡◌, ap, false, length, sym, true}
-use Rattle.fc_import.proofs.TakingLemmas.{no_last_column}
+use Rattle.fc_import.proofs.FewLineLemmas.{no_last_column}
 use Rattle.fc_import.proofs.spelled.are_too_few.Goals as goal
 
 pub returns-then-not-is_empty : goal.returns-then-not-is_empty
