@@ -1,9 +1,6 @@
-use Rattle.std.proofs.Common.{◌&&◌, ◌++◌, ◌==◌, ◌∙◌, ◌∷◌, ◌≡◌, [], ap, ap₂, arith, Bool, get_or, List, refl, sym, true}
+use Rattle.std.proofs.Common.{◌&&◌, ◌++◌, ◌==◌, ◌∙◌, ◌∷◌, ◌≡◌, [], ap, ap₂, arith, Bool, get_or, List, sym, true}
 use Rattle.std.proofs.{Common.{ℕ}, lemmas.{Bool.{and_parts, Decides.{nat_tests}, eqb-true}, List.{take_all, take_more}}}
 use Rattle.fc_text.proofs.printed.are_same.Goals as goal
-
-pub loop-at-init : goal.loop-at-init
-loop-at-init g c = (λ same. refl, λ alike. refl)
 
 both_true : (one other : Bool) → one ≡ true → other ≡ true → (one && other) ≡ true
 both_true one other p q = ap₂ (λ one other. one && other) p q
@@ -29,6 +26,3 @@ returns-clause-alike g c = λ same.
     sym (take_all c.loop-at.at c.args.these.now (omega (arith, c.told-these, c.loop-at-test.false)))
     ∙ c.loop-at.invariant.0 same
     ∙ take_all c.loop-at.at c.args.those.now (omega (arith, c.told-those, c.loop-at-test.false))
-
-pub returns-clause-found : goal.returns-clause-found
-returns-clause-found g c = c.loop-at.invariant.1
