@@ -1,6 +1,6 @@
 -- The first byte that a search finds, as the place that a count gives.
 use Rattle.{fc_text.specs.reader.{number_or, rank_part, suit_part}, memchr.specs.Find.{IsFirstByte}}
-use Rattle.std.proofs.Common.{◌*◌, ◌+◌, ◌/◌, ◌<◌, ◌==◌, ◌∙◌, ◌∷◌, ◌≡◌, ◌≤◌, [], ap, ap₂, arith, Bool, eqb, get_or}
+use Rattle.std.proofs.Common.{◌*◌, ◌+◌, ◌<◌, ◌==◌, ◌∙◌, ◌∷◌, ◌≡◌, ◌≤◌, [], ap, ap₂, arith, Bool, eqb, get_or}
 use Rattle.std.proofs.Common.{IsSome, leb, length, List, map, None, Option, position, refl, Some, subst, sym, true, ℕ}
 use Rattle.std.proofs.lemmas.Bool.{agree_below, agree_below_at, eqb-true, false_from_ne_true, leb-true}
 use Rattle.std.proofs.lemmas.List.{FromFn.{get_or-range_with_len, length-range_with_len}, get_or-map}
@@ -34,24 +34,6 @@ at_letter code index letter e below =
 -- no code is above this number
 pub at_most : (code : ℕ → ℕ) (most letter : ℕ) → agree_below (λ letter. leb (code letter) most) (λ _. true) 256 ≡ true → letter < 256 → code letter ≤ most
 at_most code most letter all below = leb-true (code letter) most (agree_below_at (λ letter. leb (code letter) most) (λ _. true) 256 letter all below)
-
--- a low number is spelled, and a high one names nothing
-pub low_is_some : (o : Option ℕ) (other limit n : ℕ) → limit ≤ other → n ≡ number_or other o → n < limit → Some n ≡ o
-low_is_some None other limit n far e low = absurd (omega arith)
-low_is_some (Some number) other limit n far e low = ap Some e
-
-pub high_is_none : (o : Option ℕ) (other limit n : ℕ) → ((number : ℕ) → o ≡ Some number → number < limit) → n ≡ number_or other o → limit ≤ n → None ≡ o
-high_is_none None other limit n below e high = refl
-high_is_none (Some number) other limit n below e high = let small = below number refl in absurd (omega arith)
-
--- the same of numbers that are four times as high
-pub fourth_is_some : (o : Option ℕ) (n : ℕ) → n ≡ number_or 64 (option_map (λ number. 4 * number) o) → n < 52 → Some (n / 4) ≡ o
-fourth_is_some None n e low = absurd (omega arith)
-fourth_is_some (Some number) n e low = ap Some (omega arith)
-
-pub fourth_is_none : (o : Option ℕ) (n : ℕ) → ((number : ℕ) → o ≡ Some number → number < 13) → n ≡ number_or 64 (option_map (λ number. 4 * number) o) → 52 ≤ n → None ≡ o
-fourth_is_none None n below e high = refl
-fourth_is_none (Some number) n below e high = let small = below number refl in absurd (omega arith)
 
 -- ---- letters by numbers that join to a card are those that the card is printed in
 joined : (place suit : Option ℕ) (card : ℕ) → card ≡ number_or 64 (option_map (λ place. 4 * place) place) + number_or 64 suit → card < 52
