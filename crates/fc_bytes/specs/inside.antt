@@ -11,9 +11,10 @@ use Rattle.fc_board.specs.declared.moves.Place.TheVariants.{Cell as ToCell, Colu
 use Rattle.fc_board.specs.declared.moves.Source.{Source}
 use Rattle.fc_board.specs.declared.moves.Source.TheVariants.{Cell as FromCell, Column as FromColumn}
 use Rattle.fc_board.specs.declared.run_move.RunMove.{RunMove, TheVariants.{One, Run}}
-use Rattle.fc_bytes.specs.class_hash.{card_weight, least_sum, moved_sums, place_weight, renamed_place, sums_in}
-use Rattle.fc_bytes.specs.{class_hash.{turned}, declared.board.BoardBytes.{BoardBytes}}
-use Rattle.fc_bytes.specs.declared.class_hash.{MovedSums.{MovedSums}, PlacedWord.{PlacedWord}}
+use Rattle.fc_bytes.specs.class_hash.{card_weight, least_sum, moved_sums, place_weight}
+use Rattle.fc_bytes.specs.class_hash.{renamed_place, sums_in, turned}
+use Rattle.fc_bytes.specs.declared.{board.BoardBytes.{BoardBytes}, class_hash.MovedSums.{MovedSums}}
+use Rattle.fc_bytes.specs.declared.class_hash.PlacedWord.{PlacedWord}
 
 -- the byte of a card
 abbrev pub card_byte : ℕ → ℕ
