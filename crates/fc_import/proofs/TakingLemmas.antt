@@ -10,8 +10,8 @@ use Rattle.{fc_board.specs.declared.rule.Variant.{Variant}, fc_text.specs.declar
 use Rattle.fc_text.proofs.{ReadingLemmas.{faultless-from_Spells, Spells-board_of}, SpellingLemmas.{spelled}}
 use Rattle.fc_text.specs.{Faults.{first_fault}, Lines.{Piece, with_end}, Printed.{text_of}, Spelling.{Spells}}
 use Rattle.fc_record.specs.{Printing.{header_text, list_line}, RecordTexts.{ends_line}}
-use Rattle.fc_import.{proofs.SilenceLemmas.{both_empty}, specs.Import.{a_board, AreLists, BoardNeedsNoNote, by_columns}}
-use Rattle.fc_import.specs.Import.{CanBe, HasNoHeader, headed, Imported, IsHeading, IsNamed, IsPacked, IsReadAs}
+use Rattle.fc_import.{proofs.SilenceLemmas.{both_empty}, specs.Import.{a_board, AreLists, BoardNeedsNoNote}}
+use Rattle.fc_import.specs.Import.{CanBe, HasNoHeader, HasLines, headed, Imported, IsHeading, IsNamed, IsReadAs}
 use Rattle.fc_import.specs.Import.{ListNeedsNoNote, none_yet, once_more, one_more, Reading, SpellsOut}
 use Rattle.fc_import.specs.inside.{IsMade, part, printing, Says, state_of, Takes, TakesName}
 use Rattle.fc_import.specs.{Notes.{after, first_state, State, tally_of}, Scan.{named_cards}}
@@ -121,11 +121,11 @@ pub none_read : (game : Game) (piece : List ℕ) (board : Board) (fault : BoardF
 none_read game piece board fault is spelled =
     let e = sym is ∙ faultless-from_Spells game piece board spelled in cc
 
--- lines that spell out a board, and that `show` does not read as it, are its cells and columns
-pub spelled_by_columns : (game : Game) (piece : List ℕ) (board : Board) → ¬ Spells game piece board → SpellsOut game piece board
-    → (named_lines piece ≡ by_columns board) × IsPacked board
-spelled_by_columns game piece board unread (inl spelled) = absurd (unread spelled)
-spelled_by_columns game piece board unread (inr columns) = columns
+-- lines that spell out a board, and that `show` does not read as it, are its lines
+pub spelled_by_lines : (game : Game) (piece : List ℕ) (board : Board) → ¬ Spells game piece board → SpellsOut game piece board
+    → HasLines piece board
+spelled_by_lines game piece board unread (inl spelled) = absurd (unread spelled)
+spelled_by_lines game piece board unread (inr lines) = lines
 
 -- lines that need no note of a board spell it out
 pub spelled_out : (asked : Noted) (game : Game) (piece : List ℕ) (board : Board) → IsWellFormed game board

@@ -64,9 +64,15 @@ pub record IsPacked (board : Board) : Type 0 where
   pub columns : All (λ column. column ≢ []) board.columns
   pub cells : ArePacked board.cells
 
--- `show` reads the lines as the board; or each line that names cards names those of the cells or of the next column, and none of these is empty
+-- each line that names cards names those of the cells or of the next column, none of these is empty, and a line with the number of a column is that one
+pub record HasLines (piece : Text) (board : Board) : Type 0 where
+  pub named : named_lines piece ≡ by_columns board
+  pub packed : IsPacked board
+  pub told : tells_columns Columns piece board ≡ true
+
+-- `show` reads the lines as the board, or they are its lines
 abbrev pub SpellsOut : Game → (piece : Text) → Board → Type 0
-SpellsOut game piece board = Spells game piece board ⊎ ((named_lines piece ≡ by_columns board) × IsPacked board)
+SpellsOut game piece board = Spells game piece board ⊎ HasLines piece board
 
 -- what the lines are where nothing is noted of a board that they are read as: they spell it out or, where each change is noted, they are it as it is printed
 abbrev pub BoardNeedsNoNote : Noted → Game → (piece : Text) → Board → Type 0

@@ -1,4 +1,4 @@
--- Under which columns the cards of rows stand.
+-- Under which columns the cards of rows stand, and which column a line with a number is.
 use Rattle.std.specs.{List.{count_by, list_all, list_any}, Option.{option_or}, Prelude.{◌%◌, ◌&&◌}}
 use Rattle.std.specs.Prelude.{◌++◌, ◌-◌, ◌/◌, ◌==◌, ◌||◌, ◌∷◌, [], Bool, codes, false}
 use Rattle.std.specs.Prelude.{if◌then◌else◌, length, List, min, nat_lt, None, not, Option}
@@ -6,8 +6,9 @@ use Rattle.std.specs.Prelude.{slice_index_or, Some, take, true, ℕ}
 use Rattle.{fc_board.specs.Boards.{Board}, fc_card.specs.{places, Types.{Card, Pile, Text}}}
 use Rattle.fc_text.specs.{Bytes.{tab}, Lines.{lines_from, Piece, words}}
 use Rattle.fc_text.specs.Notation.{separates_tokens}
-use Rattle.fc_import.specs.Scan.{named_card, uncommented, words_of}
-use Rattle.fc_import.specs.declared.layout.Layout.{Layout, TheVariants.{Rows}}
+use Rattle.fc_import.specs.{Labels.{label_of}, Scan.{named_card, uncommented, words_of}}
+use Rattle.fc_import.specs.declared.labels.LabelKind.{LabelKind, TheVariants.{Column}}
+use Rattle.fc_import.specs.declared.layout.Layout.{Layout, TheVariants.{Columns, Rows}}
 use Rattle.fc_import.specs.declared.strips.Strips.{Strips, TheVariants.{Bytes, Fields, Words}}
 
 -- -------- Where each column has its strip of a line. From: how books, sites, programs and spreadsheets lay rows out.
@@ -78,7 +79,20 @@ are_below strips board line =
     let has = has_strips strips board (uncommented line) in
     list_all (is_below strips has board (uncommented line)) (words_of line)
 
--- each word of rows that names a card of a column is in that column's strip
+-- -------- Whether lines with the number of a column are that column. From: this project's profile.
+
+-- no card, or one of the column of the number that the label says, if it says one
+abbrev pub is_of_label : LabelKind → Board → Option Card → Bool
+is_of_label (Column number) board (Some card) = has_card (slice_index_or board.columns (number - 1) []) card
+is_of_label label board card = true
+
+abbrev pub is_labelled : Board → (line : Text) → Bool
+is_labelled board line = list_all (λ word. is_of_label (label_of (uncommented line)) board (named_card word.0.bytes)) (words_of line)
+
+-- -------- Both.
+
+-- each word of rows that names a card of a column is in that column's strip, and each card in a line with the number of a column is in that column
 abbrev pub tells_columns : Layout → (piece : Text) → Board → Bool
+tells_columns Columns piece board = list_all (λ line. is_labelled board line.bytes) (lines_from 0 piece)
 tells_columns (Rows strips) piece board = list_all (λ line. are_below strips board line.bytes) (lines_from 0 piece)
 tells_columns layout piece board = true

@@ -509,6 +509,7 @@ impl<R: Rule> Importer<R> {
                 let words = move_reason(self.made.alloc, number, fault)?;
                 self.made.refuse_list(lines, 0, words.as_slice())
             }
+            ListRead::TooMany => self.made.refuse_list(lines, 0, NO_LIST),
         }
     }
 }

@@ -5,10 +5,16 @@ ghost use Rattle.fc_import.specs.Labels.{all_words, cells_names, column_names, c
 ghost use Rattle.fc_import.specs.Labels.{foundations_names, is_among, is_column_number};
 ghost use Rattle.fc_import.specs.Labels.{is_numbered, label_of, said_by_front, said_by_one};
 ghost use Rattle.fc_import.specs.Labels.{said_by_two, said_by_words, says_column};
-ghost use Rattle.fc_import.specs.Seen.{piece_of};
+ghost use Rattle.fc_import.specs.{Seen.{piece_of}, Strips.{is_labelled, is_of_label, tells_columns}};
+ghost use Rattle.fc_import.specs.declared.layout.Layout.TheVariants.{Columns};
 
+use crate::scan::named_card;
 use crate::solver::{count_words, word_at};
+use crate::strips::is_in_column;
 use crate::words::{Word, Words, before_mark, uncommented};
+use fc_board::{Board, Rule};
+use fc_card::Card;
+use fc_text::Lines;
 
 /// What a label says that its line is.
 #[derive(Clone, Copy, PartialEq, Eq, Debug, Default)]
@@ -35,6 +41,44 @@ pub(crate) fn label_of(text: &[u8], front: &[u8]) -> LabelKind
         said_by_front(text)
     } else {
         said_by_words(front)
+    }
+}
+
+/// Whether no line with the number of a column names a card of another column.
+pub(crate) fn are_labelled<R: Rule>(lines: &[u8], board: &Board<R>) -> bool
+    ensures { result ≡ tells_columns Columns lines.now board.now }
+{
+    for line in Lines::new(lines) {
+        if !is_labelled(line.text, board) {
+            return false;
+        }
+    }
+    true
+}
+
+fn is_labelled<R: Rule>(line: &[u8], board: &Board<R>) -> bool
+    ensures { result ≡ is_labelled board.now line.now }
+{
+    let text = uncommented(line);
+    let label = label_of(text, before_mark(b':', text));
+    for word in Words::new(text) {
+        if !is_of_label(label, board, named_card(word.text)) {
+            return false;
+        }
+    }
+    true
+}
+
+// Whether there is no card, or it is in the column of the number that the label says, if it says
+// one.
+fn is_of_label<R: Rule>(label: LabelKind, board: &Board<R>, card: Option<Card>) -> bool
+    ensures { result ≡ is_of_label label board.now card }
+{
+    match (label, card) {
+        (LabelKind::Column(number), Some(card)) => {
+            is_in_column(board, usize::from(number.saturating_sub(1)), card)
+        }
+        _ => true,
     }
 }
 

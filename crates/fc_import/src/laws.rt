@@ -158,6 +158,18 @@ pub fn rows_tell_columns()
         (of_columns ((50 ∷ 46 ∷ []) ∷ (51 ∷ []) ∷ [])) ≡ false }
 {}
 
+/// A line with the number of a column, as a label or before a dot, is that column, and no other.
+pub fn numbers_are_those_of_columns()
+    ensures told { tells_columns Columns (codes "1. KH" ++ line_feed ∷ codes "Column 2: KS")
+        (of_columns ((50 ∷ []) ∷ (51 ∷ []) ∷ [])) ≡ true }
+    ensures exchanged { tells_columns Columns (codes "2: KH" ++ line_feed ∷ codes "1: KS")
+        (of_columns ((50 ∷ []) ∷ (51 ∷ []) ∷ [])) ≡ false }
+    ensures one { tells_columns Columns (codes "KH" ++ line_feed ∷ codes "3. KS")
+        (of_columns ((50 ∷ []) ∷ (51 ∷ []) ∷ [])) ≡ false }
+    ensures left_out { tells_columns Columns (codes "2) KH")
+        (of_columns ([] ∷ (50 ∷ []) ∷ [])) ≡ true }
+{}
+
 /// Each sign of a suit, filled or outlined, is the letter of its suit, before the rank too; a
 /// playing card is its rank, its suit and a blank, and a letter as wide as a sign of Chinese is
 /// that letter; a no-break space and a wide one are blanks; a byte order mark, the mark after a

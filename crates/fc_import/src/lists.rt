@@ -12,6 +12,8 @@ pub(crate) enum ListRead {
     Moves(Form, Vec<u8>),
     /// The move of this number, from 1, does not play, and why.
     Illegal(usize, Option<PlayFault>),
+    /// There are more moves than a list has.
+    TooMany,
 }
 
 /// How many cards a move to an empty column takes where it does not say it.
@@ -64,8 +66,15 @@ fn one_card_on<R: Rule>(
             }
         }
         Err(MovesFault::Memory) => Err(AllocError),
-        Err(_) => Ok(ListRead::Illegal(1, None)),
+        Err(MovesFault::TooMany(_)) => Ok(ListRead::TooMany),
+        Err(MovesFault::BadToken(place)) => Ok(ListRead::Illegal(number_at(words, place), None)),
     }
+}
+
+// The number, from 1, of the word at this place.
+fn number_at(words: &[u8], place: usize) -> usize {
+    let before = words.get(..place).unwrap_or(words);
+    Tokens::new(before).count().saturating_add(1)
 }
 
 // The moves of several cards that the words are.

@@ -23,7 +23,7 @@ ghost use Rattle.fc_import.specs.declared.tally.Fate.TheVariants.{ABoard};
 
 use crate::cards::{are_in, named_lines, told_lines};
 use crate::hearing::is_in_words;
-use crate::labels::says_column;
+use crate::labels::{are_labelled, says_column};
 use crate::layout::{Layout, layout_words};
 use crate::naming::{copied, name_given, names_game, numbered, title_or_number};
 use crate::options::{ImportOptions, LinesAre, Noted};
@@ -350,7 +350,8 @@ impl<R: Rule> Made<R> {
         numbered(self.alloc, header, counted(self.named, 1))
     }
 
-    // The cards that the lines name, if they tell under which columns these stand.
+    // The cards that the lines name, if they tell under which columns these stand, or are the
+    // columns of their numbers.
     fn told_cards(
         &self,
         piece: &[u8],
@@ -362,8 +363,10 @@ impl<R: Rule> Made<R> {
         ensures told { IfOk result (λ told. IsSome told
             → tells_columns layout piece.now board.now ≡ true) }
     {
-        if let Layout::Rows(strips) = layout {
-            return told_lines(self.alloc, strips, piece, board);
+        match layout {
+            Layout::Rows(strips) => return told_lines(self.alloc, strips, piece, board),
+            Layout::Columns if !are_labelled(piece, board) => return Ok(None),
+            _ => {}
         }
         let named = named_lines(self.alloc, piece)?;
         Ok(Some(named))

@@ -2,10 +2,11 @@
 ghost use Rattle.std.specs.Prelude.{◌<◌, ◌↔◌, ◌≡◌, IfOk, IsTrue, length};
 ghost use Rattle.fc_board.specs.Boards.{IsWellFormed};
 ghost use Rattle.fc_text.specs.{Lines.{lines_from}, Printed.{text_of}, Spelling.{Spells}};
-ghost use Rattle.fc_import.specs.Import.{BoardNeedsNoNote, by_columns, IsPacked, SpellsOut};
+ghost use Rattle.fc_import.specs.Import.{BoardNeedsNoNote, HasLines, SpellsOut};
 ghost use Rattle.fc_import.specs.Words.{named_lines};
 
 use crate::cards::{by_columns, is_packed};
+use crate::labels::are_labelled;
 use crate::layout::Layout;
 use crate::options::Noted;
 use crate::walk::line_feeds;
@@ -13,23 +14,23 @@ use fc_board::{Board, Rule};
 use fc_text::{BoardView, read_board, write_board};
 use std::alloc::{AllocError, Global};
 
-/// Whether each line that names cards names those of the cells or of the next column of the board,
-/// and none of these is empty.
-pub(crate) fn has_columns<R: Rule>(
+// Whether the lines, which name these cards, are those of the cells and the columns of the board.
+fn has_lines<R: Rule>(
     alloc: Global,
+    lines: &[u8],
     named: &[u8],
     board: &Board<R>,
 ) -> Result<bool, AllocError>
-    ensures has { IfOk result (λ has. IsTrue has
-        ↔ ((named.now ≡ by_columns board.now) × IsPacked board.now)) }
+    requires named { named.now ≡ named_lines lines.now }
+    ensures has { IfOk result (λ has. IsTrue has ↔ HasLines lines.now board.now) }
     ensures well_formed { IsWellFormed R.game board.now }
 {
     let columns = by_columns(alloc, board)?;
-    Ok(is_equal(named, columns.as_slice()) && is_packed(board))
+    Ok(is_equal(named, columns.as_slice()) && is_packed(board) && are_labelled(lines, board))
 }
 
 /// Whether `show` reads the lines, which name these cards, as the board, which is known, or they are
-/// its cells and columns.
+/// those of its cells and columns.
 pub(crate) fn spells_out<R: Rule>(
     alloc: Global,
     lines: &[u8],
@@ -45,8 +46,8 @@ pub(crate) fn spells_out<R: Rule>(
     if is_shown {
         return Ok(true);
     }
-    let has_columns = has_columns(alloc, named, board)?;
-    Ok(has_columns)
+    let has_lines = has_lines(alloc, lines, named, board)?;
+    Ok(has_lines)
 }
 
 /// Whether `show` reads the lines, which look like this layout, as the board, which may be known:

@@ -35,7 +35,8 @@ pub(crate) fn is_told<R: Rule>(card: &Option<Card>, board: &Board<R>, strip: Opt
     }
 }
 
-fn is_in_column<R: Rule>(board: &Board<R>, number: usize, card: Card) -> bool
+/// Whether the column of this number, from 0, has the card.
+pub(crate) fn is_in_column<R: Rule>(board: &Board<R>, number: usize, card: Card) -> bool
     ensures { result ≡ has_card (slice_index_or board.now.columns number []) card }
 {
     // The board has eight columns.
