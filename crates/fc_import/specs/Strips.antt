@@ -8,7 +8,7 @@ use Rattle.fc_text.specs.{Bytes.{tab}, Lines.{lines_from, Piece, words}}
 use Rattle.fc_text.specs.Notation.{separates_tokens}
 use Rattle.fc_import.specs.{Labels.{label_of}, Scan.{named_card, uncommented, words_of}}
 use Rattle.fc_import.specs.declared.labels.LabelKind.{LabelKind, TheVariants.{Column}}
-use Rattle.fc_import.specs.declared.layout.Layout.{Layout, TheVariants.{Columns, Rows}}
+use Rattle.fc_import.specs.declared.layout.Layout.{Layout, TheVariants.{Rows}}
 use Rattle.fc_import.specs.declared.strips.Strips.{Strips, TheVariants.{Bytes, Fields, Words}}
 
 -- -------- Where each column has its strip of a line. From: how books, sites, programs and spreadsheets lay rows out.
@@ -89,10 +89,9 @@ is_of_label label board card = true
 abbrev pub is_labelled : Board → (line : Text) → Bool
 is_labelled board line = list_all (λ word. is_of_label (label_of (uncommented line)) board (named_card word.0.bytes)) (words_of line)
 
--- -------- Both.
+-- -------- Whether lines tell the columns of their cards. From: this project's profile.
 
--- each word of rows that names a card of a column is in that column's strip, and each card in a line with the number of a column is in that column
+-- each word of rows that names a card of a column is in that column's strip; in other layouts each card in a line with the number of a column is in that column
 abbrev pub tells_columns : Layout → (piece : Text) → Board → Bool
-tells_columns Columns piece board = list_all (λ line. is_labelled board line.bytes) (lines_from 0 piece)
 tells_columns (Rows strips) piece board = list_all (λ line. are_below strips board line.bytes) (lines_from 0 piece)
-tells_columns layout piece board = true
+tells_columns layout piece board = list_all (λ line. is_labelled board line.bytes) (lines_from 0 piece)

@@ -6,11 +6,12 @@ ghost use Rattle.{fc_board.specs.declared.rule.Variant.{Variant}, fc_card.specs.
 ghost use Rattle.fc_board.specs.Boards.{Board};
 ghost use Rattle.fc_board.specs.Games.{bakers_game, eight_off, freecell, Game, game_of};
 ghost use Rattle.fc_board.specs.Moves.{MoveList};
-ghost use Rattle.fc_text.specs.{Bytes.{line_feed}, Lines.{lines_from, Piece}, Spelling.{board_of}};
+ghost use Rattle.fc_text.specs.{Bytes.{line_feed}, Lines.{lines_from, Piece}, Spelling.{board_of, Spells}};
+ghost use Rattle.fc_text.specs.Printed.{text_of};
 ghost use Rattle.fc_record.specs.{Grammar.{begins_with, heading_of}, RecordTexts.{header_mark}};
 ghost use Rattle.fc_collect.specs.declared.streams.faults.Summary.{Summary};
 ghost use Rattle.fc_import.specs.Import.{AreIn, BoardNeedsNoNote, count_text, Imported, IsApart};
-ghost use Rattle.fc_import.specs.Import.{IsBuilt, IsNoBoard, IsPrinted, IsShown, lines_in};
+ghost use Rattle.fc_import.specs.Import.{IsBuilt, IsNoBoard, IsPrinted, IsReadAs, IsShown, lines_in};
 ghost use Rattle.fc_import.specs.Import.{ListNeedsNoNote, Makes, may_be, most_dealt, numbered};
 ghost use Rattle.fc_import.specs.{Import.{Reading, refusals, StaysLast}, inside.{of_columns}};
 ghost use Rattle.fc_import.specs.Notes.{name_by, Place, place_text, SaysUnless, State};
@@ -158,7 +159,8 @@ pub fn rows_tell_columns()
         (of_columns ((50 ∷ 46 ∷ []) ∷ (51 ∷ []) ∷ [])) ≡ false }
 {}
 
-/// A line with the number of a column, as a label or before a dot, is that column, and no other.
+/// A line with the number of a column, as a label or before a dot, is that column, and no other,
+/// where lines are read as columns that `show` does not read.
 pub fn numbers_are_those_of_columns()
     ensures told { tells_columns Columns (codes "1. KH" ++ line_feed ∷ codes "Column 2: KS")
         (of_columns ((50 ∷ []) ∷ (51 ∷ []) ∷ [])) ≡ true }
@@ -168,6 +170,11 @@ pub fn numbers_are_those_of_columns()
         (of_columns ((50 ∷ []) ∷ (51 ∷ []) ∷ [])) ≡ false }
     ensures left_out { tells_columns Columns (codes "2) KH")
         (of_columns ([] ∷ (50 ∷ []) ∷ [])) ≡ true }
+    ensures commented { tells_columns Columns (codes "2. KH # so: first")
+        (of_columns ((50 ∷ []) ∷ (51 ∷ []) ∷ [])) ≡ false }
+    ensures read { (game : Game) (piece : Text) (board : Board) → IsReadAs AsColumns game piece board
+        → ¬ Spells game piece board → piece ≢ text_of board
+        → tells_columns Columns piece board ≡ true }
 {}
 
 /// Each sign of a suit, filled or outlined, is the letter of its suit, before the rank too; a

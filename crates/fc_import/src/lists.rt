@@ -1,5 +1,6 @@
 //! The list of moves that a piece names, played on a board.
 
+use crate::hearing::moves_in;
 use crate::made::Form;
 use fc_board::{Board, PlayFault, Rule};
 use fc_text::{MovesFault, Tokens, read_moves, read_runs};
@@ -67,14 +68,11 @@ fn one_card_on<R: Rule>(
         }
         Err(MovesFault::Memory) => Err(AllocError),
         Err(MovesFault::TooMany(_)) => Ok(ListRead::TooMany),
-        Err(MovesFault::BadToken(place)) => Ok(ListRead::Illegal(number_at(words, place), None)),
+        Err(MovesFault::BadToken(place)) => {
+            let number = moves_in(words.get(..place).unwrap_or(words));
+            Ok(ListRead::Illegal(number, None))
+        }
     }
-}
-
-// The number, from 1, of the word at this place.
-fn number_at(words: &[u8], place: usize) -> usize {
-    let before = words.get(..place).unwrap_or(words);
-    Tokens::new(before).count().saturating_add(1)
 }
 
 // The moves of several cards that the words are.

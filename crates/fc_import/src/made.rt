@@ -350,8 +350,8 @@ impl<R: Rule> Made<R> {
         numbered(self.alloc, header, counted(self.named, 1))
     }
 
-    // The cards that the lines name, if they tell under which columns these stand, or are the
-    // columns of their numbers.
+    // The cards that the lines name, if those with numbers are the columns of these, or rows tell
+    // under which columns their cards stand.
     fn told_cards(
         &self,
         piece: &[u8],
@@ -363,10 +363,11 @@ impl<R: Rule> Made<R> {
         ensures told { IfOk result (λ told. IsSome told
             → tells_columns layout piece.now board.now ≡ true) }
     {
-        match layout {
-            Layout::Rows(strips) => return told_lines(self.alloc, strips, piece, board),
-            Layout::Columns if !are_labelled(piece, board) => return Ok(None),
-            _ => {}
+        if let Layout::Rows(strips) = layout {
+            return told_lines(self.alloc, strips, piece, board);
+        }
+        if !are_labelled(piece, board) {
+            return Ok(None);
         }
         let named = named_lines(self.alloc, piece)?;
         Ok(Some(named))

@@ -1,7 +1,8 @@
 //! The moves that words name, one word after another.
 ghost use Rattle.std.specs.Char.{is_ascii_alphabetic, is_ascii_lowercase};
 ghost use Rattle.std.specs.{List.{list_all, list_any, prefix_len}, Option.{is_some}};
-ghost use Rattle.std.specs.Prelude.{◌++◌, ◌==◌, ◌∷◌, ◌≡◌, drop, IfOk, if◌then◌else◌, OnOk};
+ghost use Rattle.std.specs.Prelude.{◌++◌, ◌==◌, ◌||◌, ◌∷◌, ◌≡◌, drop, false, IfOk};
+ghost use Rattle.std.specs.Prelude.{if◌then◌else◌, None, OnOk};
 ghost use Rattle.std.specs.Str.{str_eq_ignore_ascii_case, str_to_ascii_lowercase};
 ghost use Rattle.fc_card.specs.Types.{Text};
 ghost use Rattle.fc_text.specs.{Bytes.{blank, is_gap}, reader.{run_named}};
@@ -72,15 +73,27 @@ impl Heard {
             → said_of moves result ≡ before_dots (said_of moves self) next.now }
     {
         if has_dots(next) {
-            return Heard {
-                from: None,
-                pointed: false,
-                all: false,
-                sure: self.sure,
-                led: self.led,
-            };
+            self.with_other(false)
+        } else {
+            self
         }
-        self
+    }
+
+    // Passes a word that is of no move, or of one in a form that is not read.
+    fn with_other(self, is_unread: bool) -> Heard
+        ensures from { result.from ≡ None }
+        ensures pointed { result.pointed ≡ false }
+        ensures all { result.all ≡ false }
+        ensures sure { result.sure ≡ self.sure }
+        ensures led { result.led ≡ (self.led || is_unread) }
+    {
+        Heard {
+            from: None,
+            pointed: false,
+            all: false,
+            led: self.led || is_unread,
+            ..self
+        }
     }
 
     fn take_first<R: Rule>(
@@ -99,18 +112,10 @@ impl Heard {
             return Ok(Heard {
                 from: Some(word[0]),
                 pointed: is_pointed(next),
-                all: self.all,
-                sure: self.sure,
-                led: self.led,
+                ..self
             });
         }
-        Ok(Heard {
-            from: None,
-            pointed: false,
-            all: false,
-            sure: self.sure,
-            led: self.led || is_unread::<R>(word, next),
-        })
+        Ok(self.with_other(is_unread::<R>(word, next)))
     }
 
     fn take_target<R: Rule>(
@@ -128,13 +133,7 @@ impl Heard {
         if word.len() == 1 {
             return self.take_letters::<R>(&[from, word[0]], moves);
         }
-        Ok(Heard {
-            from: None,
-            pointed: false,
-            all: false,
-            sure: self.sure,
-            led: self.led,
-        })
+        Ok(self.with_other(false))
     }
 
     // Takes the letters of a pile and of the target after an arrow.
@@ -146,13 +145,7 @@ impl Heard {
             let sure = self.pointed || is_sure(letters);
             return self.with_move(letters, sure, moves);
         }
-        Ok(Heard {
-            from: None,
-            pointed: false,
-            all: false,
-            sure: self.sure,
-            led: self.led,
-        })
+        Ok(self.with_other(false))
     }
 
     // Puts a move.
