@@ -48,24 +48,15 @@ impl Walk {
         ensures { OnOk result (notes.new.items
             ≡ notes.old.items ++ place_text (place_of self.now) line column) }
     {
-        self.push_line(line, notes)?;
+        if self.name.is_empty() {
+            push_number(line, notes)?;
+        } else {
+            notes.extend_from_slice(self.name.as_slice())?;
+            notes.push(b':')?;
+            push_number(line.saturating_sub(self.header), notes)?;
+        }
         notes.push(b':')?;
         push_number(column, notes)
-    }
-
-    fn push_line(&self, line: usize, notes: &mut Vec<u8>) -> Result<(), AllocError>
-        ensures unnamed { OnOk result (length self.now.name.items ≡ 0
-            → notes.new.items ≡ notes.old.items ++ decimal line) }
-        ensures named { OnOk result (0 < length self.now.name.items
-            → notes.new.items ≡ notes.old.items ++ self.now.name.items ++ codes ":"
-            ++ decimal (line - self.now.header)) }
-    {
-        if self.name.is_empty() {
-            return push_number(line, notes);
-        }
-        notes.extend_from_slice(self.name.as_slice())?;
-        notes.push(b':')?;
-        push_number(line.saturating_sub(self.header), notes)
     }
 }
 
