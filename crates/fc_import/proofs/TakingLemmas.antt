@@ -15,7 +15,7 @@ use Rattle.fc_import.specs.Import.{CanBe, HasNoHeader, HasLines, headed, Importe
 use Rattle.fc_import.specs.Import.{ListNeedsNoNote, none_yet, once_more, one_more, Reading, SpellsOut}
 use Rattle.fc_import.specs.inside.{IsMade, part, printing, Says, state_of, Takes, TakesName}
 use Rattle.fc_import.specs.{Notes.{after, first_state, State, tally_of}, Scan.{named_cards}}
-use Rattle.fc_import.specs.Words.{ended, is_between, named_lines}
+use Rattle.fc_import.specs.Words.{ended, is_between}
 use Rattle.fc_import.specs.declared.{made.Made.{Made}, options.{ImportOptions.{ImportOptions}, Noted.{Noted}}}
 use Rattle.fc_import.specs.declared.options.Noted.TheVariants.{Changes, Doubts, Strict}
 use Rattle.fc_import.specs.declared.tally.{Fate.TheVariants.{ABoard, Again, Passed}, Tally.{Tally}}
