@@ -5,7 +5,8 @@ ghost use Rattle.fc_import.specs.Labels.{all_words, cells_names, column_names, c
 ghost use Rattle.fc_import.specs.Labels.{foundations_names, is_among, is_column_number};
 ghost use Rattle.fc_import.specs.Labels.{is_numbered, label_of, said_by_front, said_by_one};
 ghost use Rattle.fc_import.specs.Labels.{said_by_two, said_by_words, says_column};
-ghost use Rattle.fc_import.specs.{Seen.{piece_of}, Strips.{is_labelled, is_of_label, tells_columns}};
+ghost use Rattle.fc_import.specs.Seen.{piece_of};
+ghost use Rattle.fc_import.specs.Strips.{is_labelled, is_of_label, tells_columns};
 ghost use Rattle.fc_import.specs.declared.layout.Layout.TheVariants.{Columns};
 
 use crate::scan::named_card;

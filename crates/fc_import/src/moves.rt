@@ -1,8 +1,8 @@
 //! The moves that words name, one word after another.
 ghost use Rattle.std.specs.Char.{is_ascii_alphabetic, is_ascii_lowercase};
 ghost use Rattle.std.specs.{List.{list_all, list_any, prefix_len}, Option.{is_some}};
-ghost use Rattle.std.specs.Prelude.{◌++◌, ◌==◌, ◌||◌, ◌∷◌, ◌≡◌, drop, false, IfOk};
-ghost use Rattle.std.specs.Prelude.{if◌then◌else◌, None, OnOk};
+ghost use Rattle.std.specs.Prelude.{◌++◌, ◌==◌, ◌||◌, ◌∷◌, ◌≡◌, drop, false, IfOk, if◌then◌else◌};
+ghost use Rattle.std.specs.Prelude.{None, OnOk};
 ghost use Rattle.std.specs.Str.{str_eq_ignore_ascii_case, str_to_ascii_lowercase};
 ghost use Rattle.fc_card.specs.Types.{Text};
 ghost use Rattle.fc_text.specs.{Bytes.{blank, is_gap}, reader.{run_named}};
