@@ -1,7 +1,7 @@
 -- The sums of equivalent boards are the same, in some order; a move changes each by one term.
 use Rattle.std.proofs.Common.{◌%◌, ◌*◌, ◌++◌, ◌+◌, ◌-◌, ◌<◌, ◌^◌, ◌∙◌, ◌∷◌, ◌≡◌, ◌≤◌, [], All, ap, ap₂, arith, Bool}
 use Rattle.std.proofs.Common.{cond, Contains, drop, false, get_or, inl, inr, length, length-append, List, map, None}
-use Rattle.std.proofs.Common.{Option, refl, replicate, Some, subst, suc, sym, take, zero, ℕ}
+use Rattle.std.proofs.Common.{Option, refl, replicate, Some, subst, suc, sym, take, ℕ}
 use Rattle.std.proofs.lemmas.Bool.{cases_lt, eqb-false, le-leb}
 use Rattle.std.proofs.lemmas.List.{Elements.{All-get_or, All-head, All-tail, All-take}, ext_get_or, get_or-drop}
 use Rattle.std.proofs.lemmas.List.{get_or-map, get_or-replicate, get_or-set_other, get_or_default, length-drop}

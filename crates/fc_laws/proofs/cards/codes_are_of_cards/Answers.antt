@@ -1,8 +1,5 @@
-use Rattle.{fc_card.proofs.CodeLemmas.{card_code-apart, card_code-bound, card_code-cmp}, std.proofs.Common.{arith}}
+use Rattle.{fc_card.proofs.CodeLemmas.{card_code-apart, card_code-cmp}, std.proofs.Common.{arith}}
 use Rattle.fc_laws.proofs.cards.codes_are_of_cards.Goals as goal
-
-pub returns-clause-to : goal.returns-clause-to
-returns-clause-to c = card_code-bound c.args.card (omega arith)
 
 pub returns-clause-apart : goal.returns-clause-apart
 returns-clause-apart c = card_code-apart c.args.card c.args.other (omega arith) (omega arith)

@@ -1,15 +1,9 @@
 use Rattle.std.proofs.{Common.{[], refl}, lemmas.List.Elements.{All-contains}}
-use Rattle.{fc_board.specs.{Boards.{IsWellFormed}, Moves.{OneCard, Runs}}, fc_closed.proofs.ClosedLemmas.{unsolvable}}
+use Rattle.{fc_board.specs.{Boards.{IsWellFormed}, Moves.{OneCard}}, fc_closed.proofs.ClosedLemmas.{unsolvable}}
 use Rattle.fc_laws.proofs.closed.boards_that_win_are_in_no_closed_list.Goals as goal
 
 pub returns-clause-won : goal.returns-clause-won
 returns-clause-won g c = λ board won none. none (OneCard []) (board, refl, won)
-
-pub returns-clause-by_one_card : goal.returns-clause-by_one_card
-returns-clause-by_one_card g c = λ board moves wins none. none (OneCard moves) wins
-
-pub returns-clause-by_runs : goal.returns-clause-by_runs
-returns-clause-by_runs g c = λ board moves wins none. none (Runs moves) wins
 
 pub returns-clause-listed : goal.returns-clause-listed
 returns-clause-listed g c = λ boards board moves well inside wins closed.

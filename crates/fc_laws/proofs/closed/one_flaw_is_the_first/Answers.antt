@@ -1,5 +1,5 @@
 use Rattle.std.proofs.Common.{◌≤◌, arith}
-use Rattle.fc_closed.proofs.{FlawLemmas.{not_shown, one_doubt, one_flaw, one_place}, KeysLemmas.{not_closed}}
+use Rattle.fc_closed.proofs.{FlawLemmas.{not_shown, one_flaw, one_place}, KeysLemmas.{not_closed}}
 use Rattle.fc_laws.proofs.closed.one_flaw_is_the_first.Goals as goal
 
 pub returns-clause-not_closed : goal.returns-clause-not_closed
@@ -25,9 +25,3 @@ returns-clause-not_shown g c =
     let laws = g.met.R.Rule.rule_laws in
     let few : g.R.Rule.game.cells ≤ 8 = omega (arith, laws.cells_are, laws.at_most_eight) in
     not_shown g.R.Rule.game g.R.Rule.renamings few
-
-pub returns-clause-one_doubt : goal.returns-clause-one_doubt
-returns-clause-one_doubt g c =
-    let laws = g.met.R.Rule.rule_laws in
-    let few : g.R.Rule.game.cells ≤ 8 = omega (arith, laws.cells_are, laws.at_most_eight) in
-    one_doubt g.R.Rule.game g.R.Rule.renamings few

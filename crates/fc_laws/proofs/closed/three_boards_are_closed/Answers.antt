@@ -47,20 +47,8 @@ returns-clause-well_formed c =
     All-cons (IsWellFormed freecell) ace_to_go (queen_to_go ∷ nothing_to_go ∷ []) ace_well (All-cons (IsWellFormed freecell) queen_to_go (nothing_to_go ∷ []) queen_well
     (All-cons (IsWellFormed freecell) nothing_to_go [] nothing_well (All-nil (IsWellFormed freecell))))
 
-pub returns-clause-first_move : goal.returns-clause-first_move
-returns-clause-first_move c = refl
-
-pub returns-clause-next_move : goal.returns-clause-next_move
-returns-clause-next_move c = refl
-
-pub returns-clause-no_move : goal.returns-clause-no_move
-returns-clause-no_move c = refl
-
 pub returns-clause-first : goal.returns-clause-first
 returns-clause-first c = first
-
-pub returns-clause-next : goal.returns-clause-next
-returns-clause-next c = next
 
 pub returns-clause-three : goal.returns-clause-three
 returns-clause-three c = three

@@ -1,5 +1,5 @@
 use Rattle.std.proofs.Common.{sym}
-use Rattle.fc_board.proofs.{RunPlayLemmas.{step-RunFits, token_after}, RunStepLemmas.{not_refused_exactly, one_board}}
+use Rattle.fc_board.proofs.{RunPlayLemmas.{step-RunFits, token_after}, RunStepLemmas.{not_refused_exactly}}
 use Rattle.fc_laws.proofs.boards.lists.runs_are_what_is_not_refused.Goals as goal
 
 pub returns-clause-exactly : goal.returns-clause-exactly
@@ -12,6 +12,3 @@ returns-clause-exactly c = λ game board after token. (
 
 pub returns-clause-exists : goal.returns-clause-exists
 returns-clause-exists c = not_refused_exactly
-
-pub returns-clause-only_one : goal.returns-clause-only_one
-returns-clause-only_one c = one_board

@@ -45,9 +45,6 @@ module _ (variant : Variant) (collection : List ℕ) (group : List Member)
         (found_some (passes member) member.contents.lists list listed (Wins-passes variant collection member among list listed wins))),
   )
 
-pub returns-clause-lists : goal.returns-clause-lists
-returns-clause-lists c summary members numbers are = ap (λ numbers. slice_index_or numbers 4 0) (sym are)
-
 pub returns-clause-wins : goal.returns-clause-wins
 returns-clause-wins c summary variant collection numbers are = (
   passes,

@@ -1,4 +1,4 @@
-use Rattle.std.proofs.Common.{◌++◌, ◌∙◌, ◌≡◌, ◌≤◌, [], All, append-nil, ap₂, arith, length, List, Ok, Some, sym, ℕ}
+use Rattle.std.proofs.Common.{◌++◌, ◌∙◌, ◌≡◌, ◌≤◌, [], All, append-nil, arith, length, List, Ok, Some, sym, ℕ}
 use Rattle.std.proofs.lemmas.List.{append_cancel_left, Elements.{All-weaker}}
 use Rattle.{fc_board.specs.declared.rule.Variant.{Variant}, fc_record.specs.Printing.{printed, show_lines}}
 use Rattle.fc_collect.proofs.{PrintedRecordLemmas.{shown-records}, ReadAgainLemmas.{among-All}}
@@ -29,20 +29,11 @@ module _ (limits : Limits) (kind : RunKind) (variant : Variant) where
       rw (run.consumed, append-nil run.read)
       (record { within = out.within; written = rw (run.appended, out.whole); records = out.records; refused = out.refused })
 
-same_summary : (summary counts : Summary) → summary.records ≡ counts.records → summary.refused ≡ counts.refused → summary ≡ counts
-same_summary summary counts = ap₂ (λ records refused. record { records = records; refused = refused })
-
 -- records within the limits have numbers that can be counted
 few : (read : List ℕ) → IsWithinLimits standard read → All (λ text. text.number ≤ most_countable) (records_of read)
 few read within =
     among-All (λ text. text.number ≤ most_countable) (cut nothing read)
     (All-weaker (IsSmall standard) (λ text. text.number ≤ most_countable) (λ text small. omega (arith, small.number)) (cut nothing read) within.texts)
-
-pub returns-clause-one : goal.returns-clause-one
-returns-clause-one c limits kind variant read held after other summary counts run again =
-    let first = wrote limits kind variant read held after summary run in
-    let next = wrote limits kind variant read held other counts again in
-    (first.written ∙ sym next.written, same_summary summary counts (first.records ∙ sym next.records) (first.refused ∙ sym next.refused))
 
 pub returns-clause-show : goal.returns-clause-show
 returns-clause-show c variant read another held after summary counts run again =

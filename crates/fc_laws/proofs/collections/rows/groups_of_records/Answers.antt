@@ -16,7 +16,3 @@ returns-clause-apart c = refl
 pub returns-clause-unique : goal.returns-clause-unique
 unfolding digits
 returns-clause-unique c = refl
-
-pub returns-clause-unique_apart : goal.returns-clause-unique_apart
-unfolding digits
-returns-clause-unique_apart c = refl

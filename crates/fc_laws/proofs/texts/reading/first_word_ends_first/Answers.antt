@@ -1,8 +1,5 @@
-use Rattle.fc_text.proofs.TakingLemmas.{word_after_gap, word_at}
+use Rattle.fc_text.proofs.TakingLemmas.{word_at}
 use Rattle.fc_laws.proofs.texts.reading.first_word_ends_first.Goals as goal
-
-pub returns-clause-gap : goal.returns-clause-gap
-returns-clause-gap c = word_after_gap
 
 pub returns-clause-word : goal.returns-clause-word
 returns-clause-word c = λ start at bytes inside e. (word_at start bytes at inside e).words
