@@ -72,9 +72,6 @@ none_out all member legal at so_far end = sym (ap opened (so_far ∙ ap (find (l
 
 -- ---- a member
 
-pub won_flaw : (all : List Member) (member : Member) (board : Board) → member.contents.board ≡ board → has_all_home board ≡ true → Some Won ≡ flaw_of all member
-won_flaw all member board held home = sym (ap (λ home. cond home (Some Won) (opened (move_out all member))) (ap has_all_home held ∙ home))
-
 pub open_flaw : (all : List Member) (member : Member) (game : Game) (variant : Variant) (board : Board) (flaw : Option Flaw) → IsOn variant board member → game ≡ game_of variant
     → has_all_home board ≡ false → flaw ≡ opened (find (leads_out all member) (legal_moves game board)) → flaw ≡ flaw_of all member
 open_flaw all member game variant board flaw (named, held) played home found =
@@ -114,10 +111,6 @@ classes_counted keys members are = ap length are.0 ∙ length-map (leaders_after
 
 pub three-pushed : (old a b new t1 t2 t3 : List ℕ) → a ≡ old ++ t1 → b ≡ a ++ t2 → new ≡ b ++ t3 → new ≡ old ++ (t1 ++ (t2 ++ t3))
 three-pushed old a b new t1 t2 t3 p q r = r ∙ ap (λ l. l ++ t3) (q ∙ ap (λ l. l ++ t2) p) ∙ simp append_assoc
-
--- two values, each after its name, and an end
-pub two-named : (old a b new n1 v1 n2 v2 end : List ℕ) → a ≡ old ++ (n1 ++ v1) → b ≡ a ++ (n2 ++ v2) → new ≡ b ++ end → new ≡ old ++ (n1 ++ ((v1 ++ (n2 ++ v2)) ++ end))
-two-named old a b new n1 v1 n2 v2 end p q r = r ∙ ap (λ l. l ++ end) (q ∙ ap (λ l. l ++ (n2 ++ v2)) p) ∙ simp append_assoc
 
 pub five-pushed : (old a b c d new t1 t2 t3 t4 t5 : List ℕ) → a ≡ old ++ t1 → b ≡ a ++ t2 → c ≡ b ++ t3 → d ≡ c ++ t4 → new ≡ d ++ t5
     → new ≡ old ++ (t1 ++ ((t2 ++ (t3 ++ t4)) ++ t5))

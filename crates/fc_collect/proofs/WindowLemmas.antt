@@ -2,9 +2,9 @@
 use borrow.Rule.Slice.PartMut.{put_mid}
 use Rattle.std.proofs.Common.{◌++◌, ◌+◌, ◌-◌, ◌<◌, ◌==◌, ◌^◌, ◌∙◌, ◌∷◌, ◌≡◌, ◌≢◌, ◌≤◌, [], ap, arith, drop, length}
 use Rattle.std.proofs.Common.{length-append, length-drop, length-take-le, List, nat_lt, Option, refl, subst, sym, take}
-use Rattle.std.proofs.{Common.{true, zero-add, ℕ}, lemmas.{Bool.Decides.{nat_tests}, List.{drop-take}}}
-use Rattle.std.proofs.{lemmas.List.{Edits.{take-paste}, take-append-le}, Math.Seq.{take-append-add}}
-use Rattle.std.specs.{Io.KnownBytes.{Consumes, IsAtEnd}, List.{copy_within}}
+use Rattle.std.proofs.{Common.{true, ℕ}, lemmas.{Bool.Decides.{nat_tests}}}
+use Rattle.std.proofs.{lemmas.List.{take-append-le}, Math.Seq.{take-append-add}}
+use Rattle.std.specs.{Io.KnownBytes.{Consumes, IsAtEnd}}
 use Rattle.fc_collect.specs.{inside.{FillsWindow}, Streams.{counts_of, GrowsBy, HasRoom, moves_none, one_more_if}}
 use Rattle.fc_collect.specs.declared.streams.counted.Counted.{Counted}
 
@@ -61,17 +61,6 @@ take-put_mid_more buffer new count more k within room =
     ap (λ n. take (n + more) (front ++ (new ++ rest))) (sym long) ∙ take-append-add front (new ++ rest) more
     ∙ ap (λ l. front ++ l) (take-append-le more new rest room)
 
-pub dropped_held : (bytes new held : List ℕ) (count front : ℕ) → count ≤ length bytes → front ≤ count
-    → new ≡ copy_within bytes front count 0 → take count bytes ≡ held → take (count - front) new ≡ drop front held
-dropped_held bytes new held count front within small is_new is_held =
-    let m = count - front in
-    ap (take m) is_new
-    ∙ ap (λ n. take n (copy_within bytes front count 0)) (sym (zero-add m))
-    ∙ take-paste bytes 0 (drop front bytes) m (omega arith) (omega (arith, length-drop front bytes))
-    ∙ sym (drop-take front m bytes)
-    ∙ ap (λ n. drop front (take n bytes)) (omega arith)
-    ∙ ap (drop front) is_held
-
 pub filled_held : (bytes now buf held : List ℕ) (count given k : ℕ) (before after : Option (List ℕ)) → count ≤ length bytes → given ≤ length buf → 0 < length buf
     → now ≡ bytes → take count bytes ≡ held → Consumes before after (take given buf) → (given ≡ 0 → 0 < length buf → IsAtEnd after)
     → FillsWindow held (take (count + given) (put_mid count k now buf)) before after given
@@ -87,8 +76,3 @@ filled_held bytes now buf held count given k before after within few some is_now
 pub length_put : (now buf : List ℕ) (count k : ℕ) → count + k ≤ length now → length buf ≡ k → length (put_mid count k now buf) ≡ length now
 length_put now buf count k within long =
     omega (arith, length-append (take count now) (buf ++ drop k (drop count now)), length-append buf (drop k (drop count now)), length-drop k (drop count now), length-drop count now, length-take-le count now (omega arith))
-
--- a read into some room gives the end where it gives nothing
-pub ends_given : (old new given : ℕ) (room : List ℕ) → 0 < length room → new ≡ one_more_if (moves_none given room) old → new ≡ one_more_if (given == 0) old
-ends_given old new given [] some e = absurd (omega (arith, some))
-ends_given old new given (byte ∷ room) some e = e

@@ -1,10 +1,6 @@
 use Rattle.std.proofs.Common.{◌∙◌, refl}
-use Rattle.fc_collect.proofs.ClosedLemmas.{all_home, open_flaw, won_flaw, won_home}
+use Rattle.fc_collect.proofs.ClosedLemmas.{all_home, open_flaw}
 use Rattle.fc_collect.proofs.commands.closed.flaw_of.Goals as goal
-
-pub returns-then-is_won : goal.returns-then-is_won
-returns-then-is_won g c = λ all member are on.
-    won_flaw all member c.args.board.now on.1 (won_home c.args.board.now (c.is_won.ensures.won.0 c.if-is_won.true))
 
 pub returns : goal.returns
 returns g c = λ all member are on.

@@ -1,6 +1,6 @@
 use Rattle.std.proofs.Common.{◌+◌, ◌-◌, ◌∙◌, ◌≡◌, ◌≤◌, ap, arith, length, length-take-le, List, subst, sym, take, ℕ}
 use Rattle.std.proofs.lemmas.List.{with_items_is}
-use Rattle.fc_collect.{proofs.WindowLemmas.{ends_given, filled_held, length_put}, specs.inside.{FillsWindow}}
+use Rattle.fc_collect.{proofs.WindowLemmas.{filled_held, length_put}, specs.inside.{FillsWindow}}
 use Rattle.fc_collect.specs.Streams.{inner_of}
 use Rattle.fc_collect.proofs.engine.window.Window.fill.Goals as goal
 use borrow.Rule.Slice.PartMut.{put_mid}
@@ -16,6 +16,3 @@ returns-clause-bytes g c =
     let whole : length filled ≡ i.bytes.len = length_put now c.read.new.buf i.count k (omega (arith, ap length c.deref_mut.ensures.value)) (omega (arith, c.read.auto.buf)) ∙ ap length c.deref_mut.ensures.value ∙ sym i.bytes.ok.0 in
     subst P (sym (with_items_is i.bytes filled whole))
     (filled_held i.bytes.items now c.read.new.buf c.args.self.now i.count c.in_ok-given.given k _ _ (omega arith) (omega (arith, c.in_ok-given.ensures.bound)) (omega (arith, c.read.auto.buf)) c.deref_mut.ensures.value c.self.view_is c.in_ok-given.ensures.bytes.0 c.in_ok-given.ensures.bytes.1)
-
-pub returns-clause-ends : goal.returns-clause-ends
-returns-clause-ends g c = ends_given _ _ c.in_ok-given.given c.read.new.buf (omega (arith, c.read.auto.buf)) c.in_ok-given.ensures.ends
