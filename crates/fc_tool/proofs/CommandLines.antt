@@ -6,7 +6,7 @@ use Rattle.std.{proofs.Common.{option_and_then, refl, Some, subst, sym, true}, s
 use Rattle.std.specs.Str.{bytes_eq}
 use Rattle.clap.specs.declared.builder.value_parser.ValueParser.TheVariants as parser
 use Rattle.clap.{proofs.OnLiterals.{clap_on_literals}, specs.declared.error.kind.ErrorKind.TheVariants.{DisplayHelp}}
-use Rattle.clap.specs.declared.error.kind.ErrorKind.TheVariants.{DisplayHelpOnMissingArgumentOrSubcommand, InvalidValue}
+use Rattle.clap.specs.declared.error.kind.ErrorKind.TheVariants.{InvalidValue}
 use Rattle.clap.specs.declared.error.kind.ErrorKind.TheVariants.{MissingRequiredArgument, UnknownArgument}
 use Rattle.clap.specs.declared.error.kind.ErrorKind.TheVariants.{ValueValidation}
 use Rattle.fc_board.specs.declared.rule.Variant.{TheVariants.{BakersGame, EightOff, FreeCell}, Variant}
@@ -185,14 +185,6 @@ by_two_words Symmetries reads choices dealt called = refl
 by_two_words Same reads choices dealt called = refl
 by_two_words Import reads choices dealt called = refl
 by_two_words Deal reads choices dealt called = absurd (reads refl)
-
-pub fault_of_nothing : (choices dealt : ValueParser) → fault_of (program choices dealt) [] ≡ DisplayHelpOnMissingArgumentOrSubcommand ∷ []
-unfolding clap_on_literals
-fault_of_nothing choices dealt = refl
-
-pub fault_of_name : (choices dealt : ValueParser) (called : Text) → fault_of (program choices dealt) (called ∷ []) ≡ DisplayHelpOnMissingArgumentOrSubcommand ∷ []
-unfolding clap_on_literals
-fault_of_name choices dealt called = refl
 
 pub fault_of_help : (choices dealt : ValueParser) (called : Text) → fault_of (program choices dealt) (called ∷ codes "--help" ∷ []) ≡ DisplayHelp ∷ []
 unfolding clap_on_literals

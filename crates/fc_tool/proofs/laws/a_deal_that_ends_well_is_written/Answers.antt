@@ -30,9 +30,6 @@ nothing_more : (held text : List ℕ) → held ≡ held ++ text → text ≡ []
 nothing_more [] text e = sym e
 nothing_more (byte ∷ held) text e = nothing_more held text (ap (drop 1) e)
 
-pub returns-clause-written : goal.returns-clause-written
-returns-clause-written g c game number message ends = written (record { bytes = g.Wr.Write.contents; old = c.args.before.now; new = c.args.after.now }) message game number ends
-
 pub returns-clause-moved : goal.returns-clause-moved
 returns-clause-moved g c game number message held ends old new =
     let (said, ranged, appended) = written (record { bytes = g.Wr.Write.contents; old = c.args.before.now; new = c.args.after.now }) message game number ends in

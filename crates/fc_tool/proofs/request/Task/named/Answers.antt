@@ -1,5 +1,5 @@
-use Rattle.std.proofs.Common.{◌+◌, ◌<◌, ◌∙◌, ◌≡◌, ap, arith, cond, drop, false, get_or, List, Option, Some, sym, ℕ}
-use Rattle.std.{proofs.lemmas.List.{drop_all, drop_more}, specs.{List.{find}, Str.{bytes_eq}}}
+use Rattle.std.proofs.Common.{◌+◌, ◌<◌, ◌∙◌, ◌≡◌, ap, cond, drop, false, get_or, List, Option, Some, sym, ℕ}
+use Rattle.std.{proofs.lemmas.List.{drop_more}, specs.{List.{find}, Str.{bytes_eq}}}
 use Rattle.fc_tool.specs.{command_of, declared.request.Task.{Task, TheVariants.{Show}}, tasks}
 use Rattle.fc_tool.proofs.request.Task.named.Goals as goal
 
@@ -16,6 +16,3 @@ pub loop-at-preserved : goal.loop-at-preserved
 loop-at-preserved c =
     c.loop-at.invariant
     ∙ passed c.args.name.now c.loop-at.at c.loop-at-test.true (ap (bytes_eq c.args.name.now) (sym c.name.ensures) ∙ sym c.eq.ensures ∙ c.if-eq.false)
-
-pub returns : goal.returns
-returns c = sym (c.loop-at.invariant ∙ ap (first_named c.args.name.now) (drop_all c.loop-at.at tasks (omega arith)))
