@@ -2,11 +2,12 @@
 use Rattle.std.specs.{List.{count_by, list_all, list_any}, Option.{option_or}, Prelude.{◌%◌, ◌&&◌}}
 use Rattle.std.specs.Prelude.{◌++◌, ◌-◌, ◌/◌, ◌==◌, ◌||◌, ◌∷◌, [], Bool, codes, false}
 use Rattle.std.specs.Prelude.{if◌then◌else◌, length, List, min, nat_lt, None, not, Option}
-use Rattle.std.specs.Prelude.{slice_index_or, Some, take, true, ℕ}
+use Rattle.std.specs.Prelude.{slice_get, slice_index_or, Some, take, true, ℕ}
 use Rattle.{fc_board.specs.Boards.{Board}, fc_card.specs.{places, Types.{Card, Pile, Text}}}
 use Rattle.fc_text.specs.{Bytes.{tab}, Lines.{lines_from, Piece, words}}
 use Rattle.fc_text.specs.Notation.{separates_tokens}
-use Rattle.fc_import.specs.{Labels.{label_of}, Scan.{named_card, uncommented, words_of}}
+use Rattle.fc_import.specs.Labels.{label_of}
+use Rattle.fc_import.specs.Scan.{named_card, named_cards, uncommented, words_of}
 use Rattle.fc_import.specs.declared.labels.LabelKind.{LabelKind, TheVariants.{Column}}
 use Rattle.fc_import.specs.declared.layout.Layout.{Layout, TheVariants.{Rows}}
 use Rattle.fc_import.specs.declared.strips.Strips.{Strips, TheVariants.{Bytes, Fields, Words}}
@@ -86,12 +87,13 @@ abbrev pub is_of_label : LabelKind → Board → Option Card → Bool
 is_of_label (Column number) board (Some card) = has_card (slice_index_or board.columns (number - 1) []) card
 is_of_label label board card = true
 
+-- the first card that the line names
 abbrev pub is_labelled : Board → (line : Text) → Bool
-is_labelled board line = list_all (λ word. is_of_label (label_of (uncommented line)) board (named_card word.0.bytes)) (words_of line)
+is_labelled board line = is_of_label (label_of (uncommented line)) board (slice_get (named_cards line) 0)
 
 -- -------- Whether lines tell the columns of their cards. From: this project's profile.
 
--- each word of rows that names a card of a column is in that column's strip; in other layouts each card in a line with the number of a column is in that column
+-- each word of rows that names a card of a column is in that column's strip; in other layouts, where a line has the cards of one column, its first card is in the column of its number, if it has one
 abbrev pub tells_columns : Layout → (piece : Text) → Board → Bool
 tells_columns (Rows strips) piece board = list_all (λ line. are_below strips board line.bytes) (lines_from 0 piece)
 tells_columns layout piece board = list_all (λ line. is_labelled board line.bytes) (lines_from 0 piece)

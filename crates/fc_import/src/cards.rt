@@ -51,6 +51,22 @@ fn push_named(cards: &mut Vec<u8>, line: &[u8]) -> Result<(), AllocError>
     Ok(())
 }
 
+/// The first card that the words of a line name before a comment.
+pub(crate) fn first_card(line: &[u8]) -> Option<Card>
+    ensures { result ≡ slice_get (named_cards line.now) 0 }
+{
+    if line.first() == Some(&b'@') {
+        return None;
+    }
+    let text = uncommented(line);
+    for word in Words::new(text) {
+        if let Some(card) = named_card(word.text) {
+            return Some(card);
+        }
+    }
+    None
+}
+
 /// The cards that the lines of rows name, in their order, with an end after those of each line, if
 /// each that is in no cell stands in the strip of its column.
 pub(crate) fn told_lines<R: Rule>(

@@ -9,7 +9,7 @@ ghost use Rattle.fc_import.specs.Seen.{piece_of};
 ghost use Rattle.fc_import.specs.Strips.{is_labelled, is_of_label, tells_columns};
 ghost use Rattle.fc_import.specs.declared.layout.Layout.TheVariants.{Columns};
 
-use crate::scan::named_card;
+use crate::cards::first_card;
 use crate::solver::{count_words, word_at};
 use crate::strips::is_in_column;
 use crate::words::{Word, Words, before_mark, uncommented};
@@ -45,7 +45,7 @@ pub(crate) fn label_of(text: &[u8], front: &[u8]) -> LabelKind
     }
 }
 
-/// Whether no line with the number of a column names a card of another column.
+/// Whether the first card of each line with the number of a column is in that column.
 pub(crate) fn are_labelled<R: Rule>(lines: &[u8], board: &Board<R>) -> bool
     ensures { result ≡ tells_columns Columns lines.now board.now }
 {
@@ -62,12 +62,7 @@ fn is_labelled<R: Rule>(line: &[u8], board: &Board<R>) -> bool
 {
     let text = uncommented(line);
     let label = label_of(text, before_mark(b':', text));
-    for word in Words::new(text) {
-        if !is_of_label(label, board, named_card(word.text)) {
-            return false;
-        }
-    }
-    true
+    is_of_label(label, board, first_card(line))
 }
 
 // Whether there is no card, or it is in the column of the number that the label says, if it says

@@ -173,6 +173,8 @@ pub fn numbers_are_those_of_columns()
         (of_columns ([] ∷ (50 ∷ []) ∷ [])) ≡ true }
     ensures commented { tells_columns Columns (codes "2. KH # so: first")
         (of_columns ((50 ∷ []) ∷ (51 ∷ []) ∷ [])) ≡ false }
+    ensures first { tells_columns Columns (codes "2. QD KS KH")
+        (of_columns ((50 ∷ []) ∷ (45 ∷ 51 ∷ []) ∷ [])) ≡ true }
     ensures read { (game : Game) (piece : Text) (board : Board) → IsReadAs AsColumns game piece board
         → ¬ Spells game piece board → piece ≢ text_of board
         → tells_columns Columns piece board ≡ true }
