@@ -126,8 +126,11 @@ no_header_board game board well =
 -- nothing is noted of a board as it is printed
 pub board_unnoted : (noted : Noted) (game : Game) (piece : List ℕ) (board : Board) → IsWellFormed game board
     → piece ≡ text_of board → BoardNeedsNoNote noted game piece board
-board_unnoted Doubts game piece board well is = inl (subst (λ piece. Spells game piece board) (sym is)
-    (text_spells game board well))
+board_unnoted Doubts game piece board well is = (
+  inl (subst (λ piece. Spells game piece board) (sym is)
+      (text_spells game board well)),
+  inr is,
+)
 board_unnoted Changes game piece board well is = is
 board_unnoted Strict game piece board well is = is
 
@@ -183,7 +186,7 @@ module _ {R : Type 0} (variant : Variant) (game : Game) where
         by_header = λ some. name_is;
         alone = λ none. absurd (some_name (name_is
             ∙ none));
-      })) well (inr piece_is)
+      })) well (inr (inr piece_is))
       (printed piece_is)
       (inl (board_unnoted between.options.noted game piece board well piece_is, refl)))
       (written ∙ ap₂ (λ line piece. between.written.items ++ (line ++ piece)) line_is piece_is) (notes

@@ -1,15 +1,32 @@
--- Lemmas on signs, and on what stands for them in a text.
-use Rattle.std.proofs.Common.{◌&&◌, ◌++◌, ◌+◌, ◌-◌, ◌<◌, ◌==◌, ◌||◌, ◌∙◌, ◌∷◌, ◌≡◌, ◌≤◌, [], All, ap, ap₂, arith, Bool}
-use Rattle.std.proofs.Common.{cond, drop, false, get_or, if◌then◌else◌, inl, inr, is_some, length, List, map, min}
-use Rattle.std.proofs.Common.{nat_le, None, Option, refl, Some, suc, sym, take, true, zero, ℕ}
-use Rattle.std.proofs.lemmas.{Bool.{Decides.{leb_tells}, lt-leb}, List.{drop_all}}
+-- Lemmas on characters, and on what stands for them in a text.
+use Rattle.std.proofs.Common.{◌&&◌, ◌++◌, ◌+◌, ◌<◌, ◌==◌, ◌||◌, ◌∙◌, ◌∷◌, ◌≡◌, [], All, ap, ap₂, arith, Bool, false}
+use Rattle.std.proofs.Common.{get_or, if◌then◌else◌, inl, inr, length, List, map, nat_le, refl, suc, sym, true, zero, ℕ}
+use Rattle.std.proofs.lemmas.{Bool.{Decides.{leb_tells}, lt-leb, ne_eqb}, Str.{chars-IsAscii, IsUtf8-from_ascii, utf8_lossy-IsUtf8}}
 use Rattle.std.proofs.lemmas.List.{FromFn.{get_or-range_with_len, length-range_with_len}, get_or-map}
-use Rattle.std.{proofs.Math.Nat.{min-eq_left, min-eq_right}, specs.{List.{prefix_len}, Option.{unwrap_or}}}
-use Rattle.std.specs.Prelude.{slice_index}
-use Rattle.{fc_card.specs.{places}, fc_text.specs.Bytes.{line_feed}}
-use Rattle.fc_import.specs.{inside.{is_alone}, Words.{number_of, sign_by, sign_of, stands_for, text_after}}
+use Rattle.std.specs.{Char.{encode_utf8}, Prelude.{chars, slice_index}, Str.{IsAscii, IsUtf8, Lossy.{utf8_lossy}}}
+use Rattle.fc_card.specs.{places}
+use Rattle.fc_import.specs.{inside.{is_alone}, Words.{decoded, letters_of, stands_for, text_read}}
 
--- ---- signs of one byte
+-- ---- characters of one byte
+
+abbrev ascii : ℕ → Bool × List ℕ
+ascii byte = if is_alone byte then (byte == 0x0D, stands_for byte) else (false, byte ∷ [])
+
+abbrev itself : ℕ → Bool × List ℕ
+itself byte = (false, byte ∷ [])
+
+all_signs : map ascii (places 128) ≡ map itself (places 128)
+unfolding encode_utf8
+all_signs = refl
+
+sign_at : (byte : ℕ) → byte < 128 → ascii byte ≡ itself byte
+sign_at byte low =
+    let there = get_or-range_with_len 0 128 byte 0 low in
+    let same : 0 + byte ≡ byte = omega arith in
+    let long : byte < length (places 128) = omega (arith, length-range_with_len 0 128, low) in
+    sym (get_or-map ascii (places 128) byte 0 (false, []) long ∙ ap ascii (there ∙ same))
+    ∙ ap (λ signs. get_or signs byte (false, [])) all_signs
+    ∙ get_or-map itself (places 128) byte 0 (false, []) long ∙ ap itself (there ∙ same)
 
 both_off : (a c : Bool) → ((a && false) || (c && false)) ≡ false
 both_off true true = refl
@@ -25,101 +42,40 @@ low_alone byte alone = elim (leb_tells byte 127) [
       absurd (let e = sym alone ∙ none in cc)
 ]
 
-module _ (second third fourth : ℕ) where
-  abbrev itself : ℕ → ℕ × List ℕ
-  itself byte = (1, byte ∷ [])
+-- a byte of ASCII that ends no line, or a line feed, stands for itself
+alone_stays : (byte : ℕ) → is_alone byte ≡ true → (byte == 0x0D, stands_for byte) ≡ itself byte
+alone_stays byte alone = sym (ap (λ test. if test then (byte == 0x0D, stands_for byte) else itself byte) alone) ∙ sign_at byte (low_alone byte alone)
 
-  abbrev ascii : ℕ → ℕ × List ℕ
-  ascii byte = if is_alone byte then sign_of byte second third fourth else itself byte
+-- ---- texts of such bytes
 
-  all_signs : map ascii (places 128) ≡ map itself (places 128)
-  all_signs = refl
+letters_stay : (text : List ℕ) → All (λ byte. is_alone byte ≡ true) text → letters_of false text ≡ text
+letters_stay [] all = refl
+letters_stay (byte ∷ rest) all =
+    let stays = alone_stays byte (all 0 0 (omega arith)) in
+    ap₂ (λ letters after. letters ++ letters_of after rest) (ap (λ sign. sign.1) stays) (ap (λ sign. sign.0) stays)
+    ∙ ap (λ more. byte ∷ more) (letters_stay rest (λ place none inside. all (suc place) none (omega (arith, inside))))
 
-  sign_at : (byte : ℕ) → byte < 128 → ascii byte ≡ itself byte
-  sign_at byte low =
-      let there = get_or-range_with_len 0 128 byte 0 low in
-      let same : 0 + byte ≡ byte = omega arith in
-      let long : byte < length (places 128) = omega (arith, length-range_with_len 0 128, low) in
-      sym (get_or-map ascii (places 128) byte 0 (0, []) long ∙ ap ascii (there ∙ same))
-      ∙ ap (λ signs. get_or signs byte (0, [])) all_signs
-      ∙ get_or-map itself (places 128) byte 0 (0, []) long ∙ ap itself (there ∙ same)
+is_ascii : (text : List ℕ) → All (λ byte. is_alone byte ≡ true) text → IsAscii text
+is_ascii [] all place = omega arith
+is_ascii (byte ∷ rest) all zero = low_alone byte (all 0 0 (omega arith))
+is_ascii (byte ∷ rest) all (suc place) = is_ascii rest (λ place none inside. all (suc place) none (omega (arith, inside))) place
 
-  -- a byte of ASCII that ends no line is a sign by itself
-  pub alone_stays : (byte : ℕ) → is_alone byte ≡ true → sign_of byte second third fourth ≡ (1, byte ∷ [])
-  alone_stays byte alone = sym (ap (λ test. if test then sign_of byte second third fourth else itself byte) alone) ∙ sign_at byte (low_alone byte alone)
+-- bytes that begin with no mark of UTF-16 are read as UTF-8
+no_mark : (bytes : List ℕ) → slice_index bytes 0 < 0xFE → decoded bytes ≡ utf8_lossy bytes
+no_mark bytes low =
+    let first = ne_eqb (slice_index bytes 0) 0xFF (λ same. omega (arith, same, low)) in
+    let second = ne_eqb (slice_index bytes 0) 0xFE (λ same. omega (arith, same, low)) in
+    grind (arith, first, second)
 
--- such bytes at the front of a text stay
-pub run_stays : (text : List ℕ) → text_after 0 text ≡ take (prefix_len is_alone text) text ++ text_after 0 (drop (prefix_len is_alone text) text)
-run_stays [] = refl
-run_stays (byte ∷ rest) = by_test (is_alone byte) refl (run_stays rest)
-  where
-    by_test : (test : Bool) → is_alone byte ≡ test
-        → text_after 0 rest ≡ take (prefix_len is_alone rest) rest ++ text_after 0 (drop (prefix_len is_alone rest) rest)
-        → text_after 0 (byte ∷ rest)
-        ≡ take (cond test (1 + prefix_len is_alone rest) 0) (byte ∷ rest) ++ text_after 0 (drop (cond test (1 + prefix_len is_alone rest) 0) (byte ∷ rest))
-    by_test false e stays = refl
-    by_test true e stays =
-        ap (λ sign. sign.1 ++ text_after (sign.0 - 1) rest) (alone_stays (slice_index rest 0) (slice_index rest 1) (slice_index rest 2) byte e)
-        ∙ ap (λ more. byte ∷ more) stays
-        ∙ (let one : suc (prefix_len is_alone rest) ≡ 1 + prefix_len is_alone rest = omega arith in
-        ap (λ len. take len (byte ∷ rest) ++ text_after 0 (drop len (byte ∷ rest))) one)
+-- and are it, if they are UTF-8
+pub utf_8_stays : (bytes : List ℕ) → IsUtf8 bytes → slice_index bytes 0 < 0xFE → decoded bytes ≡ bytes
+utf_8_stays bytes utf_8 low = no_mark bytes low ∙ utf8_lossy-IsUtf8 bytes utf_8
 
--- and so does a text of such bytes alone
-pub all_stay : (text : List ℕ) → All (λ byte. is_alone byte ≡ true) text → text_after 0 text ≡ text
-all_stay [] all = refl
-all_stay (byte ∷ rest) all =
-    ap (λ sign. sign.1 ++ text_after (sign.0 - 1) rest)
-    (alone_stays (slice_index rest 0) (slice_index rest 1) (slice_index rest 2) byte (all 0 0 (omega arith)))
-    ∙ ap (λ more. byte ∷ more) (all_stay rest (λ place none inside. all (suc place) none (omega (arith, inside))))
-
--- ---- signs of several bytes
-
--- what stands for a text that begins with a sign
-pub after_sign : (text : List ℕ) (second third fourth : ℕ) → 0 < length text → second ≡ slice_index text 1 → third ≡ slice_index text 2 → fourth ≡ slice_index text 3
-    → text_after 0 text ≡ (sign_of (slice_index text 0) second third fourth).1 ++ text_after ((sign_of (slice_index text 0) second third fourth).0 - 1) (drop 1 text)
-after_sign [] second third fourth some is₂ is₃ is₄ = absurd (omega (arith, some))
-after_sign (byte ∷ rest) second third fourth some is₂ is₃ is₄ =
-    ap₂ (λ second third. of second third (slice_index rest 2)) (sym is₂) (sym is₃) ∙ ap (of second third) (sym is₄)
-  where
-    of : ℕ → ℕ → ℕ → List ℕ
-    of second third fourth = (sign_of byte second third fourth).1 ++ text_after ((sign_of byte second third fourth).0 - 1) rest
-
--- the rest of a sign is nothing
-rest_skipped : (skipped : ℕ) (text : List ℕ) → text_after skipped text ≡ text_after 0 (drop skipped text)
-rest_skipped zero text = refl
-rest_skipped (suc skipped) [] = refl
-rest_skipped (suc skipped) (byte ∷ rest) = rest_skipped skipped rest
-
-pub rest_after : (count : ℕ) (text : List ℕ) → 1 ≤ count → text_after (count - 1) (drop 1 text) ≡ text_after 0 (drop count text)
-rest_after zero text some = absurd (omega (arith, some))
-rest_after (suc count) [] some = refl
-rest_after (suc count) (byte ∷ rest) some = let one : suc count - 1 ≡ count = omega arith in ap (λ left. text_after left rest) one ∙ rest_skipped count rest
-
--- as many bytes as there are are all of them
-pub least_dropped : (count : ℕ) (text : List ℕ) → drop (min count (length text)) text ≡ drop count text
-least_dropped count text = elim (leb_tells count (length text)) [
-  | inl low ↦ ap (λ len. drop len text) (min-eq_left low.1)
-  | inr high ↦
-      let past : length text ≤ count = omega (arith, high.1) in
-      ap (λ len. drop len text) (min-eq_right past) ∙ drop_all (length text) text (omega arith) ∙ sym (drop_all count text past)
-]
-
--- ---- what stands for a sign
-
-pub sign_is : (first second third fourth : ℕ) (number : ℕ × ℕ) → (first == 0x0D && second == line_feed) ≡ false → number ≡ number_of first second third fourth
-    → sign_of first second third fourth ≡ sign_by first number.1 (stands_for number.0)
-sign_is first second third fourth number other is =
-    ap (λ test. if test then (1, []) else sign_by first (number_of first second third fourth).1 (stands_for (number_of first second third fourth).0)) other
-    ∙ ap (λ number. sign_by first number.1 (stands_for number.0)) (sym is)
-
-pub no_letters : (meaning : Option (List ℕ)) → is_some meaning ≡ false → unwrap_or meaning [] ≡ []
-no_letters None none = refl
-no_letters (Some letters) none = absurd (cc)
-
-pub letters_stand : (first count : ℕ) (meaning : Option (List ℕ)) → is_some meaning ≡ true → sign_by first count meaning ≡ (count, unwrap_or meaning [])
-letters_stand first count None some = absurd (cc)
-letters_stand first count (Some letters) some = refl
-
-pub byte_stands : (first count : ℕ) (meaning : Option (List ℕ)) → is_some meaning ≡ false → sign_by first count meaning ≡ (1, first ∷ [])
-byte_stands first count None none = refl
-byte_stands first count (Some letters) none = absurd (cc)
+-- a text of ASCII that ends lines by line feeds alone is read as it is
+pub all_stay : (text : List ℕ) → All (λ byte. is_alone byte ≡ true) text → text_read text ≡ text
+all_stay text all =
+    let ascii = is_ascii text all in
+    let low : slice_index text 0 < 0xFE = omega (arith, ascii 0) in
+    ap (λ text. letters_of false (chars text)) (utf_8_stays text (IsUtf8-from_ascii text ascii) low)
+    ∙ ap (letters_of false) (chars-IsAscii text ascii)
+    ∙ letters_stay text all

@@ -1,17 +1,18 @@
 -- Lemmas on imports in which each change is noted, and on those that are strict.
-use Rattle.std.proofs.Common.{◌++◌, ◌+◌, ◌<◌, ◌==◌, ◌∙◌, ◌∷◌, ◌≡◌, ◌≢◌, [], ap, ap₂, arith, inl, inr, length}
-use Rattle.std.proofs.Common.{length-append, List, None, Option, refl, Some, subst, sym, true, ℕ}
+use Rattle.std.proofs.Common.{◌++◌, ◌+◌, ◌<◌, ◌==◌, ◌∙◌, ◌∷◌, ◌≡◌, ◌≢◌, ◌⊎◌, [], ap, ap₂, arith, inl, inr}
+use Rattle.std.proofs.Common.{length, length-append, List, None, Option, refl, Some, subst, sym, true, ℕ}
 use Rattle.std.{proofs.lemmas.List.{Sums.{count_by_more_yes}, take_all}, specs.Prelude.{codes, slice_index}}
 use Rattle.fc_board.specs.{Boards.{Board, IsWellFormed}, Games.{Game}, Moves.{MoveList}}
 use Rattle.{fc_board.specs.declared.rule.Variant.{Variant}, fc_text.specs.Bytes.{line_feed}}
 use Rattle.fc_record.{proofs.TextLineLemmas.{ends-after, ends-line_feed, last_byte}, specs.RecordTexts.{ends_line}}
 use Rattle.fc_collect.specs.declared.streams.faults.Summary.{Summary}
-use Rattle.fc_import.proofs.{SilenceLemmas.{all_taken, both_empty, note_said}, TakingLemmas.{put_five, spelled_out}}
-use Rattle.fc_import.specs.Import.{a_board, a_list, collection, headed, Imported, left_out, ListNeedsNoNote, Makes}
+use Rattle.fc_import.proofs.{SilenceLemmas.{all_taken, both_empty, note_said}, TakingLemmas.{board_needs_none, put_five}}
+use Rattle.fc_import.specs.Import.{a_board, a_list, CanBe, collection, headed, Imported, left_out, ListNeedsNoNote, Makes}
 use Rattle.fc_import.specs.Import.{no_board, no_board_line, none_yet, once_more, one_more, passed, Reading, refusals}
 use Rattle.fc_import.specs.Import.{refused_board, refused_by, refused_list, too_much, too_much_line, with_tally}
 use Rattle.fc_import.specs.Notes.{counted, IsNote, line_feeds, Place, place_text, SaysUnless, State}
 use Rattle.fc_import.specs.declared.options.{ImportOptions.{ImportOptions}, Noted.{Noted}}
+use Rattle.fc_import.specs.declared.options.LinesAre.TheVariants.{Columns as AsColumns}
 use Rattle.fc_import.specs.declared.{options.Noted.TheVariants.{Changes, Doubts, Strict}, tally.Tally.{Tally}}
 
 -- ---- what is silent where changes are noted
@@ -59,6 +60,39 @@ silent_as : {holds other : Type 0} (place : Place) (piece said : List ℕ) → (
 silent_as place piece said so (inl (holds, none)) silent = inl (so holds, none)
 silent_as place piece said so (inr (fails, note)) silent = absurd (note_said place piece said note silent)
 
+-- where nothing was said, no note is needed
+needs_no_note : {holds : Type 0} (place : Place) (piece said : List ℕ) → SaysUnless holds place piece said → said ≡ [] → holds
+needs_no_note place piece said (inl (holds, none)) silent = holds
+needs_no_note place piece said (inr (fails, note)) silent = absurd (note_said place piece said note silent)
+
+-- play can make a board that is written in silence
+pub can_be_silent : {variant : Variant} {game : Game} {state : State} {piece : List ℕ} {next : State} {written said : List ℕ}
+    → Reading variant game state piece next written said → said ≡ [] → written ≢ [] → (board : Board) → next.last ≡ Some board
+    → CanBe game piece board ⊎ (state.last ≡ Some board)
+can_be_silent (passed apart quiet) silent some board is = absurd (some refl)
+can_be_silent (left_out said apart names prose note) silent some board is = absurd (some refl)
+can_be_silent {game = game} {state = state} {piece = piece} (a_board name other said game_is named well can of says) silent some board is =
+    inl (subst (CanBe game piece) (let e : other ≡ board = cc in e)
+    (board_needs_none state.options.noted game piece other well (needs_no_note state.place piece said says silent)).1)
+can_be_silent (once_more other said last begun of says) silent some board is = absurd (some refl)
+can_be_silent (a_list other list said apart last legal few names says) silent some board is = inr is
+can_be_silent (refused_board said note) silent some board is = absurd (some refl)
+can_be_silent (refused_list last said apart stays note) silent some board is = absurd (some refl)
+
+-- and one that is written where lines are not said to be columns
+pub can_be_unsaid : {variant : Variant} {game : Game} {state : State} {piece : List ℕ} {next : State} {written said : List ℕ}
+    → Reading variant game state piece next written said → state.options.lines_are ≢ AsColumns → written ≢ []
+    → (board : Board) → next.last ≡ Some board → CanBe game piece board ⊎ (state.last ≡ Some board)
+can_be_unsaid (passed apart quiet) unsaid some board is = absurd (some refl)
+can_be_unsaid (left_out said apart names prose note) unsaid some board is = absurd (some refl)
+can_be_unsaid (a_board name other said game_is named well (inl columns) of says) unsaid some board is = absurd (unsaid columns)
+can_be_unsaid {game = game} {piece = piece} (a_board name other said game_is named well (inr can) of says) unsaid some board is =
+    inl (subst (CanBe game piece) (let e : other ≡ board = cc in e) can)
+can_be_unsaid (once_more other said last begun of says) unsaid some board is = absurd (some refl)
+can_be_unsaid (a_list other list said apart last legal few names says) unsaid some board is = inr is
+can_be_unsaid (refused_board said note) unsaid some board is = absurd (some refl)
+can_be_unsaid (refused_list last said apart stays note) unsaid some board is = absurd (some refl)
+
 -- lines that need no note of a list need none where doubts alone are noted
 needs_none : (asked : Noted) (game : Game) (piece : List ℕ) (list : MoveList) → ListNeedsNoNote asked game piece list
     → ListNeedsNoNote Doubts game piece list
@@ -74,10 +108,10 @@ still_silent (passed apart quiet) silent well = passed apart quiet
 still_silent (left_out said apart names prose note) silent well = absurd (note_said _ _ said note silent)
 still_silent {game = game} {state = state} {piece = piece} (a_board name board said game_is named is can of says) silent well =
     a_board name board said game_is (record { by_header = named.by_header; alone = named.alone }) is can of
-    (silent_as state.place piece said (spelled_out state.options.noted game piece board is) says silent)
+    (silent_as state.place piece said (board_needs_none state.options.noted game piece board is) says silent)
 still_silent {game = game} {state = state} {piece = piece} (once_more board said last begun of says) silent well =
     once_more board said last begun of
-    (silent_as state.place piece said (spelled_out state.options.noted game piece board (well board last)) says silent)
+    (silent_as state.place piece said (board_needs_none state.options.noted game piece board (well board last)) says silent)
 still_silent {game = game} {state = state} {piece = piece} (a_list board list said apart last legal few names says) silent well =
     a_list board list said apart last legal few names
     (silent_as state.place piece said (needs_none state.options.noted game piece list) says silent)

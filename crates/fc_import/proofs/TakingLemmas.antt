@@ -17,6 +17,7 @@ use Rattle.fc_import.specs.inside.{IsMade, part, printing, Says, state_of, Takes
 use Rattle.fc_import.specs.{Notes.{after, first_state, State, tally_of}, Scan.{named_cards}}
 use Rattle.fc_import.specs.Words.{ended, is_between}
 use Rattle.fc_import.specs.declared.{made.Made.{Made}, options.{ImportOptions.{ImportOptions}, Noted.{Noted}}}
+use Rattle.fc_import.specs.declared.options.LinesAre.TheVariants.{Columns as AsColumns}
 use Rattle.fc_import.specs.declared.options.Noted.TheVariants.{Changes, Doubts, Strict}
 use Rattle.fc_import.specs.declared.tally.{Fate.TheVariants.{ABoard, Again, Passed}, Tally.{Tally}}
 
@@ -127,17 +128,17 @@ pub spelled_by_lines : (game : Game) (piece : List ℕ) (board : Board) → ¬ S
 spelled_by_lines game piece board unread (inl spelled) = absurd (unread spelled)
 spelled_by_lines game piece board unread (inr lines) = lines
 
--- lines that need no note of a board spell it out
-pub spelled_out : (asked : Noted) (game : Game) (piece : List ℕ) (board : Board) → IsWellFormed game board
-    → BoardNeedsNoNote asked game piece board → SpellsOut game piece board
-spelled_out Doubts game piece board well silent = silent
-spelled_out Changes game piece board well silent = inl (spelled game board piece well silent)
-spelled_out Strict game piece board well silent = inl (spelled game board piece well silent)
+-- lines that need no note of a board need none where doubts alone are noted
+pub board_needs_none : (asked : Noted) (game : Game) (piece : List ℕ) (board : Board) → IsWellFormed game board
+    → BoardNeedsNoNote asked game piece board → BoardNeedsNoNote Doubts game piece board
+board_needs_none Doubts game piece board well silent = silent
+board_needs_none Changes game piece board well silent = (inl (spelled game board piece well silent), inr silent)
+board_needs_none Strict game piece board well silent = (inl (spelled game board piece well silent), inr silent)
 
 module _ {R : Type 0} (variant : Variant) (game : Game) (piece : List ℕ) (board : Board) (old said new : Made R)
     (of : IsReadAs old.options.lines_are game piece board) (says : Says game piece board old said) where
   -- what is to be said of a board was said, and the board was written
-  pub board_taken : old.other_game ≡ false → IsWellFormed game board → CanBe game piece board
+  pub board_taken : old.other_game ≡ false → IsWellFormed game board → (old.options.lines_are ≡ AsColumns) ⊎ CanBe game piece board
       → state_of new ≡ after (state_of said) piece (Some board) ABoard
       → (name : List ℕ) × IsNamed (state_of said) name
       × (new.written.items ≡ said.written.items ++ (header_text variant name ++ text_of board))

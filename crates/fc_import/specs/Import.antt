@@ -74,9 +74,21 @@ pub record HasLines (piece : Text) (board : Board) : Type 0 where
 abbrev pub SpellsOut : Game → (piece : Text) → Board → Type 0
 SpellsOut game piece board = Spells game piece board ⊎ HasLines piece board
 
--- what the lines are where nothing is noted of a board that they are read as: they spell it out or, where each change is noted, they are it as it is printed
+-- how many cards a deal puts into a column at most
+abbrev pub most_dealt : ℕ
+most_dealt = 7
+
+-- each card of a column that comes after as many as a deal has there goes on the card before it
+abbrev pub IsBuilt : Game → (column : Pile) → Type 0
+IsBuilt game column = (place : ℕ) → most_dealt ≤ place → place < length column → Builds game (slice_index column place) (slice_index column (place - 1))
+
+-- play can make the columns of the board, or the lines are the board as it is printed
+abbrev pub CanBe : Game → (piece : Text) → Board → Type 0
+CanBe game piece board = All (IsBuilt game) board.columns ⊎ (piece ≡ text_of board)
+
+-- what the lines are where nothing is noted of a board that they are read as: they spell it out, and play can make it, or, where each change is noted, they are it as it is printed
 abbrev pub BoardNeedsNoNote : Noted → Game → (piece : Text) → Board → Type 0
-BoardNeedsNoNote Doubts game piece board = SpellsOut game piece board
+BoardNeedsNoNote Doubts game piece board = SpellsOut game piece board × CanBe game piece board
 BoardNeedsNoNote noted game piece board = piece ≡ text_of board
 
 -- the words of the text are the tokens of the list's moves
@@ -112,9 +124,9 @@ abbrev pub ListNeedsNoNote : Noted → Game → (piece : Text) → MoveList → 
 ListNeedsNoNote Doubts game piece list = (piece ≡ list_line list) ⊎ AreLists game piece
 ListNeedsNoNote noted game piece list = piece ≡ list_line list
 
--- a semicolon, a bar, a slash and a closing bracket
+-- a semicolon, a bar, a slash and closing brackets
 abbrev pub ends_column : ℕ → Bool
-ends_column byte = byte == 0x3B || byte == 0x7C || byte == 0x2F || byte == 0x5D
+ends_column byte = byte == 0x3B || byte == 0x7C || byte == 0x2F || byte == 0x5D || byte == 0x29 || byte == 0x7D
 
 -- the lines as a layout has them: where one line has all columns, these marks end columns as line feeds do
 abbrev pub lines_of : Layout → (piece : Text) → Text
@@ -138,18 +150,6 @@ pub data IsReadAs (lines_are : LinesAre) (game : Game) (piece : Text) (board : B
   printed : piece ≡ text_of board → IsReadAs lines_are game piece board
   spelled : may_be lines_are Columns piece ≡ true → SpellsOut game piece board → IsReadAs lines_are game piece board
   laid : (layout : Layout) → may_be lines_are layout piece ≡ true → tells_columns layout piece board ≡ true → AreIn layout piece board → IsReadAs lines_are game piece board
-
--- how many cards a deal puts into a column at most
-abbrev pub most_dealt : ℕ
-most_dealt = 7
-
--- each card of a column that comes after as many as a deal has there goes on the card before it
-abbrev pub IsBuilt : Game → (column : Pile) → Type 0
-IsBuilt game column = (place : ℕ) → most_dealt ≤ place → place < length column → Builds game (slice_index column place) (slice_index column (place - 1))
-
--- play can make the columns of the board, or the lines are the board as it is printed
-abbrev pub CanBe : Game → (piece : Text) → Board → Type 0
-CanBe game piece board = All (IsBuilt game) board.columns ⊎ (piece ≡ text_of board)
 
 -- a name and the number of the board that has it, in at most 64 bytes
 abbrev pub numbered : Text → ℕ → Text
@@ -190,8 +190,8 @@ pub data Reading (variant : Variant) (game : Game) (state : State) (piece : Text
   passed : IsApart state piece → All (λ line. IsQuiet game line.bytes) (lines_from 0 piece) → Reading variant game state piece (after state piece state.last Passed) [] []
   -- a line of prose that names cards
   left_out : (said : Text) → IsApart state piece → named_in piece ≢ [] → All (λ line. IsProse game line.bytes) (lines_from 0 piece) → IsNote state.place piece said → Reading variant game state piece (after state piece state.last LeftOut) [] said
-  -- a board, as which the lines are read: nothing is said of one that needs no note
-  a_board : (name : Text) (board : Board) (said : Text) → state.other_game ≡ false → IsNamed state name → IsWellFormed game board → CanBe game piece board
+  -- a board, as which the lines are read, and which play can make, unless they are said to be columns: nothing is said of one that needs no note
+  a_board : (name : Text) (board : Board) (said : Text) → state.other_game ≡ false → IsNamed state name → IsWellFormed game board → (state.options.lines_are ≡ AsColumns) ⊎ CanBe game piece board
       → IsReadAs state.options.lines_are game piece board → SaysUnless (BoardNeedsNoNote state.options.noted game piece board) state.place piece said
       → Reading variant game state piece (after state piece (Some board) ABoard) (header_text variant name ++ text_of board) said
   -- the last board once more, after the rule that begins a solution: nothing is said of one that needs no note

@@ -1,30 +1,12 @@
 -- What may stand before the cards of a line: the name of the line with a colon, or the number of its column. From: Freecell Solver's board text, and how sites and programs name the parts of a board.
-use Rattle.std.specs.{List.{before_first, list_any}, Prelude.{◌&&◌, ◌-◌, ◌==◌, ◌||◌, ◌∷◌, [], Bool}}
+use Rattle.std.specs.{List.{before_first}, Prelude.{◌&&◌, ◌-◌, ◌==◌, ◌||◌, ◌∷◌, [], Bool}}
 use Rattle.std.specs.Prelude.{codes, false, if◌then◌else◌, length, List, map, nat_le, nat_lt}
-use Rattle.std.specs.{Prelude.{slice_index, true, ℕ}, Str.{str_eq_ignore_ascii_case}}
+use Rattle.std.specs.Prelude.{slice_index, true, ℕ}
 use Rattle.{fc_card.specs.Types.{Text}, fc_import.specs.Scan.{parts_words, uncommented, word_at}}
+use Rattle.fc_import.specs.Names.{cells_names, column_names, columns_names, foundations_names, is_among}
 use Rattle.fc_text.specs.{Bytes.{colon}, Lines.{Piece, with_end, words_from}}
 use Rattle.fc_import.specs.declared.labels.LabelKind.{LabelKind, TheVariants.{Bare, Cells, Column}}
 use Rattle.fc_import.specs.declared.labels.LabelKind.TheVariants.{Columns, Foundations, Unknown}
-
--- -------- The table of names, in any case. From: the names that sites, books and solvers use.
-
-abbrev pub foundations_names : List Text
-foundations_names = codes "foundations" ∷ codes "foundation" ∷ codes "founds" ∷ codes "found" ∷ codes "decks" ∷ codes "deck" ∷ codes "home" ∷ []
-
-abbrev pub cells_names : List Text
-cells_names = codes "freecells" ∷ codes "freecell" ∷ codes "fc" ∷ codes "cells" ∷ codes "cell" ∷ codes "reserve" ∷ codes "reserves" ∷ []
-
--- of one column, before its number
-abbrev pub column_names : List Text
-column_names = codes "column" ∷ codes "col" ∷ codes "stack" ∷ codes "pile" ∷ codes "cascade" ∷ []
-
--- of all columns, in a line of its own
-abbrev pub columns_names : List Text
-columns_names = codes "columns" ∷ codes "tableau" ∷ codes "stacks" ∷ codes "piles" ∷ codes "cascades" ∷ codes "board" ∷ []
-
-abbrev pub is_among : (word : Text) → (names : List Text) → Bool
-is_among word names = list_any (str_eq_ignore_ascii_case word) names
 
 -- -------- Labels. From: this project's profile.
 

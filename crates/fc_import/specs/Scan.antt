@@ -3,17 +3,18 @@ use Rattle.std.specs.Char.{is_ascii_alphabetic, is_ascii_alphanumeric, is_ascii_
 use Rattle.std.specs.Char.{is_ascii_lowercase}
 use Rattle.std.specs.List.{before_first, flat_map, fold, list_all, list_any, prefix_len}
 use Rattle.std.specs.{Option.{is_none, is_some, option_or, option_to_list}, Prelude.{◌&&◌, ◌*◌}}
-use Rattle.std.specs.Prelude.{◌++◌, ◌-◌, ◌<◌, ◌==◌, ◌||◌, ◌∷◌, ◌≡◌, ◌≤◌, ◌⊎◌, [], Bool, codes}
-use Rattle.std.specs.Prelude.{count_by, drop, false, if◌then◌else◌, length, List, map, nat_le}
-use Rattle.std.specs.Prelude.{nat_lt, None, not, Option, slice_index, slice_index_or, Some, take}
+use Rattle.std.specs.Prelude.{◌++◌, ◌+◌, ◌-◌, ◌<◌, ◌==◌, ◌||◌, ◌∷◌, ◌≡◌, ◌≤◌, ◌⊎◌, [], Bool, codes}
+use Rattle.std.specs.Prelude.{count_by, drop, false, if◌then◌else◌, length, List, map, min}
+use Rattle.std.specs.Prelude.{nat_le, nat_lt, None, not, Option, slice_index, slice_index_or, Some, take}
 use Rattle.std.specs.Prelude.{true, ℕ}
-use Rattle.std.specs.Str.{bytes_eq, str_eq_ignore_ascii_case, str_to_ascii_lowercase}
+use Rattle.std.specs.Str.{bytes_eq, str_to_ascii_lowercase}
 use Rattle.{fc_board.specs.Games.{Game}, fc_card.specs.Types.{Card, Text}}
 use Rattle.fc_text.specs.Bytes.{blank, colon, dash, is_gap, number_sign}
 use Rattle.fc_text.specs.Lines.{Piece, with_end, words_from}
 use Rattle.fc_text.specs.Notation.{cell_letters, column_digits, count_letter, home_letter}
 use Rattle.fc_text.specs.{reader.{run_named}, Spelling.{card_spelled}}
 use Rattle.fc_record.specs.{Grammar.{begins_with}, RecordTexts.{header_mark}}
+use Rattle.fc_import.specs.Names.{cells_names, column_names, foundations_names, is_among}
 
 -- -------- The words of a line: letters and digits together. From: how sites, books and solvers write boards and moves.
 
@@ -44,7 +45,7 @@ named_cards line = if begins_with header_mark line then [] else cards_in line
 
 -- -------- The moves that they name: `2a`, `23v2`, `2->6`, `5 to a`, with numbers and labels before them, as `12. 2a` and `Solution: 2a`. From: standard FreeCell move notation, and how sites and programs write it.
 
--- what words name so far: the moves, each after a blank; the pile that a move is from whose target comes next, and whether its arrow has a point; whether each word is of a move; how many moves are no numbers: none, one, or more; and whether one of those came before any other word
+-- what words name so far: the moves, each after a blank; the pile that a move is from whose target comes next, and whether its arrow has a point; whether each word is of a move; how sure it is that one is: not by digits or letters alone (0), by one that is a card too (1), or else (2); and whether a sure one came before any other word
 pub record Said : Type 0 where
   pub moves : Text
   pub from : Option ℕ
@@ -82,21 +83,25 @@ abbrev pub is_label : (word after : Text) → Bool
 is_label word after =
     let mark = slice_index after 0 in
     if is_number word then mark == colon || mark == 0x2E || mark == 0x29
-    else mark == colon && list_any (str_eq_ignore_ascii_case word) solution_names
+    else mark == colon && is_among word solution_names
 
 -- a digit and a letter
 abbrev pub is_sure : Text → Bool
 is_sure word = not (is_number word) && not (list_all is_ascii_alphabetic word)
 
+-- how sure a word is a move
+abbrev pub sureness : Text → ℕ
+sureness word = if not (is_sure word) then 0 else if is_some (named_card word) then 1 else 2
+
 -- the move is the next one
-abbrev pub with_move : Said → (word : Text) → (sure : Bool) → Said
+abbrev pub with_move : Said → (word : Text) → (sure : ℕ) → Said
 with_move said word sure = record {
   moves = said.moves ++ (blank ∷ str_to_ascii_lowercase word);
   from = None;
   pointed = false;
   all = said.all;
-  sure = if sure then (if said.sure == 0 then 1 else 2) else said.sure;
-  led = said.led || (sure && said.all);
+  sure = min 2 (said.sure + sure);
+  led = said.led || (nat_lt 0 sure && said.all);
 }
 
 -- moves that are not parted, as `3a3b5c`
@@ -107,9 +112,19 @@ is_glued game word = nat_le 4 (length word) && is_sure (take 2 word) && is_some 
 abbrev pub is_card_move : (word next : Text) → Bool
 is_card_move word next = is_some (named_card word) && not (list_any is_ascii_lowercase word) && (is_pointed next || bytes_eq (take 3 next) (codes "to "))
 
--- a move in a form that is not read
+-- each two letters are a card
+abbrev pub are_cards : Text → Bool
+are_cards [] = true
+are_cards (rank ∷ suit ∷ letters) = is_some (named_card (rank ∷ suit ∷ [])) && are_cards letters
+are_cards letters = false
+
+-- three cards or more that are not parted, as `JDKD2S`
+abbrev pub are_glued : Text → Bool
+are_glued word = nat_le 6 (length word) && are_cards word
+
+-- a move, or cards, in a form that is not read
 abbrev pub is_unread : Game → (word next : Text) → Bool
-is_unread game word next = is_some (run_named game word) || is_glued game word || is_card_move word next
+is_unread game word next = is_some (run_named game word) || is_glued game word || is_card_move word next || are_glued word
 
 -- the next word is of no move, or of one in a form that is not read
 abbrev pub with_other : Said → (unread : Bool) → Said
@@ -118,21 +133,25 @@ with_other said unread = record said { from = None; pointed = false; all = false
 -- a word where no target comes next
 abbrev pub after_first : Game → Said → (word next : Text) → Said
 after_first game said word next =
-    if is_some (run_named game word) && not (is_pointed next) then with_move said word (is_sure word)
+    if is_some (run_named game word) && not (is_pointed next) then with_move said word (sureness word)
     else if length word == 1 && is_arrow next then record said { from = Some (slice_index word 0); pointed = is_pointed next }
     else with_other said (is_unread game word next)
 
 -- the letters of a pile and of the target after an arrow
 abbrev pub after_letters : Game → Said → (letters : Text) → Said
 after_letters game said letters =
-    if is_some (run_named game letters) then with_move said letters (said.pointed || is_sure letters) else with_other said false
+    if is_some (run_named game letters) then with_move said letters (if said.pointed then 2 else sureness letters) else with_other said false
+
+-- a name of piles
+abbrev pub is_pile_name : Text → Bool
+is_pile_name word = is_among word (codes "free" ∷ cells_names) || is_among word foundations_names || is_among word column_names
 
 -- a word where the target of a move from this pile comes next
 abbrev pub after_arrow : Game → Said → (from : ℕ) → (word : Text) → Said
 after_arrow game said from word =
     if bytes_eq word (codes "to") then said
     else if length word == 1 then after_letters game said (from ∷ word)
-    else with_other said false
+    else with_other said (is_pile_name word)
 
 abbrev pub after_next : Game → Said → Option ℕ → (word next : Text) → Said
 after_next game said None word next = after_first game said word next
@@ -255,7 +274,7 @@ moves_in game line = count_by (λ byte. byte == blank) (said_in game line).moves
 
 -- -------- What a line may be that no board and no list is made of. From: this project's profile.
 
--- a line of other words names few moves: less than four, by at most half of its words, but for a number alone; one at most that is no number, and that neither first nor after a number that is; and it has no moves in forms that are not read
+-- a line of other words names few moves: less than four, by at most half of its words, but for a number alone; none that is sure, but for one that is a card too, and that neither first nor after a number that is; and none in a form that is not read
 pub record HasFewMoves (game : Game) (line : Text) : Type 0 where
   pub few : moves_in game line < 4
   pub half : (2 * moves_in game line ≤ length (words_of line)) ⊎ (is_number_alone (words_of line) ≡ true)

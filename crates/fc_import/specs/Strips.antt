@@ -1,15 +1,15 @@
 -- Under which columns the cards of rows stand, and which column a line with a number is.
-use Rattle.std.specs.{List.{count_by, list_all, list_any}, Option.{option_or}, Prelude.{◌%◌, ◌&&◌}}
-use Rattle.std.specs.Prelude.{◌++◌, ◌-◌, ◌/◌, ◌==◌, ◌||◌, ◌∷◌, [], Bool, codes, false}
+use Rattle.std.specs.{List.{count_by, list_all, list_any}, Option.{is_none, option_or}, Prelude.{◌%◌, ◌&&◌}}
+use Rattle.std.specs.Prelude.{◌++◌, ◌-◌, ◌/◌, ◌==◌, ◌||◌, ◌∷◌, [], Bool, codes, drop, false}
 use Rattle.std.specs.Prelude.{if◌then◌else◌, length, List, min, nat_lt, None, not, Option}
-use Rattle.std.specs.Prelude.{slice_get, slice_index_or, Some, take, true, ℕ}
+use Rattle.std.specs.{Prelude.{slice_get, slice_index_or, Some, take, true, ℕ}, Str.{bytes_eq}}
 use Rattle.{fc_board.specs.Boards.{Board}, fc_card.specs.{places, Types.{Card, Pile, Text}}}
 use Rattle.fc_text.specs.{Bytes.{tab}, Lines.{lines_from, Piece, words}}
 use Rattle.fc_text.specs.Notation.{separates_tokens}
 use Rattle.fc_import.specs.Labels.{label_of}
 use Rattle.fc_import.specs.Scan.{named_card, named_cards, uncommented, words_of}
 use Rattle.fc_import.specs.declared.labels.LabelKind.{LabelKind, TheVariants.{Column}}
-use Rattle.fc_import.specs.declared.layout.Layout.{Layout, TheVariants.{Rows}}
+use Rattle.fc_import.specs.declared.layout.Layout.{Layout, TheVariants.{Deal, Rows}}
 use Rattle.fc_import.specs.declared.strips.Strips.{Strips, TheVariants.{Bytes, Fields, Words}}
 
 -- -------- Where each column has its strip of a line. From: how books, sites, programs and spreadsheets lay rows out.
@@ -91,9 +91,30 @@ is_of_label label board card = true
 abbrev pub is_labelled : Board → (line : Text) → Bool
 is_labelled board line = is_of_label (label_of (uncommented line)) board (slice_get (named_cards line) 0)
 
+-- -------- Whether one line has the cards in the order of dealing. From: how Microsoft's deals are written in one line.
+
+-- what stands between two places of a line
+abbrev pub between : (line : Text) → (start end : ℕ) → Text
+between line start end = take (end - start) (drop start line)
+
+-- from this place on the same mark stands before each word
+abbrev pub are_parted_by : (line mark : Text) → (start : ℕ) → List (Piece × ℕ) → Bool
+are_parted_by line mark start [] = true
+are_parted_by line mark start (word ∷ words) = bytes_eq (between line start word.0.start) mark && are_parted_by line mark word.1 words
+
+-- the same mark stands between any two words
+abbrev pub are_even : (line : Text) → List (Piece × ℕ) → Bool
+are_even line (first ∷ second ∷ words) = are_parted_by line (between line first.1 second.0.start) second.1 words
+are_even line words = true
+
+-- no card, or words that one mark parts: so no group of them may be a column
+abbrev pub has_no_groups : (line : Text) → Bool
+has_no_groups line = is_none (slice_get (named_cards line) 0) || are_even (uncommented line) (words_of line)
+
 -- -------- Whether lines tell the columns of their cards. From: this project's profile.
 
--- each word of rows that names a card of a column is in that column's strip; in other layouts, where a line has the cards of one column, its first card is in the column of its number, if it has one
+-- each word of rows that names a card of a column is in that column's strip; cards in the order of dealing are all of a deal, in no groups; and in layouts where a line has the cards of one column, its first card is in the column of its number, if it has one
 abbrev pub tells_columns : Layout → (piece : Text) → Board → Bool
 tells_columns (Rows strips) piece board = list_all (λ line. are_below strips board line.bytes) (lines_from 0 piece)
+tells_columns Deal piece board = (is_dealt board && list_all (λ line. has_no_groups line.bytes) (lines_from 0 piece)) && list_all (λ line. is_labelled board line.bytes) (lines_from 0 piece)
 tells_columns layout piece board = list_all (λ line. is_labelled board line.bytes) (lines_from 0 piece)

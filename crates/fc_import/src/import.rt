@@ -36,7 +36,8 @@ const NO_LIST: &[u8] = b"not imported: these are more moves than a list has";
 const NO_MOVES: &[u8] =
     b"not imported: this solution has no moves: take what fc-solve -m -snx prints";
 
-const NO_MOVE: &[u8] = b" is no move: write the moves of a solution alone";
+const NO_MOVE: &[u8] =
+    b" is no move: write the moves of a solution alone, or # before a line of words";
 
 const NO_LABEL: &[u8] =
     b" is no name or number of this line: write Freecells: or Foundations:, or leave it out";
@@ -52,7 +53,10 @@ const QUESTION: &[u8] =
     b"not imported: these may be columns or rows: say which, with --columns or --rows";
 
 const UNPLAYABLE: &[u8] =
-    b"not imported: no play leads to these columns: write each column in a line of its own";
+    b"not imported: no play leads to these columns: write each in a line of its own, or say --columns";
+
+const UNTOLD: &[u8] =
+    b"not imported: it is not told where columns end: write each column in a line of its own";
 
 const OTHER_CARDS: &[u8] = b"not imported: a word outside the columns and the cells names a card";
 
@@ -412,7 +416,14 @@ impl<R: Rule> Importer<R> {
             self.title.clear();
             return Ok(());
         }
-        self.refuse(piece, if is_known { UNPLAYABLE } else { OTHER_CARDS })
+        self.refuse(
+            piece,
+            match layout {
+                _ if is_known => UNPLAYABLE,
+                Layout::Deal => UNTOLD,
+                _ => OTHER_CARDS,
+            },
+        )
     }
 
     // Whether a solution begins with this board, which is the last one. It may go on with boards.
@@ -480,13 +491,13 @@ impl<R: Rule> Importer<R> {
         ensures { OnOk result (Takes R.VARIANT R.game lines.now self.old.made self.new.made) }
     {
         self.solution = Solution::Nothing;
-        let Some(board) = &self.made.last else {
-            return self.made.refuse_list(lines, 0, NO_BOARD_BEFORE);
-        };
         if let Some(at) = piece.held.foreign {
             let words = word_reason(self.made.alloc, lines, at, NO_MOVE)?;
             return self.made.refuse_list(lines, at, words.as_slice());
         }
+        let Some(board) = &self.made.last else {
+            return self.made.refuse_list(lines, 0, NO_BOARD_BEFORE);
+        };
         let read = moves_on(self.made.alloc, board, lines, piece.moves.as_slice())?;
         self.take_read_moves(lines, read)
     }

@@ -1,10 +1,11 @@
 //! What stands before the cards of a line: a name with a colon, or the number of a column.
 ghost use Rattle.std.specs.{List.{before_first}, Prelude.{◌==◌, ◌∷◌, ◌≡◌, []}};
 ghost use Rattle.fc_text.specs.Bytes.{colon};
-ghost use Rattle.fc_import.specs.Labels.{all_words, cells_names, column_names, columns_names};
-ghost use Rattle.fc_import.specs.Labels.{foundations_names, is_among, is_column_number};
-ghost use Rattle.fc_import.specs.Labels.{is_numbered, label_of, said_by_front, said_by_one};
-ghost use Rattle.fc_import.specs.Labels.{said_by_two, said_by_words, says_column};
+ghost use Rattle.fc_import.specs.Labels.{all_words, is_column_number, is_numbered, label_of};
+ghost use Rattle.fc_import.specs.Labels.{said_by_front, said_by_one, said_by_two, said_by_words};
+ghost use Rattle.fc_import.specs.Labels.{says_column};
+ghost use Rattle.fc_import.specs.Names.{cells_names, column_names, columns_names};
+ghost use Rattle.fc_import.specs.{Names.{foundations_names, is_among}, Scan.{is_pile_name}};
 ghost use Rattle.fc_import.specs.Seen.{piece_of};
 ghost use Rattle.fc_import.specs.Strips.{is_labelled, is_of_label, tells_columns};
 ghost use Rattle.fc_import.specs.declared.layout.Layout.TheVariants.{Columns};
@@ -151,6 +152,16 @@ fn is_numbered(text: &[u8], word: &Word<'_>) -> bool
     ensures { result ≡ is_numbered text.now (piece_of word.now) }
 {
     is_column_number(word.text) && matches!(text.get(word.end), Some(b'.' | b')'))
+}
+
+/// Whether the word is a name of piles.
+pub(crate) fn is_pile_name(word: &[u8]) -> bool
+    ensures { result ≡ is_pile_name word.now }
+{
+    word.eq_ignore_ascii_case(b"free")
+        || is_cells_name(word)
+        || is_foundations_name(word)
+        || is_column_name(word)
 }
 
 fn is_column_number(word: &[u8]) -> bool

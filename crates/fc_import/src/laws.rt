@@ -1,7 +1,7 @@
 //! Laws of texts, and of the words that name cards.
 ghost use Rattle.std.specs.{Fmt.{decimal}, List.{Contains, fold}, Prelude.{◌++◌, ◌<◌, ◌∷◌, ◌≡◌}};
 ghost use Rattle.std.specs.Prelude.{◌≢◌, ◌⊎◌, [], codes, false, if◌then◌else◌, None, Option, Some};
-ghost use Rattle.std.specs.Prelude.{true, ℕ};
+ghost use Rattle.std.specs.{Prelude.{chars, slice_index, true, ℕ}, Str.{IsUtf8}};
 ghost use Rattle.{fc_board.specs.declared.rule.Variant.{Variant}, fc_card.specs.Types.{Text}};
 ghost use Rattle.fc_board.specs.Boards.{Board};
 ghost use Rattle.fc_board.specs.Games.{bakers_game, eight_off, freecell, Game, game_of};
@@ -11,14 +11,15 @@ ghost use Rattle.fc_text.specs.Spelling.{board_of, Spells};
 ghost use Rattle.fc_record.specs.{Grammar.{begins_with, heading_of}, RecordTexts.{header_mark}};
 ghost use Rattle.fc_collect.specs.declared.streams.faults.Summary.{Summary};
 ghost use Rattle.fc_import.specs.Import.{AreIn, BoardNeedsNoNote, count_text, Imported, IsApart};
-ghost use Rattle.fc_import.specs.Import.{IsBuilt, IsNoBoard, IsPrinted, IsReadAs, IsShown};
+ghost use Rattle.fc_import.specs.Import.{CanBe, IsBuilt, IsNoBoard, IsPrinted, IsReadAs, IsShown};
 ghost use Rattle.fc_import.specs.Import.{lines_in, ListNeedsNoNote, Makes, may_be, most_dealt};
 ghost use Rattle.fc_import.specs.Import.{numbered, Reading, refusals, StaysLast};
 ghost use Rattle.fc_import.specs.inside.{of_columns};
 ghost use Rattle.fc_import.specs.Notes.{name_by, Place, place_text, SaysUnless, State};
 ghost use Rattle.fc_import.specs.Scan.{HasFewCards, is_list, IsQuiet, moves_in, named_card};
-ghost use Rattle.fc_import.specs.{Scan.{named_cards, said_in}, Strips.{tells_columns}};
-ghost use Rattle.fc_import.specs.Words.{decoded, named_in, named_lines, text_read};
+ghost use Rattle.fc_import.specs.Scan.{IsProse, named_cards, said_in};
+ghost use Rattle.fc_import.specs.Strips.{has_no_groups, is_dealt, tells_columns};
+ghost use Rattle.fc_import.specs.Words.{decoded, letters_of, named_in, named_lines, text_read};
 ghost use Rattle.fc_import.specs.declared.{
   layout.Layout.TheVariants.{Columns, ColumnsInLine, Deal, Rows},
   options.ImportOptions.{ImportOptions},
@@ -76,8 +77,8 @@ pub fn words_name_moves()
     ensures among { moves_in freecell (codes "so 1a and 23v2 or 5 to a, then 4h") ≡ 4 }
 {}
 
-/// No list passes in silence, no line that begins with a move, none with two moves among a word
-/// more, and none with four moves or with moves that are not parted.
+/// No list passes in silence, and no line with a move of a digit and a letter, wherever it stands;
+/// nor one whose moves or cards are not parted, with four moves, or with a pile by its name.
 pub fn solutions_are_not_quiet()
     ensures lists { (game : Game) (line : Text) → is_list game line ≡ true → ¬ IsQuiet game line }
     ensures among { (game : Game) (line : Text) → 3 < moves_in game line → ¬ IsQuiet game line }
@@ -91,8 +92,17 @@ pub fn solutions_are_not_quiet()
     ensures single { ¬ IsQuiet freecell (codes "3 a 3 b") }
     ensures pair { ¬ IsQuiet freecell (codes "3 a") }
     ensures numbered { ¬ IsQuiet freecell (codes "1 3a") }
+    ensures last { ¬ IsQuiet freecell (codes "Step 1: 3a") }
+    ensures from { ¬ IsQuiet freecell (codes "from 3 to a") }
+    ensures pile { ¬ IsQuiet freecell (codes "column 3 to cell a") }
+    ensures arrow { ¬ IsQuiet freecell (codes "so 3->4") }
+    ensures cards { ¬ IsQuiet freecell (codes "JDKD2S") }
     ensures number { IsQuiet freecell (codes "24") }
-    ensures title { IsQuiet freecell (codes "Game 1b") }
+    ensures title { IsQuiet freecell (codes "Game 12") }
+    ensures numbers { IsQuiet freecell (codes "Deals 1 to 8") }
+    ensures card { IsProse freecell (codes "dig out the 7H") }
+    ensures card_first { ¬ IsProse freecell (codes "7H is buried") }
+    ensures card_numbered { ¬ IsProse freecell (codes "1 3h zz") }
 {}
 
 /// Where nothing is written for a piece, and nothing said of it, no line of it lists moves; but for
@@ -132,6 +142,8 @@ pub fn lines_are_in_layouts()
         (of_columns ((50 ∷ []) ∷ (51 ∷ []) ∷ [])) }
     ensures parted { AreIn ColumnsInLine (codes "[KH];KS/QH|QS")
         (of_columns ((50 ∷ []) ∷ (51 ∷ []) ∷ (46 ∷ []) ∷ (47 ∷ []) ∷ [])) }
+    ensures brackets { AreIn ColumnsInLine (codes "(KH)(KS) {QH}{QS}")
+        (of_columns ((50 ∷ []) ∷ (51 ∷ []) ∷ (46 ∷ []) ∷ (47 ∷ []) ∷ [])) }
     ensures no_rows { (strips : Strips) (piece : Text)
         → may_be AsColumns (Rows strips) piece ≡ false }
     ensures no_columns { may_be AsRows Columns (codes "KH KS") ≡ false }
@@ -160,6 +172,24 @@ pub fn rows_tell_columns()
         (of_columns ((50 ∷ 46 ∷ []) ∷ (51 ∷ []) ∷ [])) ≡ false }
 {}
 
+/// One line has the cards in the order of dealing only where all of a deal are there, and no other
+/// mark between two of them than between the first two; a line without cards may have any.
+pub fn cards_are_dealt_in_no_groups()
+    ensures even { has_no_groups (codes "[KH, KS, QH]") ≡ true }
+    ensures blanks { has_no_groups (codes "KH KS  QH QS") ≡ false }
+    ensures other_mark { has_no_groups (codes "KH,KS QH,QS") ≡ false }
+    ensures brackets { has_no_groups (codes "<KH KS> <QH QS>") ≡ false }
+    ensures first { has_no_groups (codes "KH-KS KC QH QS") ≡ false }
+    ensures last { has_no_groups (codes "KH KS KC-QH") ≡ false }
+    ensures comment { has_no_groups (codes "KH KS QH # 3 cards") ≡ true }
+    ensures no_cards { has_no_groups (codes "Foundations: H-0 C-0") ≡ true }
+    ensures few { (piece : Text) → tells_columns Deal piece (of_columns ((51 ∷ []) ∷ [])) ≡ false }
+    ensures dealt { (piece : Text) (board : Board) → tells_columns Deal piece board ≡ true
+        → is_dealt board ≡ true }
+    ensures parted { (piece : Text) (board : Board) (line : Piece) → tells_columns Deal piece board ≡ true
+        → Contains (lines_from 0 piece) line → has_no_groups line.bytes ≡ true }
+{}
+
 /// A line with the number of a column, as a label or before a dot, is that column, and no other,
 /// where lines are read as columns that `show` does not read.
 pub fn numbers_are_those_of_columns()
@@ -185,45 +215,40 @@ pub fn numbers_are_those_of_columns()
 /// that letter; a no-break space and a wide one are blanks; a byte order mark, the mark after a
 /// coloured sign and one of direction are nothing. Other signs stay, and so does a knight.
 pub fn signs_are_letters()
-    ensures spade { text_read (0x37 ∷ 0xE2 ∷ 0x99 ∷ 0xA0 ∷ []) ≡ codes "7S" }
-    ensures outlined { text_read (0xE2 ∷ 0x99 ∷ 0xA2 ∷ 0x37 ∷ []) ≡ 0x44 ∷ 0x37 ∷ [] }
-    ensures filled_suits { text_read (0xE2 ∷ 0x99 ∷ 0xA0 ∷ 0xE2 ∷ 0x99 ∷ 0xA5
-        ∷ 0xE2 ∷ 0x99 ∷ 0xA6 ∷ 0xE2 ∷ 0x99 ∷ 0xA3 ∷ []) ≡ codes "SHDC" }
-    ensures outlined_suits { text_read (0xE2 ∷ 0x99 ∷ 0xA4 ∷ 0xE2 ∷ 0x99 ∷ 0xA1
-        ∷ 0xE2 ∷ 0x99 ∷ 0xA2 ∷ 0xE2 ∷ 0x99 ∷ 0xA7 ∷ []) ≡ codes "SHDC" }
-    ensures no_break_space { text_read (0x37 ∷ 0x53 ∷ 0xC2 ∷ 0xA0 ∷ 0x37 ∷ 0x43 ∷ [])
+    ensures spade { letters_of false (0x37 ∷ 0x2660 ∷ []) ≡ codes "7S" }
+    ensures outlined { letters_of false (0x2662 ∷ 0x37 ∷ []) ≡ codes "D7" }
+    ensures filled_suits { letters_of false (0x2660 ∷ 0x2665 ∷ 0x2666 ∷ 0x2663 ∷ []) ≡ codes "SHDC" }
+    ensures outlined_suits { letters_of false (0x2664 ∷ 0x2661 ∷ 0x2662 ∷ 0x2667 ∷ [])
+        ≡ codes "SHDC" }
+    ensures no_break_space { letters_of false (0x37 ∷ 0x53 ∷ 0xA0 ∷ 0x37 ∷ 0x43 ∷ [])
         ≡ codes "7S 7C" }
-    ensures wide_space { text_read (0x37 ∷ 0xE3 ∷ 0x80 ∷ 0x80 ∷ 0x38 ∷ []) ≡ codes "7 8" }
-    ensures marks { text_read
-        (0xEF ∷ 0xBB ∷ 0xBF ∷ 0x37 ∷ 0xE2 ∷ 0x99 ∷ 0xA0 ∷ 0xEF ∷ 0xB8 ∷ 0x8F ∷ []) ≡ codes "7S" }
-    ensures direction { text_read (0xE2 ∷ 0x80 ∷ 0xAE ∷ 0x37 ∷ []) ≡ codes "7" }
-    ensures other_letter { text_read (0xC3 ∷ 0xA9 ∷ 0x2C ∷ []) ≡ 0xC3 ∷ 0xA9 ∷ 0x2C ∷ [] }
-    ensures playing_cards { text_read (0xF0 ∷ 0x9F ∷ 0x82 ∷ 0xA1 ∷ 0xF0 ∷ 0x9F ∷ 0x83 ∷ 0x9E ∷ [])
-        ≡ codes "AS KC " }
-    ensures red_cards { text_read (0xF0 ∷ 0x9F ∷ 0x82 ∷ 0xBA ∷ 0xF0 ∷ 0x9F ∷ 0x83 ∷ 0x8D ∷ [])
-        ≡ codes "TH QD " }
-    ensures knight { text_read (0xF0 ∷ 0x9F ∷ 0x82 ∷ 0xAC ∷ [])
-        ≡ 0xF0 ∷ 0x9F ∷ 0x82 ∷ 0xAC ∷ [] }
-    ensures wide_letters { text_read (0xEF ∷ 0xBC ∷ 0x97 ∷ 0xEF ∷ 0xBC ∷ 0xA4 ∷ []) ≡ codes "7D" }
-    ensures other_sign { text_read (0xF0 ∷ 0x9F ∷ 0x8E ∷ 0xB4 ∷ [])
-        ≡ 0xF0 ∷ 0x9F ∷ 0x8E ∷ 0xB4 ∷ [] }
+    ensures wide_space { letters_of false (0x37 ∷ 0x3000 ∷ 0x38 ∷ []) ≡ codes "7 8" }
+    ensures marks { letters_of false (0xFEFF ∷ 0x37 ∷ 0x2660 ∷ 0xFE0F ∷ []) ≡ codes "7S" }
+    ensures direction { letters_of false (0x202E ∷ 0x37 ∷ []) ≡ codes "7" }
+    ensures other_letter { letters_of false (0xE9 ∷ 0x2C ∷ []) ≡ 0xC3 ∷ 0xA9 ∷ 0x2C ∷ [] }
+    ensures playing_cards { letters_of false (0x1F0A1 ∷ 0x1F0DE ∷ []) ≡ codes "AS KC " }
+    ensures red_cards { letters_of false (0x1F0BA ∷ 0x1F0CD ∷ []) ≡ codes "TH QD " }
+    ensures knight { letters_of false (0x1F0AC ∷ []) ≡ 0xF0 ∷ 0x9F ∷ 0x82 ∷ 0xAC ∷ [] }
+    ensures wide_letters { letters_of false (0xFF17 ∷ 0xFF24 ∷ []) ≡ codes "7D" }
+    ensures other_sign { letters_of false (0x1F3B4 ∷ []) ≡ 0xF0 ∷ 0x9F ∷ 0x8E ∷ 0xB4 ∷ [] }
 {}
 
 /// A line ends with a line feed, a carriage return or both, a line tabulation, a form feed, U+0085,
 /// U+2028 or U+2029.
 pub fn lines_end()
-    ensures feed { text_read (0x41 ∷ 0x0A ∷ 0x42 ∷ []) ≡ 0x41 ∷ 0x0A ∷ 0x42 ∷ [] }
-    ensures both { text_read (0x41 ∷ 0x0D ∷ 0x0A ∷ 0x42 ∷ []) ≡ 0x41 ∷ 0x0A ∷ 0x42 ∷ [] }
-    ensures carriage_return { text_read (0x41 ∷ 0x0D ∷ 0x42 ∷ []) ≡ 0x41 ∷ 0x0A ∷ 0x42 ∷ [] }
-    ensures tabulation { text_read (0x41 ∷ 0x0B ∷ 0x0C ∷ []) ≡ 0x41 ∷ 0x0A ∷ 0x0A ∷ [] }
-    ensures next_line { text_read (0x41 ∷ 0xC2 ∷ 0x85 ∷ 0x42 ∷ []) ≡ 0x41 ∷ 0x0A ∷ 0x42 ∷ [] }
-    ensures separators { text_read (0xE2 ∷ 0x80 ∷ 0xA8 ∷ 0xE2 ∷ 0x80 ∷ 0xA9 ∷ [])
-        ≡ 0x0A ∷ 0x0A ∷ [] }
+    ensures feed { letters_of false (0x41 ∷ 0x0A ∷ 0x42 ∷ []) ≡ 0x41 ∷ 0x0A ∷ 0x42 ∷ [] }
+    ensures both { letters_of false (0x41 ∷ 0x0D ∷ 0x0A ∷ 0x42 ∷ []) ≡ 0x41 ∷ 0x0A ∷ 0x42 ∷ [] }
+    ensures carriage_return { letters_of false (0x41 ∷ 0x0D ∷ 0x42 ∷ []) ≡ 0x41 ∷ 0x0A ∷ 0x42 ∷ [] }
+    ensures two_feeds { letters_of false (0x0D ∷ 0x0A ∷ 0x0A ∷ []) ≡ 0x0A ∷ 0x0A ∷ [] }
+    ensures tabulation { letters_of false (0x41 ∷ 0x0B ∷ 0x0C ∷ []) ≡ 0x41 ∷ 0x0A ∷ 0x0A ∷ [] }
+    ensures next_line { letters_of false (0x41 ∷ 0x85 ∷ 0x42 ∷ []) ≡ 0x41 ∷ 0x0A ∷ 0x42 ∷ [] }
+    ensures separators { letters_of false (0x2028 ∷ 0x2029 ∷ []) ≡ 0x0A ∷ 0x0A ∷ [] }
 {}
 
 /// From the eighth card of a column on, each goes on the one before it: so spades from the king
 /// down to the six are a column of Baker's Game and Eight Off, and of FreeCell only down to the
-/// seven.
+/// seven. A board with another column is written only where lines are said to be columns, and that
+/// is noted, unless they are it as it is printed.
 pub fn columns_are_dealt_or_built()
     ensures freecell { ¬ IsBuilt freecell
         (51 ∷ 47 ∷ 43 ∷ 39 ∷ 35 ∷ 31 ∷ 27 ∷ 23 ∷ []) }
@@ -234,10 +259,18 @@ pub fn columns_are_dealt_or_built()
         (51 ∷ 47 ∷ 43 ∷ 39 ∷ 35 ∷ 31 ∷ 27 ∷ 23 ∷ []) }
     ensures upwards { ¬ IsBuilt eight_off
         (0 ∷ 4 ∷ 8 ∷ 12 ∷ 16 ∷ 20 ∷ 24 ∷ 28 ∷ []) }
+    ensures said { (variant : Variant) (game : Game) (state next : State) (piece written : Text)
+        → Reading variant game state piece next written [] → (board : Board) → written ≢ []
+        → next.last ≡ Some board → CanBe game piece board ⊎ (state.last ≡ Some board) }
+    ensures unsaid { (variant : Variant) (game : Game) (state next : State) (piece written said : Text)
+        → Reading variant game state piece next written said → state.options.lines_are ≢ AsColumns
+        → (board : Board) → written ≢ [] → next.last ≡ Some board
+        → CanBe game piece board ⊎ (state.last ≡ Some board) }
 {}
 
 /// UTF-16 with a mark is read by its units, low byte first or high byte first, also where two of
-/// them are one sign; a byte alone at the end becomes U+FFFD. Text without a mark is as it is.
+/// them are one sign; a byte alone at the end becomes U+FFFD. UTF-8 is as it is. What stands for its
+/// characters is the text.
 pub fn utf_16_is_decoded()
     ensures low_first { decoded (0xFF ∷ 0xFE ∷ 0x37 ∷ 0x00 ∷ 0x60 ∷ 0x26 ∷ [])
         ≡ 0x37 ∷ 0xE2 ∷ 0x99 ∷ 0xA0 ∷ [] }
@@ -245,7 +278,9 @@ pub fn utf_16_is_decoded()
     ensures two_units { decoded (0xFF ∷ 0xFE ∷ 0x3C ∷ 0xD8 ∷ 0xA1 ∷ 0xDC ∷ [])
         ≡ 0xF0 ∷ 0x9F ∷ 0x82 ∷ 0xA1 ∷ [] }
     ensures byte_alone { decoded (0xFF ∷ 0xFE ∷ 0x37 ∷ []) ≡ 0xEF ∷ 0xBF ∷ 0xBD ∷ [] }
-    ensures no_mark { decoded (codes "7S") ≡ codes "7S" }
+    ensures utf_8 { (bytes : Text) → IsUtf8 bytes → slice_index bytes 0 < 0xFE
+        → decoded bytes ≡ bytes }
+    ensures read { (bytes : Text) → text_read bytes ≡ letters_of false (chars (decoded bytes)) }
 {}
 
 /// Where nothing is said of a text, each board and list of it is taken, and no line is left out.

@@ -61,7 +61,7 @@ pub(crate) fn draft_of<R: Rule>(text: &[u8], piece: &Piece, lines_are: LinesAre)
         if is_said || are_lines && has_empty_fields(piece) {
             return Drafted::NoBoard;
         }
-        return if_playable(board_in(text, piece, layout), layout);
+        return if_playable(lines_are, board_in(text, piece, layout), layout);
     }
     let may_be_columns = !has_gaps(piece) && is_regular(piece);
     if lines_are == LinesAre::Unsaid && may_be_columns {
@@ -69,10 +69,14 @@ pub(crate) fn draft_of<R: Rule>(text: &[u8], piece: &Piece, lines_are: LinesAre)
     }
     match (lines_are, rows_of(text, piece)) {
         (LinesAre::Columns, rows) if may_be_columns || !has_gaps(piece) && rows.is_none() => {
-            if_playable(board_in(text, piece, Layout::Columns), Layout::Columns)
+            if_playable(
+                lines_are,
+                board_in(text, piece, Layout::Columns),
+                Layout::Columns,
+            )
         }
         (LinesAre::Unsaid | LinesAre::Rows, Some((board, layout))) => {
-            if_playable(Some(board), layout)
+            if_playable(lines_are, Some(board), layout)
         }
         _ => Drafted::NoBoard,
     }
@@ -89,8 +93,8 @@ fn columns_or_rows<R: Rule>(text: &[u8], piece: &Piece) -> Drafted<R> {
     };
     match (columns, rows) {
         (Some(_), None) if may_be_squeezed(piece) => Drafted::Question,
-        (columns, None) => if_playable(columns, Layout::Columns),
-        (None, Some((board, layout))) => if_playable(Some(board), layout),
+        (columns, None) => if_playable(LinesAre::Unsaid, columns, Layout::Columns),
+        (None, Some((board, layout))) => if_playable(LinesAre::Unsaid, Some(board), layout),
         (Some(columns), Some((rows, layout))) => {
             match (is_playable(&columns), is_playable(&rows)) {
                 (true, false) => Drafted::Board(columns, Layout::Columns),
@@ -130,9 +134,16 @@ fn have_strips<R: Rule>(strips: Strips, text: &[u8], piece: &Piece, board: &Boar
     rows.iter().all(|row| row.shape.cards == 0 || has_strips(strips, row.of(text), board))
 }
 
-fn if_playable<R: Rule>(board: Option<Board<R>>, layout: Layout) -> Drafted<R> {
+// The board, if play can make its columns, or they are said to be columns.
+fn if_playable<R: Rule>(
+    lines_are: LinesAre,
+    board: Option<Board<R>>,
+    layout: Layout,
+) -> Drafted<R> {
     match board {
-        Some(board) if is_playable(&board) => Drafted::Board(board, layout),
+        Some(board) if lines_are == LinesAre::Columns || is_playable(&board) => {
+            Drafted::Board(board, layout)
+        }
         Some(_) => Drafted::Unplayable,
         None => Drafted::NoBoard,
     }

@@ -27,9 +27,10 @@ use crate::labels::{are_labelled, says_column};
 use crate::layout::{Layout, layout_words};
 use crate::naming::{copied, name_given, names_game, numbered, title_or_number};
 use crate::options::{ImportOptions, LinesAre, Noted};
-use crate::playable::can_be;
+use crate::playable::{can_be, is_allowed};
 use crate::quiet::{Aside, are_aside, are_lists, push_moves};
 use crate::spelled::{is_equal, is_shown, spelled_needs_no_note, spells_out};
+use crate::strips::are_dealt;
 use crate::tally::{Fate, Tally, counted};
 use crate::walk::{Walk, line_after};
 use crate::words::{Words, before_mark, uncommented};
@@ -40,6 +41,8 @@ use std::alloc::{AllocError, Global};
 
 /// What is said of a board that is written in another spelling.
 const RESPELLED: &[u8] = b"this board is written as show prints it";
+
+const UNPLAYED: &[u8] = b"no play leads to these columns, which are read as they are said to be";
 
 const ONCE_MORE: &[u8] = b"this is the board before once more, with which a solution begins";
 
@@ -244,7 +247,7 @@ impl<R: Rule> Made<R> {
         if self.other_game {
             return Ok(false);
         }
-        if !can_be(piece, &board) {
+        if !is_allowed(self.options.lines_are, piece, &board) {
             return Ok(false);
         }
         let told = (RESPELLED, layout_words(layout));
@@ -366,6 +369,9 @@ impl<R: Rule> Made<R> {
         if let Layout::Rows(strips) = layout {
             return told_lines(self.alloc, strips, piece, board);
         }
+        if layout == Layout::Deal && !are_dealt(piece, board) {
+            return Ok(None);
+        }
         if !are_labelled(piece, board) {
             return Ok(None);
         }
@@ -476,6 +482,11 @@ impl<R: Rule> Made<R> {
         if spelled_needs_no_note(self.options.noted, piece, board) {
             return Ok(());
         }
+        let words = if can_be(piece, board) {
+            words
+        } else {
+            UNPLAYED
+        };
         self.walk.push_note(piece, 0, words, &mut self.notes)
     }
 

@@ -181,7 +181,7 @@ impl Front {
         let is_before_word = end < text.len() && !is_blank(text.get(end));
         let is_opened = self.is_opened;
         self.is_opened = is_all(mark, b"[({<");
-        if mark.last() == Some(&b']') {
+        if mark.last().is_some_and(|byte| ends_column(*byte)) {
             self.group = self.group.saturating_add(1);
         }
         if is_after_word || is_before_word {
@@ -314,5 +314,5 @@ fn is_all(mark: &[u8], bytes: &[u8]) -> bool {
 pub(crate) fn ends_column(byte: u8) -> bool
     ensures { result ≡ ends_column byte }
 {
-    matches!(byte, b';' | b'|' | b'/' | b']')
+    matches!(byte, b';' | b'|' | b'/' | b']' | b')' | b'}')
 }

@@ -2,16 +2,18 @@
 ghost use Rattle.std.specs.Char.{is_ascii_alphabetic, is_ascii_lowercase};
 ghost use Rattle.std.specs.{List.{list_all, list_any, prefix_len}, Option.{is_some}};
 ghost use Rattle.std.specs.Prelude.{◌++◌, ◌==◌, ◌||◌, ◌∷◌, ◌≡◌, drop, false, IfOk, if◌then◌else◌};
-ghost use Rattle.std.specs.Prelude.{None, OnOk};
+ghost use Rattle.std.specs.Prelude.{◌&&◌, ◌+◌, length, min, nat_lt, None, not, OnOk};
 ghost use Rattle.std.specs.Str.{str_eq_ignore_ascii_case, str_to_ascii_lowercase};
 ghost use Rattle.fc_card.specs.Types.{Text};
 ghost use Rattle.fc_text.specs.{Bytes.{blank, is_gap}, reader.{run_named}};
 ghost use Rattle.fc_import.specs.Scan.{after_arrow, after_first, after_gap, after_letters};
 ghost use Rattle.fc_import.specs.Scan.{after_next, after_word, before_dots, has_dots, is_arrow};
 ghost use Rattle.fc_import.specs.Scan.{is_card_move, is_glued, is_label, is_number, is_pointed};
-ghost use Rattle.fc_import.specs.Scan.{is_sure, is_unread, solution_names, with_move};
+ghost use Rattle.fc_import.specs.Scan.{are_cards, are_glued, is_sure, is_unread, solution_names, sureness, with_move};
+ghost use Rattle.fc_import.specs.Names.{is_among};
 ghost use Rattle.fc_import.specs.Seen.{piece_of, said_of};
 
+use crate::labels::is_pile_name;
 use crate::scan::named_card;
 use crate::words::Word;
 use fc_board::Rule;
@@ -26,8 +28,8 @@ pub(crate) struct Heard {
     pub(crate) pointed: bool,
     /// Whether each word is of a move.
     pub(crate) all: bool,
-    /// How many moves are no numbers: none, one, or 2 for more; and whether one of them came before
-    /// any other word.
+    /// How sure it is that a word is a move: not (0), but for a card (1), or so (2); and whether a
+    /// sure one came before any other word.
     pub(crate) sure: u8,
     pub(crate) led: bool,
 }
@@ -105,10 +107,10 @@ impl Heard {
         ensures { IfOk result (λ heard. said_of moves.new.items heard
             ≡ after_first R.game (said_of moves.old.items self) word.now next.now) }
     {
-        if run_named::<R>(word).is_some() && !is_pointed(next) {
-            return self.with_move(word, is_sure(word), moves);
+        if is_read::<R>(word, next) {
+            return self.with_move(word, sureness(word), moves);
         }
-        if word.len() == 1 && is_arrow(next) {
+        if begins_move(word, next) {
             return Ok(Heard {
                 from: Some(word[0]),
                 pointed: is_pointed(next),
@@ -133,7 +135,7 @@ impl Heard {
         if word.len() == 1 {
             return self.take_letters::<R>(&[from, word[0]], moves);
         }
-        Ok(self.with_other(false))
+        Ok(self.with_other(is_pile_name(word)))
     }
 
     // Takes the letters of a pile and of the target after an arrow.
@@ -142,14 +144,14 @@ impl Heard {
             ≡ after_letters R.game (said_of moves.old.items self) letters.now) }
     {
         if run_named::<R>(letters).is_some() {
-            let sure = self.pointed || is_sure(letters);
+            let sure = if self.pointed { 2 } else { sureness(letters) };
             return self.with_move(letters, sure, moves);
         }
         Ok(self.with_other(false))
     }
 
-    // Puts a move.
-    fn with_move(self, word: &[u8], sure: bool, moves: &mut Vec<u8>) -> Result<Heard, AllocError>
+    // Puts a move, which is so sure.
+    fn with_move(self, word: &[u8], sure: u8, moves: &mut Vec<u8>) -> Result<Heard, AllocError>
         ensures { IfOk result (λ heard. said_of moves.new.items heard
             ≡ with_move (said_of moves.old.items self) word.now sure) }
     {
@@ -159,10 +161,24 @@ impl Heard {
             from: None,
             pointed: false,
             all: self.all,
-            sure: if sure { one_more(self.sure) } else { self.sure },
-            led: self.led || (sure && self.all),
+            sure: more_sure(self.sure, sure),
+            led: self.led || is_first(sure, self.all),
         })
     }
+}
+
+// Whether the word is a move, and no pile with an arrow after it.
+fn is_read<R: Rule>(word: &[u8], next: &[u8]) -> bool
+    ensures { result ≡ (is_some (run_named R.game word.now) && not (is_pointed next.now)) }
+{
+    run_named::<R>(word).is_some() && !is_pointed(next)
+}
+
+// Whether the word may be a pile with an arrow after it.
+fn begins_move(word: &[u8], next: &[u8]) -> bool
+    ensures { result ≡ (length word.now == 1 && is_arrow next.now) }
+{
+    word.len() == 1 && is_arrow(next)
 }
 
 fn has_dots(next: &[u8]) -> bool
@@ -175,14 +191,58 @@ fn has_dots(next: &[u8]) -> bool
 fn is_unread<R: Rule>(word: &[u8], next: &[u8]) -> bool
     ensures { result ≡ is_unread R.game word.now next.now }
 {
-    run_named::<R>(word).is_some() || is_glued::<R>(word) || is_card_move(word, next)
+    run_named::<R>(word).is_some()
+        || is_glued::<R>(word)
+        || is_card_move(word, next)
+        || are_glued(word)
 }
 
-// One, or 2 for more.
-fn one_more(count: u8) -> u8
-    ensures { result ≡ if count == 0 then 1 else 2 }
+/// Whether the word is three cards or more that are not parted.
+pub(crate) fn are_glued(word: &[u8]) -> bool
+    ensures { result ≡ are_glued word.now }
 {
-    if count == 0 { 1 } else { 2 }
+    word.len() >= 6 && are_cards(word)
+}
+
+// Whether each two letters are a card.
+fn are_cards(word: &[u8]) -> bool
+    ensures { result ≡ are_cards word.now }
+{
+    let mut left = word;
+    while let [rank, suit, rest @ ..] = left {
+        if named_card(&[*rank, *suit]).is_none() {
+            return false;
+        }
+        left = rest;
+    }
+    left.is_empty()
+}
+
+// How sure it is by two words, up to 2.
+fn more_sure(before: u8, sure: u8) -> u8
+    ensures { result ≡ min 2 (before + sure) }
+{
+    before.saturating_add(sure).min(2)
+}
+
+// Whether a move is sure at all, and all before it were moves.
+fn is_first(sure: u8, all: bool) -> bool
+    ensures { result ≡ (nat_lt 0 sure && all) }
+{
+    sure > 0 && all
+}
+
+// How sure the word is a move: one of a digit and a letter may be a card.
+fn sureness(word: &[u8]) -> u8
+    ensures { result ≡ sureness word.now }
+{
+    if !is_sure(word) {
+        0
+    } else if named_card(word).is_some() {
+        1
+    } else {
+        2
+    }
 }
 
 // The text from this place on.
@@ -204,7 +264,7 @@ fn is_label(word: &[u8], after: &[u8]) -> bool
 }
 
 fn is_solution_name(word: &[u8]) -> bool
-    ensures { result ≡ list_any (str_eq_ignore_ascii_case word.now) solution_names }
+    ensures { result ≡ is_among word.now solution_names }
 {
     word.eq_ignore_ascii_case(b"solution")
         || word.eq_ignore_ascii_case(b"moves")

@@ -5,6 +5,7 @@ ghost use Rattle.fc_import.specs.Seen.{IsSeen};
 use crate::hearing::{LineHeard, is_drawn, is_in_words, is_list, moves_in};
 use crate::labels::LabelKind;
 use crate::marks::Shape;
+use crate::moves::are_glued;
 use crate::scan::{LineSeen, Placed, named_card};
 use crate::words::{Words, before_mark, uncommented};
 use fc_board::Rule;
@@ -513,7 +514,10 @@ fn kind_by_words(front: &[u8], seen: &LineSeen) -> LineKind {
             LineKind::Other
         };
     }
-    if others == 0 && sure > 0 || sure > others && sure.saturating_add(others) >= 3 {
+    let is_glued = Words::new(front)
+        .next()
+        .is_some_and(|word| are_glued(word.text));
+    if is_glued || others == 0 && sure > 0 || sure > others && sure.saturating_add(others) >= 3 {
         LineKind::Cards
     } else {
         LineKind::Other

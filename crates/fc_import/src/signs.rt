@@ -1,10 +1,9 @@
-//! What the signs of a text stand for: letters of suits, ends of lines, blanks, or nothing.
-ghost use Rattle.std.specs.{List.{prefix_len}, Option.{is_some, unwrap_or}, Prelude.{◌%◌, ◌&&◌}};
-ghost use Rattle.std.specs.Prelude.{◌*◌, ◌++◌, ◌+◌, ◌<◌, ◌==◌, ◌||◌, ◌≡◌, ◌≤◌, [], All, drop, IfOk};
-ghost use Rattle.std.specs.Prelude.{IsTrue, length, OnOk, slice_index, true};
+//! What the characters of a text stand for: letters of suits, ends of lines, blanks, or nothing.
+ghost use Rattle.std.specs.Prelude.{◌%◌, ◌&&◌, ◌++◌, ◌==◌, ◌||◌, ◌≡◌, [], All, chars, false};
+ghost use Rattle.std.specs.Prelude.{IfOk, if◌then◌else◌, IsTrue, OnOk, slice_index, true};
 ghost use Rattle.fc_text.specs.Bytes.{line_feed};
-ghost use Rattle.fc_import.specs.{inside.{is_alone}, Words.{is_between, mark_for, number_of}};
-ghost use Rattle.fc_import.specs.Words.{sign_of, stands_for, text_after, text_read};
+ghost use Rattle.fc_import.specs.{inside.{is_alone}, Words.{is_between, letters_of, mark_for}};
+ghost use Rattle.fc_import.specs.Words.{stands_for, text_read};
 
 use crate::decoding::decode;
 use std::alloc::{AllocError, Global};
@@ -14,11 +13,11 @@ use std::alloc::{AllocError, Global};
 pub(crate) fn read_text(alloc: Global, bytes: Vec<u8>) -> Result<Vec<u8>, AllocError>
     ensures { IfOk result (λ text. text.items ≡ text_read bytes.items) }
 {
-    let decoded = decode(alloc, bytes)?;
-    if are_alone(decoded.as_slice()) {
-        return Ok(decoded);
+    if are_alone(bytes.as_slice()) {
+        return Ok(bytes);
     }
-    with_letters(alloc, decoded.as_slice())
+    let text = decode(alloc, bytes.as_slice())?;
+    with_letters(alloc, text.as_str())
 }
 
 // Whether each byte is read as it is. All are looked at, also after one that is not, so that many
@@ -33,139 +32,41 @@ fn are_alone(text: &[u8]) -> bool
     are_alone
 }
 
-// The text with what stands for each of its signs.
-fn with_letters(alloc: Global, text: &[u8]) -> Result<Vec<u8>, AllocError>
-    ensures { IfOk result (λ made. made.items ≡ text_after 0 text.now) }
-{
-    let mut made = Vec::new(alloc);
-    let mut at = 0;
-    while at < text.len() {
-        let len = take_front(&mut made, &text[at..])?;
-        at += len;
-    }
-    Ok(made)
-}
-
-// Takes the bytes at the front of the text that are read as they are, and the sign after them.
-// Returns how many bytes were taken.
-fn take_front(made: &mut Vec<u8>, text: &[u8]) -> Result<usize, AllocError>
-    requires { 0 < length text.now }
-    ensures some { IfOk result (λ len. 0 < len) }
-    ensures within { IfOk result (λ len. len ≤ length text.now) }
-    ensures takes { IfOk result (λ len. made.new.items ++ text_after 0 (drop len text.now)
-        ≡ made.old.items ++ text_after 0 text.now) }
-{
-    let len = run_len(text);
-    made.extend_from_slice(&text[..len])?;
-    if len == text.len() {
-        return Ok(len);
-    }
-    let count = take_sign(made, &text[len..])?;
-    Ok(len + count)
-}
-
-fn run_len(text: &[u8]) -> usize
-    ensures value { result ≡ prefix_len is_alone text.now }
-    ensures within { result ≤ length text.now }
-{
-    text.iter().take_while(|byte| is_alone(**byte)).count()
-}
-
 // Whether the byte is one of ASCII that ends no line, or a line feed.
 fn is_alone(byte: u8) -> bool
     ensures { result ≡ is_alone byte }
 {
-    byte <= 10 || is_between(14, 127, byte)
+    byte <= 10 || (14..128).contains(&byte)
 }
 
-// Takes the sign at the front of the text, and returns how many bytes it has there.
-fn take_sign(made: &mut Vec<u8>, text: &[u8]) -> Result<usize, AllocError>
-    requires { 0 < length text.now }
-    ensures some { IfOk result (λ len. 0 < len) }
-    ensures within { IfOk result (λ len. len ≤ length text.now) }
-    ensures takes { IfOk result (λ len. made.new.items ++ text_after 0 (drop len text.now)
-        ≡ made.old.items ++ text_after 0 text.now) }
+// What stands for the characters of the text.
+fn with_letters(alloc: Global, text: &str) -> Result<Vec<u8>, AllocError>
+    ensures { IfOk result (λ made. made.items ≡ letters_of false (chars text.now)) }
 {
-    let count = push_sign(
-        made,
-        text[0],
-        byte_at(text, 1),
-        byte_at(text, 2),
-        byte_at(text, 3),
-    )?;
-    Ok(count.min(text.len()))
-}
-
-// Puts what stands for the sign that begins with these bytes, and returns how many bytes it has.
-fn push_sign(
-    made: &mut Vec<u8>,
-    first: u8,
-    second: u8,
-    third: u8,
-    fourth: u8,
-) -> Result<usize, AllocError>
-    ensures count { IfOk result (λ count. count ≡ (sign_of first second third fourth).0) }
-    ensures some { IfOk result (λ count. 1 ≤ count) }
-    ensures letters { OnOk result
-        (made.new.items ≡ made.old.items ++ (sign_of first second third fourth).1) }
-{
-    if is_split_end(first, second) {
-        return Ok(1);
+    let mut made = Vec::new(alloc);
+    let mut is_after_return = false;
+    for sign in text.chars() {
+        push_sign(&mut made, is_after_return, sign)?;
+        is_after_return = sign == '\r';
     }
-    let (number, count) = number_of(first, second, third, fourth);
-    if push_letters(made, number)? {
-        return Ok(count);
-    }
-    made.push(first)?;
-    Ok(1)
+    Ok(made)
 }
 
-// Whether these are a carriage return and a line feed, which end a line together.
-fn is_split_end(first: u8, second: u8) -> bool
-    ensures { result ≡ (first == 0x0D && second == line_feed) }
+// Puts what stands for a character: nothing for a line feed right after a carriage return.
+fn push_sign(made: &mut Vec<u8>, is_after_return: bool, sign: char) -> Result<(), AllocError>
+    ensures { OnOk result (made.new.items ≡ made.old.items
+        ++ (if is_after_return && sign == line_feed then [] else stands_for sign)) }
 {
-    first == b'\r' && second == b'\n'
+    if is_after_return && sign == '\n' {
+        return Ok(());
+    }
+    push_letters(made, sign)
 }
 
-// The number of a sign in Unicode, and how many bytes it has.
-fn number_of(first: u8, second: u8, third: u8, fourth: u8) -> (u32, usize)
-    ensures number { result ≡ number_of first second third fourth }
-    ensures some { 1 ≤ result.1 }
+fn push_letters(made: &mut Vec<u8>, sign: char) -> Result<(), AllocError>
+    ensures { OnOk result (made.new.items ≡ made.old.items ++ stands_for sign) }
 {
-    let (low, middle) = (u32::from(second % 64), u32::from(third % 64));
-    if is_between(0xC2, 0xDF, first) && is_between(0x80, 0xBF, second) {
-        return (64 * u32::from(first % 32) + low, 2);
-    }
-    if is_between(0xE0, 0xEF, first)
-        && is_between(0x80, 0xBF, second)
-        && is_between(0x80, 0xBF, third)
-    {
-        return (4096 * u32::from(first % 16) + 64 * low + middle, 3);
-    }
-    if is_between(0xF0, 0xF4, first)
-        && is_between(0x80, 0xBF, second)
-        && is_between(0x80, 0xBF, third)
-        && is_between(0x80, 0xBF, fourth)
-    {
-        let high = 262_144 * u32::from(first % 8) + 4096 * low;
-        return (high + 64 * middle + u32::from(fourth % 64), 4);
-    }
-    (u32::from(first), 1)
-}
-
-fn is_between(low: u8, high: u8, byte: u8) -> bool
-    ensures { result ≡ is_between low high byte }
-{
-    low <= byte && byte <= high
-}
-
-// Puts what stands for the sign of this number, if that is not the sign itself. Returns whether it
-// is not.
-fn push_letters(made: &mut Vec<u8>, number: u32) -> Result<bool, AllocError>
-    ensures stands { IfOk result (λ stands. stands ≡ is_some (stands_for number)) }
-    ensures letters { OnOk result
-        (made.new.items ≡ made.old.items ++ unwrap_or (stands_for number) []) }
-{
+    let number = sign as u32;
     if is_among(0x2660, 0x2667, number) {
         made.push(b"SHDC"[(number % 4) as usize])?;
     } else if is_card_sign(number) {
@@ -177,34 +78,29 @@ fn push_letters(made: &mut Vec<u8>, number: u32) -> Result<bool, AllocError>
     } else if ends_line(number) {
         made.push(b'\n')?;
     } else if !is_unseen(number) {
-        return push_mark(made, number);
+        push_mark(made, sign)?;
     }
-    Ok(true)
+    Ok(())
 }
 
-// Puts the mark that stands for a dash, dots, a space or an arrow. Returns whether the sign is one.
-fn push_mark(made: &mut Vec<u8>, number: u32) -> Result<bool, AllocError>
-    ensures stands { IfOk result (λ stands. stands ≡ is_some (mark_for number)) }
-    ensures letters { OnOk result
-        (made.new.items ≡ made.old.items ++ unwrap_or (mark_for number) []) }
+// Puts the mark that stands for a dash, dots, a space or an arrow, or the character itself.
+fn push_mark(made: &mut Vec<u8>, sign: char) -> Result<(), AllocError>
+    ensures { OnOk result (made.new.items ≡ made.old.items ++ mark_for sign) }
 {
+    let number = sign as u32;
     if is_dash(number) {
         made.push(b'-')?;
-        return Ok(true);
-    }
-    if number == 0x2026 {
+    } else if number == 0x2026 {
         made.extend_from_slice(b"...")?;
-        return Ok(true);
-    }
-    if is_space(number) {
+    } else if is_space(number) {
         made.push(b' ')?;
-        return Ok(true);
-    }
-    if is_arrow(number) {
+    } else if is_arrow(number) {
         made.push(b'>')?;
-        return Ok(true);
+    } else {
+        let mut room = [0; 4];
+        made.extend_from_slice(sign.encode_utf8(&mut room).as_bytes())?;
     }
-    Ok(false)
+    Ok(())
 }
 
 fn is_dash(number: u32) -> bool

@@ -9,6 +9,7 @@ use crate::cards::{by_columns, is_packed};
 use crate::labels::are_labelled;
 use crate::layout::Layout;
 use crate::options::Noted;
+use crate::playable::can_be;
 use crate::walk::line_feeds;
 use fc_board::{Board, Rule};
 use fc_text::{BoardView, read_board, write_board};
@@ -95,7 +96,7 @@ pub(crate) fn spelled_needs_no_note<R: Rule>(noted: Noted, lines: &[u8], board: 
     ensures { IsTrue result ↔ BoardNeedsNoNote noted R.game lines.now board.now }
 {
     match noted {
-        Noted::Doubts => true,
+        Noted::Doubts => can_be(lines, board),
         Noted::Changes | Noted::Strict => is_printed(lines, board),
     }
 }

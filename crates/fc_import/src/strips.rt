@@ -1,14 +1,17 @@
 //! Under which columns the cards of rows stand: each column has a strip of each line.
 ghost use Rattle.std.specs.List.{count_by, list_any};
-ghost use Rattle.std.specs.Prelude.{◌≡◌, [], if◌then◌else◌, None, slice_index_or};
+ghost use Rattle.std.specs.{Prelude.{◌≡◌, [], if◌then◌else◌, None, slice_index_or}, Str.{bytes_eq}};
 ghost use Rattle.fc_import.specs.{Seen.{piece_of}, Strips.{has_card, has_strips, is_dealt}};
 ghost use Rattle.fc_import.specs.Strips.{is_mark, is_told, parts_fields, strip_of, whole_strips};
-ghost use Rattle.fc_import.specs.Strips.{words_in};
+ghost use Rattle.fc_import.specs.{Strips.{words_in}, Scan.{uncommented, words_of}};
+ghost use Rattle.fc_import.specs.Strips.{are_even, are_parted_by, between, has_no_groups};
+ghost use Rattle.{fc_text.specs.Lines.{lines_from}, std.specs.{List.{list_all}, Prelude.{◌&&◌}}};
 
-use crate::words::Word;
+use crate::cards::first_card;
+use crate::words::{Word, Words, uncommented};
 use fc_board::{Board, Rule};
 use fc_card::Card;
-use fc_text::Tokens;
+use fc_text::{Lines, Tokens};
 
 /// Where the strips are.
 #[derive(Clone, Copy, PartialEq, Eq, Debug)]
@@ -98,6 +101,70 @@ fn whole_strips(base: u16, unit: u16, place: usize) -> Option<usize>
         return None;
     }
     Some((place - base) / unit)
+}
+
+/// Whether the board has as many cards in each column as a deal, and no words of a line with cards
+/// are parted as groups.
+pub(crate) fn are_dealt<R: Rule>(lines: &[u8], board: &Board<R>) -> bool
+    ensures { result ≡ (is_dealt board.now
+        && list_all (λ line. has_no_groups line.bytes) (lines_from 0 lines.now)) }
+{
+    is_dealt(board) && have_no_groups(lines)
+}
+
+fn have_no_groups(lines: &[u8]) -> bool
+    ensures { result ≡ list_all (λ line. has_no_groups line.bytes) (lines_from 0 lines.now) }
+{
+    for line in Lines::new(lines) {
+        if !has_no_groups(line.text) {
+            return false;
+        }
+    }
+    true
+}
+
+fn has_no_groups(line: &[u8]) -> bool
+    ensures { result ≡ has_no_groups line.now }
+{
+    first_card(line).is_none() || are_even(line)
+}
+
+// Whether the same mark stands between any two words of the line.
+fn are_even(line: &[u8]) -> bool
+    ensures { result ≡ are_even (uncommented line.now) (words_of line.now) }
+{
+    let text = uncommented(line);
+    let mut words = Words::new(text);
+    let Some(first) = words.next() else {
+        return true;
+    };
+    let Some(second) = words.next() else {
+        return true;
+    };
+    let mark = between(text, first.end, second.start);
+    let mut start = second.end;
+    for word in words {
+        if !is_mark_between(text, mark, start, word.start) {
+            return false;
+        }
+        start = word.end;
+    }
+    true
+}
+
+// Whether this mark stands between two places of the text.
+fn is_mark_between(text: &[u8], mark: &[u8], start: usize, end: usize) -> bool
+    ensures { result ≡ bytes_eq (between text.now start end) mark.now }
+{
+    between(text, start, end) == mark
+}
+
+// What stands between two places of the text.
+fn between(text: &[u8], start: usize, end: usize) -> &[u8]
+    ensures { result.now ≡ between text.now start end }
+{
+    let rest = &text[start.min(text.len())..];
+    &rest[..end.saturating_sub(start).min(rest.len())]
 }
 
 // Whether each column has as many cards as a deal puts there.

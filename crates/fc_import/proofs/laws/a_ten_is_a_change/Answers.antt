@@ -1,10 +1,10 @@
-use Rattle.std.proofs.Common.{◌++◌, ◌∷◌, ◌≡◌, ◌≢◌, [], ap, arith, inl, inr, List, refl, ℕ}
-use Rattle.std.specs.Prelude.{codes, slice_index}
+use Rattle.std.proofs.Common.{◌++◌, ◌∷◌, ◌≡◌, ◌≢◌, [], All, ap, arith, inl, inr, List, refl, ℕ}
+use Rattle.std.{proofs.lemmas.List.Elements.{All-cons, All-nil}, specs.Prelude.{codes, slice_index}}
 use Rattle.fc_board.specs.{Games.{freecell}, Moves.{MoveList, OneCard, Runs}}
 use Rattle.fc_text.{proofs.ReadingLemmas.{Spells-from_faultless}, specs.{Bytes.{line_feed}, Printed.{text_of}}}
 use Rattle.fc_text.specs.Spelling.{board_of, Spells}
 use Rattle.fc_record.specs.{Grammar.{list_mark}, Printing.{list_line}}
-use Rattle.fc_import.{proofs.SilenceLemmas.{note_said}, specs.Notes.{Place, SaysUnless}}
+use Rattle.fc_import.{proofs.SilenceLemmas.{note_said}, specs.{Import.{IsBuilt}, Notes.{Place, SaysUnless}}}
 use Rattle.fc_import.proofs.laws.a_ten_is_a_change.Goals as goal
 
 abbrev ten : List ℕ
@@ -12,6 +12,16 @@ ten = codes "Foundations: H-9 C-K D-K S-K" ++ line_feed ∷ codes "Freecells: 10
 
 ten_spells : Spells freecell ten (board_of freecell ten)
 ten_spells = Spells-from_faultless freecell ten refl
+
+no_card_built : IsBuilt freecell []
+no_card_built place dealt inside = absurd (omega (arith, inside))
+
+one_built : (columns : List (List ℕ)) → All (IsBuilt freecell) columns → All (IsBuilt freecell) ([] ∷ columns)
+one_built columns built = All-cons (IsBuilt freecell) [] columns no_card_built built
+
+ten_built : All (IsBuilt freecell) (board_of freecell ten).columns
+ten_built =
+    one_built ([] ∷ [] ∷ [] ∷ [] ∷ [] ∷ [] ∷ [] ∷ []) (one_built ([] ∷ [] ∷ [] ∷ [] ∷ [] ∷ [] ∷ []) (one_built ([] ∷ [] ∷ [] ∷ [] ∷ [] ∷ []) (one_built ([] ∷ [] ∷ [] ∷ [] ∷ []) (one_built ([] ∷ [] ∷ [] ∷ []) (one_built ([] ∷ [] ∷ []) (one_built ([] ∷ []) (one_built [] (All-nil (IsBuilt freecell)))))))))
 
 not_printed : ten ≢ text_of (board_of freecell ten)
 not_printed same = let e : 49 ≡ 84 = ap (λ text. slice_index text 40) same in absurd (omega (arith, e))
@@ -31,7 +41,7 @@ noted_unless place piece said fails (inl (spelled, silent)) = absurd (fails spel
 noted_unless place piece said fails (inr (not, note)) = note_said place piece said note
 
 pub returns-clause-ten : goal.returns-clause-ten
-returns-clause-ten c = λ place said says. by_ten place said (inl ten_spells) says
+returns-clause-ten c = λ place said says. by_ten place said (inl ten_spells, inl ten_built) says
 
 pub returns-clause-ten_noted : goal.returns-clause-ten_noted
 returns-clause-ten_noted c = λ place said says. noted_unless place ten said not_printed says

@@ -1,3 +1,4 @@
+use Rattle.fc_import.proofs.SignLemmas.{utf_8_stays}
 use Rattle.std.{proofs.Common.{refl}, specs.Char.{encode_utf8, Utf16.{utf16_chars}}}
 use Rattle.fc_import.proofs.laws.utf_16_is_decoded.Goals as goal
 
@@ -16,3 +17,6 @@ returns-clause-two_units c = refl
 pub returns-clause-byte_alone : goal.returns-clause-byte_alone
 unfolding utf16_chars encode_utf8
 returns-clause-byte_alone c = refl
+
+pub returns-clause-utf_8 : goal.returns-clause-utf_8
+returns-clause-utf_8 c = utf_8_stays

@@ -1,18 +1,20 @@
-use Rattle.std.proofs.Common.{◌++◌, ◌∙◌, ◌≡◌, ◌≤◌, ap, arith, drop, length, subst, sym}
-use Rattle.std.proofs.lemmas.List.{drop-drop, length-drop, take_rest}
-use Rattle.fc_import.specs.Words.{text_after}
+use Rattle.std.proofs.Common.{◌&&◌, ◌++◌, ◌==◌, ◌∙◌, ◌∷◌, [], ap, append-nil, append_assoc, false, if◌then◌else◌, map-id, sym}
+use Rattle.std.proofs.lemmas.Iterator.{Consumers.{YieldsList-end}, YieldsList-from_chars}
+use Rattle.{fc_import.specs.Words.{letters_of, stands_for}, fc_text.specs.Bytes.{line_feed}}
 use Rattle.fc_import.proofs.signs.with_letters.Goals as goal
 
-pub loop-at-preserved : goal.loop-at-preserved
-loop-at-preserved c =
-    let text = c.args.text.now in
-    let at = c.loop-at.at in
-    let len = c.in_ok-len.len in
-    let made = c.loop-at.made.items in
-    let grown = c.take_front.new.made.items in
-    let within = subst (λ rest. len ≤ length rest) (take_rest text at) c.in_ok-len.ensures.within in
-    let takes = subst (λ rest. grown ++ text_after 0 (drop len rest) ≡ made ++ text_after 0 rest) (take_rest text at) c.in_ok-len.ensures.takes in
-    record {
-      within = omega (arith, within, length-drop at text, c.loop-at-test.true);
-      so_far = ap (λ rest. grown ++ text_after 0 rest) (sym (drop-drop len at text)) ∙ takes ∙ c.loop-at.invariant.so_far;
-    }
+pub loop-sign-preserved : goal.loop-sign-preserved
+loop-sign-preserved c = λ rest.
+    let sign = c.in-Some.sign in
+    let made = c.loop-sign.made.items in
+    let more = if c.loop-sign.is_after_return && sign == line_feed then [] else stands_for sign in
+    ap (letters_of false) (append_assoc c.loop-sign.yielded (sign ∷ []) rest)
+    ∙ c.loop-sign.invariant (sign ∷ rest)
+    ∙ sym (append_assoc made more (letters_of (sign == 0x0D) rest))
+    ∙ ap (λ made. made ++ letters_of (sign == 0x0D) rest) (sym c.in_ok-push_sign.ensures)
+
+pub returns : goal.returns
+returns c =
+    let end = YieldsList-end (YieldsList-from_chars c.args.text.now c.utf8.text cc) c.loop-sign.yielded _ c.loop-sign.yielded_by _ _ c.in-None.is c.next.ensures.steps in
+    sym (append-nil c.loop-sign.made.items) ∙ sym (c.loop-sign.invariant [])
+    ∙ ap (letters_of false) (append-nil c.loop-sign.yielded ∙ sym (map-id c.loop-sign.yielded) ∙ end.0)

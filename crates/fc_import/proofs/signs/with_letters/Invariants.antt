@@ -1,12 +1,7 @@
-use Rattle.std.proofs.Common.{◌++◌, ◌-◌, ◌≡◌, ◌≤◌, drop, length}
-use Rattle.fc_import.specs.Words.{text_after}
+use Rattle.std.proofs.Common.{◌++◌, ◌≡◌, false, List, ℕ}
+use Rattle.fc_import.specs.Words.{letters_of}
 use Rattle.fc_import.proofs.signs.with_letters.Given as goal
 
-abbrev pub invariant-loop-at : goal.invariant-loop-at
-invariant-loop-at l = record {
-  within : l.at ≤ length l.text;
-  so_far : l.made.items ++ text_after 0 (drop l.at l.text) ≡ text_after 0 l.text;
-}
-
-abbrev pub decreases-loop-at : goal.decreases-loop-at
-decreases-loop-at l = length l.text - l.at
+-- what was put is what stands for the characters so far, whatever comes after them
+abbrev pub invariant-loop-sign : goal.invariant-loop-sign
+invariant-loop-sign l = (rest : List ℕ) → letters_of false (l.yielded ++ rest) ≡ l.made.items ++ letters_of l.is_after_return rest
