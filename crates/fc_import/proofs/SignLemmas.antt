@@ -1,9 +1,10 @@
 -- Lemmas on characters, and on what stands for them in a text.
 use Rattle.std.proofs.Common.{◌&&◌, ◌++◌, ◌+◌, ◌<◌, ◌==◌, ◌||◌, ◌∙◌, ◌∷◌, ◌≡◌, [], All, ap, ap₂, arith, Bool, false}
 use Rattle.std.proofs.Common.{get_or, if◌then◌else◌, inl, inr, length, List, map, nat_le, refl, suc, sym, true, zero, ℕ}
-use Rattle.std.proofs.lemmas.{Bool.{Decides.{leb_tells}, lt-leb, ne_eqb}, Str.{chars-IsAscii, IsUtf8-from_ascii, utf8_lossy-IsUtf8}}
+use Rattle.std.proofs.lemmas.Bool.{Decides.{leb_tells}, lt-leb, ne_eqb}
 use Rattle.std.proofs.lemmas.List.{FromFn.{get_or-range_with_len, length-range_with_len}, get_or-map}
-use Rattle.std.specs.{Char.{encode_utf8}, Prelude.{chars, slice_index}, Str.{IsAscii, IsUtf8, Lossy.{utf8_lossy}}}
+use Rattle.std.{proofs.lemmas.Str.{chars-IsAscii, IsUtf8-from_ascii, utf8_lossy-IsUtf8}, specs.Char.{encode_utf8}}
+use Rattle.std.specs.{Prelude.{chars, slice_index}, Str.{IsAscii, IsUtf8, Lossy.{utf8_lossy}}}
 use Rattle.fc_card.specs.{places}
 use Rattle.fc_import.specs.{inside.{is_alone}, Words.{decoded, letters_of, stands_for, text_read}}
 

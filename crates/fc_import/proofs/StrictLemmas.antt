@@ -1,19 +1,19 @@
 -- Lemmas on imports in which each change is noted, and on those that are strict.
-use Rattle.std.proofs.Common.{◌++◌, ◌+◌, ◌<◌, ◌==◌, ◌∙◌, ◌∷◌, ◌≡◌, ◌≢◌, ◌⊎◌, [], ap, ap₂, arith, inl, inr}
-use Rattle.std.proofs.Common.{length, length-append, List, None, Option, refl, Some, subst, sym, true, ℕ}
+use Rattle.std.proofs.Common.{◌++◌, ◌+◌, ◌<◌, ◌==◌, ◌∙◌, ◌∷◌, ◌≡◌, ◌≢◌, ◌⊎◌, [], ap, ap₂, arith, inl, inr, length}
+use Rattle.std.proofs.Common.{length-append, List, None, Option, refl, Some, subst, sym, true, ℕ}
 use Rattle.std.{proofs.lemmas.List.{Sums.{count_by_more_yes}, take_all}, specs.Prelude.{codes, slice_index}}
 use Rattle.fc_board.specs.{Boards.{Board, IsWellFormed}, Games.{Game}, Moves.{MoveList}}
 use Rattle.{fc_board.specs.declared.rule.Variant.{Variant}, fc_text.specs.Bytes.{line_feed}}
 use Rattle.fc_record.{proofs.TextLineLemmas.{ends-after, ends-line_feed, last_byte}, specs.RecordTexts.{ends_line}}
 use Rattle.fc_collect.specs.declared.streams.faults.Summary.{Summary}
-use Rattle.fc_import.proofs.{SilenceLemmas.{all_taken, both_empty, note_said}, TakingLemmas.{board_needs_none, put_five}}
-use Rattle.fc_import.specs.Import.{a_board, a_list, CanBe, collection, headed, Imported, left_out, ListNeedsNoNote, Makes}
-use Rattle.fc_import.specs.Import.{no_board, no_board_line, none_yet, once_more, one_more, passed, Reading, refusals}
+use Rattle.fc_import.proofs.SilenceLemmas.{all_taken, both_empty, note_said}
+use Rattle.fc_import.{proofs.TakingLemmas.{board_needs_none, put_five}, specs.Import.{a_board, a_list, CanBe}}
+use Rattle.fc_import.specs.Import.{collection, headed, Imported, left_out, ListNeedsNoNote, Makes, no_board}
+use Rattle.fc_import.specs.Import.{no_board_line, none_yet, once_more, one_more, passed, Reading, refusals}
 use Rattle.fc_import.specs.Import.{refused_board, refused_by, refused_list, too_much, too_much_line, with_tally}
 use Rattle.fc_import.specs.Notes.{counted, IsNote, line_feeds, Place, place_text, SaysUnless, State}
-use Rattle.fc_import.specs.declared.options.{ImportOptions.{ImportOptions}, Noted.{Noted}}
-use Rattle.fc_import.specs.declared.options.LinesAre.TheVariants.{Columns as AsColumns}
-use Rattle.fc_import.specs.declared.{options.Noted.TheVariants.{Changes, Doubts, Strict}, tally.Tally.{Tally}}
+use Rattle.fc_import.specs.declared.options.{ImportOptions.{ImportOptions}, LinesAre.TheVariants.{Columns as AsColumns}}
+use Rattle.fc_import.specs.declared.{options.Noted.{Noted, TheVariants.{Changes, Doubts, Strict}}, tally.Tally.{Tally}}
 
 -- ---- what is silent where changes are noted
 

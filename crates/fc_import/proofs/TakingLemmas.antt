@@ -10,14 +10,13 @@ use Rattle.{fc_board.specs.declared.rule.Variant.{Variant}, fc_text.specs.declar
 use Rattle.fc_text.proofs.{ReadingLemmas.{faultless-from_Spells, Spells-board_of}, SpellingLemmas.{spelled}}
 use Rattle.fc_text.specs.{Faults.{first_fault}, Lines.{Piece, with_end}, Printed.{text_of}, Spelling.{Spells}}
 use Rattle.fc_record.specs.{Printing.{header_text, list_line}, RecordTexts.{ends_line}}
-use Rattle.fc_import.{proofs.SilenceLemmas.{both_empty}, specs.Import.{a_board, AreLists, BoardNeedsNoNote}}
-use Rattle.fc_import.specs.Import.{CanBe, HasNoHeader, HasLines, headed, Imported, IsHeading, IsNamed, IsReadAs}
+use Rattle.fc_import.{proofs.SilenceLemmas.{both_empty}, specs.Import.{a_board, AreLists, BoardNeedsNoNote, CanBe}}
+use Rattle.fc_import.specs.Import.{HasLines, HasNoHeader, headed, Imported, IsHeading, IsNamed, IsReadAs}
 use Rattle.fc_import.specs.Import.{ListNeedsNoNote, none_yet, once_more, one_more, Reading, SpellsOut}
 use Rattle.fc_import.specs.inside.{IsMade, part, printing, Says, state_of, Takes, TakesName}
-use Rattle.fc_import.specs.{Notes.{after, first_state, State, tally_of}, Scan.{named_cards}}
-use Rattle.fc_import.specs.Words.{ended, is_between}
-use Rattle.fc_import.specs.declared.{made.Made.{Made}, options.{ImportOptions.{ImportOptions}, Noted.{Noted}}}
-use Rattle.fc_import.specs.declared.options.LinesAre.TheVariants.{Columns as AsColumns}
+use Rattle.fc_import.specs.{Notes.{after, first_state, State, tally_of}, Scan.{named_cards}, Words.{ended, is_between}}
+use Rattle.fc_import.specs.declared.{made.Made.{Made}, options.ImportOptions.{ImportOptions}}
+use Rattle.fc_import.specs.declared.options.{LinesAre.TheVariants.{Columns as AsColumns}, Noted.{Noted}}
 use Rattle.fc_import.specs.declared.options.Noted.TheVariants.{Changes, Doubts, Strict}
 use Rattle.fc_import.specs.declared.tally.{Fate.TheVariants.{ABoard, Again, Passed}, Tally.{Tally}}
 

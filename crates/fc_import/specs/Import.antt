@@ -46,10 +46,9 @@ in_row board row = flat_map (λ column. option_to_list (slice_get column row)) b
 
 -- the cards of the columns as lines name them in this layout, with an end after those of each line
 abbrev pub lines_in : Layout → Board → List ℕ
-lines_in Columns board = flat_map ended board.columns
 lines_in (Rows strips) board = flat_map (λ row. ended (in_row board row)) (places 52)
-lines_in ColumnsInLine board = flat_map ended board.columns
 lines_in Deal board = ended (flat_map (in_row board) (places 52))
+lines_in layout board = flat_map ended board.columns
 
 -- the cards in the cells, and those of each column
 abbrev pub by_columns : Board → List ℕ

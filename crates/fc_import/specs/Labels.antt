@@ -1,10 +1,11 @@
 -- What may stand before the cards of a line: the name of the line with a colon, or the number of its column. From: Freecell Solver's board text, and how sites and programs name the parts of a board.
-use Rattle.std.specs.{List.{before_first}, Prelude.{◌&&◌, ◌-◌, ◌==◌, ◌||◌, ◌∷◌, [], Bool}}
-use Rattle.std.specs.Prelude.{codes, false, if◌then◌else◌, length, List, map, nat_le, nat_lt}
-use Rattle.std.specs.Prelude.{slice_index, true, ℕ}
-use Rattle.{fc_card.specs.Types.{Text}, fc_import.specs.Scan.{parts_words, uncommented, word_at}}
-use Rattle.fc_import.specs.Names.{cells_names, column_names, columns_names, foundations_names, is_among}
+use Rattle.std.specs.{List.{before_first}, Prelude.{◌&&◌, ◌-◌, ◌==◌, ◌||◌, ◌∷◌, [], Bool, codes}}
+use Rattle.std.specs.Prelude.{false, if◌then◌else◌, length, List, map, nat_le, nat_lt, slice_index}
+use Rattle.std.specs.Prelude.{true, ℕ}
+use Rattle.fc_card.specs.Types.{Text}
 use Rattle.fc_text.specs.{Bytes.{colon}, Lines.{Piece, with_end, words_from}}
+use Rattle.fc_import.specs.Names.{cells_names, column_names, columns_names, foundations_names}
+use Rattle.fc_import.specs.{Names.{is_among}, Scan.{parts_words, uncommented, word_at}}
 use Rattle.fc_import.specs.declared.labels.LabelKind.{LabelKind, TheVariants.{Bare, Cells, Column}}
 use Rattle.fc_import.specs.declared.labels.LabelKind.TheVariants.{Columns, Foundations, Unknown}
 

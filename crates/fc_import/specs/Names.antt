@@ -1,6 +1,7 @@
 -- The names of the parts of a board. From: Freecell Solver's board text, and the names that sites, books and solvers use.
 use Rattle.std.specs.{List.{list_any}, Prelude.{◌∷◌, [], Bool, codes, List}}
-use Rattle.{fc_card.specs.Types.{Text}, std.specs.Str.{str_eq_ignore_ascii_case}}
+use Rattle.std.specs.Str.{str_eq_ignore_ascii_case}
+use Rattle.fc_card.specs.Types.{Text}
 
 abbrev pub foundations_names : List Text
 foundations_names = codes "foundations" ∷ codes "foundation" ∷ codes "founds" ∷ codes "found" ∷ codes "decks" ∷ codes "deck" ∷ codes "home" ∷ []

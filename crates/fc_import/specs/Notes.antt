@@ -11,7 +11,7 @@ use Rattle.fc_record.specs.Grammar.{begins_with, Heading, heading_of, list_mark}
 use Rattle.fc_record.specs.declared.record.RecordFault.{RecordFault}
 use Rattle.fc_import.specs.{Scan.{is_in_words}, Words.{is_between}}
 use Rattle.fc_import.specs.declared.{options.ImportOptions.{ImportOptions}, tally.Fate.{Fate}}
-use Rattle.fc_import.specs.declared.tally.Fate.TheVariants.{ABoard, Again, AList, LeftOut, Passed}
+use Rattle.fc_import.specs.declared.tally.Fate.TheVariants.{ABoard, AList, LeftOut, Passed}
 use Rattle.fc_import.specs.declared.tally.Fate.TheVariants.{RefusedBoard, RefusedList}
 use Rattle.fc_import.specs.declared.tally.Tally.{Tally}
 
@@ -23,13 +23,12 @@ counted number = min number (2 ^ 64 - 1)
 
 -- what a piece of a text counts as
 abbrev pub tally_of : Fate → Tally
-tally_of Again = record { boards = 0; lists = 0; refused_boards = 0; refused_lists = 0; left_out = 0 }
-tally_of Passed = record { boards = 0; lists = 0; refused_boards = 0; refused_lists = 0; left_out = 0 }
 tally_of ABoard = record { boards = 1; lists = 0; refused_boards = 0; refused_lists = 0; left_out = 0 }
 tally_of AList = record { boards = 0; lists = 1; refused_boards = 0; refused_lists = 0; left_out = 0 }
 tally_of RefusedBoard = record { boards = 0; lists = 0; refused_boards = 1; refused_lists = 0; left_out = 0 }
 tally_of RefusedList = record { boards = 0; lists = 0; refused_boards = 0; refused_lists = 1; left_out = 0 }
 tally_of LeftOut = record { boards = 0; lists = 0; refused_boards = 0; refused_lists = 0; left_out = 1 }
+tally_of fate = record { boards = 0; lists = 0; refused_boards = 0; refused_lists = 0; left_out = 0 }
 
 abbrev pub plus : Tally → Tally → Tally
 plus one more = record {

@@ -4,10 +4,9 @@ use Rattle.std.specs.Char.{is_ascii_lowercase}
 use Rattle.std.specs.List.{before_first, flat_map, fold, list_all, list_any, prefix_len}
 use Rattle.std.specs.{Option.{is_none, is_some, option_or, option_to_list}, Prelude.{◌&&◌, ◌*◌}}
 use Rattle.std.specs.Prelude.{◌++◌, ◌+◌, ◌-◌, ◌<◌, ◌==◌, ◌||◌, ◌∷◌, ◌≡◌, ◌≤◌, ◌⊎◌, [], Bool, codes}
-use Rattle.std.specs.Prelude.{count_by, drop, false, if◌then◌else◌, length, List, map, min}
-use Rattle.std.specs.Prelude.{nat_le, nat_lt, None, not, Option, slice_index, slice_index_or, Some, take}
-use Rattle.std.specs.Prelude.{true, ℕ}
-use Rattle.std.specs.Str.{bytes_eq, str_to_ascii_lowercase}
+use Rattle.std.specs.Prelude.{count_by, drop, false, if◌then◌else◌, length, List, map, min, nat_le}
+use Rattle.std.specs.Prelude.{nat_lt, None, not, Option, slice_index, slice_index_or, Some, take}
+use Rattle.std.specs.{Prelude.{true, ℕ}, Str.{bytes_eq, str_to_ascii_lowercase}}
 use Rattle.{fc_board.specs.Games.{Game}, fc_card.specs.Types.{Card, Text}}
 use Rattle.fc_text.specs.Bytes.{blank, colon, dash, is_gap, number_sign}
 use Rattle.fc_text.specs.Lines.{Piece, with_end, words_from}
@@ -257,12 +256,10 @@ abbrev pub is_sure_move : Game → Text → Bool
 is_sure_move game word = is_sure word && is_some (run_named game word)
 
 -- single characters, of which the first two are a move: so moves may be cut into two
-abbrev pub begins_single : Game → List (Piece × ℕ) → Bool
-begins_single game words =
-    is_sure_move game (slice_index (word_at words 0) 0 ∷ slice_index (word_at words 1) 0 ∷ [])
-
 abbrev pub are_single : Game → List (Piece × ℕ) → Bool
-are_single game words = nat_le 2 (length words) && list_all (λ word. length word.0.bytes == 1) words && begins_single game words
+are_single game words =
+    nat_le 2 (length words) && list_all (λ word. length word.0.bytes == 1) words
+    && is_sure_move game (slice_index (word_at words 0) 0 ∷ slice_index (word_at words 1) 0 ∷ [])
 
 -- a number comes first, as that of a line, and then a move
 abbrev pub is_numbered_move : Game → List (Piece × ℕ) → Bool

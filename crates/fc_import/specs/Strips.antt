@@ -1,7 +1,7 @@
 -- Under which columns the cards of rows stand, and which column a line with a number is.
-use Rattle.std.specs.{List.{count_by, list_all, list_any}, Option.{is_none, option_or}, Prelude.{◌%◌, ◌&&◌}}
-use Rattle.std.specs.Prelude.{◌++◌, ◌-◌, ◌/◌, ◌==◌, ◌||◌, ◌∷◌, [], Bool, codes, drop, false}
-use Rattle.std.specs.Prelude.{if◌then◌else◌, length, List, min, nat_lt, None, not, Option}
+use Rattle.std.specs.{List.{count_by, list_all, list_any}, Option.{is_none, option_or}}
+use Rattle.std.specs.Prelude.{◌%◌, ◌&&◌, ◌++◌, ◌-◌, ◌/◌, ◌==◌, ◌||◌, ◌∷◌, [], Bool, codes, drop}
+use Rattle.std.specs.Prelude.{false, if◌then◌else◌, length, List, min, nat_lt, None, not, Option}
 use Rattle.std.specs.{Prelude.{slice_get, slice_index_or, Some, take, true, ℕ}, Str.{bytes_eq}}
 use Rattle.{fc_board.specs.Boards.{Board}, fc_card.specs.{places, Types.{Card, Pile, Text}}}
 use Rattle.fc_text.specs.{Bytes.{tab}, Lines.{lines_from, Piece, words}}

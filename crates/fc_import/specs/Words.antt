@@ -1,8 +1,8 @@
 -- The cards that the words of a text name.
 use Rattle.std.specs.{Char.Utf16.{utf16_lossy_chars}, List.{flat_map}, Prelude.{◌%◌, ◌&&◌, ◌*◌}}
 use Rattle.std.specs.Prelude.{◌++◌, ◌+◌, ◌-◌, ◌/◌, ◌==◌, ◌||◌, ◌∷◌, [], Bool, chars, codes, drop}
-use Rattle.std.specs.Prelude.{encode_utf8, false, if◌then◌else◌, List, nat_le, slice_index}
-use Rattle.std.specs.{Prelude.{true, ℕ}, Str.{encode_utf8_all, Lossy.{utf8_lossy}}}
+use Rattle.std.specs.Prelude.{encode_utf8, false, if◌then◌else◌, List, nat_le, slice_index, true, ℕ}
+use Rattle.std.specs.Str.{encode_utf8_all, Lossy.{utf8_lossy}}
 use Rattle.{fc_card.specs.Types.{Card, Text}, fc_import.specs.Scan.{named_cards}}
 use Rattle.fc_text.specs.{Bytes.{blank, line_feed}, Lines.{lines_from}}
 

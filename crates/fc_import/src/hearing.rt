@@ -1,11 +1,12 @@
 //! What the words of a line say of moves: the only place where a byte becomes a move.
-ghost use Rattle.std.specs.{List.{list_all}, Prelude.{◌*◌, ◌==◌, ◌≡◌, ◌≤◌, ◌⊎◌, count_by, false}};
-ghost use Rattle.std.specs.Prelude.{IfOk, if◌then◌else◌, IsTrue, length, None, slice_index, true};
+ghost use Rattle.std.specs.{List.{list_all}, Prelude.{◌*◌, ◌==◌, ◌∷◌, ◌≡◌, ◌≤◌, ◌⊎◌, [], count_by}};
+ghost use Rattle.std.specs.Prelude.{false, IfOk, if◌then◌else◌, IsTrue, length, None, slice_index};
+ghost use Rattle.std.specs.Prelude.{true};
 ghost use Rattle.fc_text.specs.Bytes.{blank};
-ghost use Rattle.fc_import.specs.Scan.{after_word, are_single, begins_single, HasFewMoves};
-ghost use Rattle.fc_import.specs.Scan.{is_drawn, is_drawn_word, is_in_words, is_list};
-ghost use Rattle.fc_import.specs.Scan.{is_number_alone, is_numbered_move, is_sure_move, said_in};
-ghost use Rattle.fc_import.specs.{Scan.{words_of}, Seen.{IsHeard, IsSeen, piece_of, said_of}};
+ghost use Rattle.fc_import.specs.Scan.{after_word, are_single, HasFewMoves, is_drawn};
+ghost use Rattle.fc_import.specs.Scan.{is_drawn_word, is_in_words, is_list, is_number_alone};
+ghost use Rattle.fc_import.specs.Scan.{is_numbered_move, is_sure_move, said_in, word_at, words_of};
+ghost use Rattle.fc_import.specs.Seen.{IsHeard, IsSeen, piece_of, said_of};
 
 use crate::moves::{Heard, has_small_letters, is_number, is_sure};
 use crate::scan::{LineSeen, named_card};
@@ -105,7 +106,8 @@ fn are_single<R: Rule>(line: &[u8], seen: &LineSeen) -> bool
 
 // Whether the first signs of the first two words of the line are a move with a digit and a letter.
 fn begins_single<R: Rule>(line: &[u8]) -> bool
-    ensures { result ≡ begins_single R.game (words_of line.now) }
+    ensures { result ≡ is_sure_move R.game (slice_index (word_at (words_of line.now) 0) 0
+        ∷ slice_index (word_at (words_of line.now) 1) 0 ∷ []) }
 {
     let text = uncommented(line);
     let letters = [byte_at(word_at(text, 0), 0), byte_at(word_at(text, 1), 0)];

@@ -122,70 +122,22 @@ impl<R: Rule> Importer<R> {
         ensures kept { IsPrinted R.VARIANT R.game self.old.made.last text.now → IfOk result
             (λ len. KeepsFirst R.VARIANT R.game text.now len self.old.made self.new.made) }
     {
-        if let Some(len) = self.take_as_it_is(text)? {
+        if let Some(len) = self.made.take_printed(text)? {
+            self.solution = Solution::Nothing;
+            if text[0] == b'@' {
+                self.forget_title();
+            }
             return Ok(len);
         }
         self.take_other(text, piece)
     }
 
-    // Takes a record or a list that is as fcanon prints it, and returns how many bytes it has.
-    fn take_as_it_is(&mut self, text: &[u8]) -> Result<Option<usize>, AllocError>
-        requires { 0 < length text.now }
-        ensures takes { IfOk result (λ taken. IfSome taken (λ len.
-            TakesFirst R.VARIANT R.game text.now len self.old.made self.new.made)) }
-        ensures kept { IfOk result (λ taken. IsNone taken → self.new.made ≡ self.old.made) }
-        ensures found { IsPrinted R.VARIANT R.game self.old.made.last text.now → IfOk result
-            (λ taken. (len : ℕ) × (taken ≡ Some len)
-            × KeepsFirst R.VARIANT R.game text.now len self.old.made self.new.made) }
+    // Forgets the title, where a header comes.
+    fn forget_title(&mut self)
+        ensures { self.new.made ≡ self.old.made }
     {
-        if text[0] == b'@' {
-            return self.take_record(text);
-        }
-        if text[0] == b'>' {
-            return self.take_list(text);
-        }
-        Ok(None)
-    }
-
-    // Takes a header with a name and a board that are as fcanon prints them.
-    fn take_record(&mut self, text: &[u8]) -> Result<Option<usize>, AllocError>
-        requires { 0 < length text.now }
-        ensures taken { IfOk result (λ taken. IfSome taken (λ len.
-            TakesAsItIs R.VARIANT R.game text.now len self.old.made self.new.made)) }
-        ensures kept { IfOk result (λ taken. IsNone taken → self.new.made ≡ self.old.made) }
-        ensures found { (name : Text) (board : AnyBoard) (rest : Text) → is_name name ≡ true
-            → name ≢ [] → IsWellFormed R.game board
-            → text.now ≡ header_text R.VARIANT name ++ (text_of board ++ rest) → IfOk result
-            (λ taken. (taken ≡ Some (length (header_text R.VARIANT name ++ text_of board)))
-            × (self.new.made.last ≡ Some board)) }
-    {
-        let taken = self.made.take_record(text)?;
-        if taken.is_some() {
-            self.solution = Solution::Nothing;
-            self.title.clear();
-            self.is_titled_otherwise = false;
-        }
-        Ok(taken)
-    }
-
-    // Takes a list that is as fcanon prints it, and legal on the last board.
-    fn take_list(&mut self, text: &[u8]) -> Result<Option<usize>, AllocError>
-        requires some { 0 < length text.now }
-        requires no_header { begins_with header_mark text.now ≡ false }
-        ensures taken { IfOk result (λ taken. IfSome taken (λ len.
-            TakesAsItIs R.VARIANT R.game text.now len self.old.made self.new.made)) }
-        ensures kept { IfOk result (λ taken. IsNone taken → self.new.made ≡ self.old.made) }
-        ensures found { (board : AnyBoard) (list : MoveList) (rest : Text)
-            → self.old.made.last ≡ Some board → Legal R.game board list
-            → move_count list ≤ most_moves → text.now ≡ list_line list ++ rest → IfOk result
-            (λ taken. (taken ≡ Some (length (list_line list)))
-            × (self.new.made.last ≡ Some board)) }
-    {
-        let taken = self.made.take_list(text)?;
-        if taken.is_some() {
-            self.solution = Solution::Nothing;
-        }
-        Ok(taken)
+        self.title.clear();
+        self.is_titled_otherwise = false;
     }
 
     // Takes the header or the piece at the front of the text, and returns how many bytes it has.
@@ -254,7 +206,10 @@ impl<R: Rule> Importer<R> {
     {
         match kind {
             PieceKind::Prose => self.take_prose(lines),
-            PieceKind::Board if self.goes_on_with_boards() => self.take_boards(lines),
+            PieceKind::Board if self.goes_on_with_boards() => {
+                self.solution = Solution::Nothing;
+                self.refuse(lines, NO_MOVES)
+            }
             PieceKind::Board => self.take_lines(lines, piece),
             PieceKind::Moves => self.take_moves(lines, piece),
         }
@@ -291,8 +246,7 @@ impl<R: Rule> Importer<R> {
         ensures { OnOk result (TakesName R.VARIANT line.now self.old.made self.new.made) }
     {
         self.solution = Solution::Nothing;
-        self.title.clear();
-        self.is_titled_otherwise = false;
+        self.forget_title();
         self.made.take_name(line)
     }
 
@@ -341,13 +295,6 @@ impl<R: Rule> Importer<R> {
         if self.is_titled_otherwise {
             return self.refuse(lines, OTHER_TITLE);
         }
-        self.take_board(lines, piece)
-    }
-
-    // Takes lines as a board of this game, or refuses them.
-    fn take_board(&mut self, lines: &[u8], piece: &Piece) -> Result<(), AllocError>
-        ensures { OnOk result (Takes R.VARIANT R.game lines.now self.old.made self.new.made) }
-    {
         match draft_of::<R>(lines, piece, self.made.options.lines_are) {
             Drafted::Board(board, layout) => self.take_read(lines, board, layout, false),
             Drafted::Question => self.refuse(lines, QUESTION),
@@ -459,14 +406,6 @@ impl<R: Rule> Importer<R> {
             return Ok(());
         }
         self.made.refuse_list(piece, 0, NO_MOVES)
-    }
-
-    // Refuses the boards of a solution that has no moves.
-    fn take_boards(&mut self, lines: &[u8]) -> Result<(), AllocError>
-        ensures { OnOk result (Takes R.VARIANT R.game lines.now self.old.made self.new.made) }
-    {
-        self.solution = Solution::Nothing;
-        self.refuse(lines, NO_MOVES)
     }
 
     // Refuses a board.

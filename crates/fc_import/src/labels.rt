@@ -3,10 +3,9 @@ ghost use Rattle.std.specs.{List.{before_first}, Prelude.{◌==◌, ◌∷◌, �
 ghost use Rattle.fc_text.specs.Bytes.{colon};
 ghost use Rattle.fc_import.specs.Labels.{all_words, is_column_number, is_numbered, label_of};
 ghost use Rattle.fc_import.specs.Labels.{said_by_front, said_by_one, said_by_two, said_by_words};
-ghost use Rattle.fc_import.specs.Labels.{says_column};
-ghost use Rattle.fc_import.specs.Names.{cells_names, column_names, columns_names};
-ghost use Rattle.fc_import.specs.{Names.{foundations_names, is_among}, Scan.{is_pile_name}};
-ghost use Rattle.fc_import.specs.Seen.{piece_of};
+ghost use Rattle.fc_import.specs.{Labels.{says_column}, Names.{cells_names, column_names}};
+ghost use Rattle.fc_import.specs.Names.{columns_names, foundations_names, is_among};
+ghost use Rattle.fc_import.specs.{Scan.{is_pile_name}, Seen.{piece_of}};
 ghost use Rattle.fc_import.specs.Strips.{is_labelled, is_of_label, tells_columns};
 ghost use Rattle.fc_import.specs.declared.layout.Layout.TheVariants.{Columns};
 

@@ -1,7 +1,7 @@
 //! Laws of texts, and of the words that name cards.
 ghost use Rattle.std.specs.{Fmt.{decimal}, List.{Contains, fold}, Prelude.{◌++◌, ◌<◌, ◌∷◌, ◌≡◌}};
-ghost use Rattle.std.specs.Prelude.{◌≢◌, ◌⊎◌, [], codes, false, if◌then◌else◌, None, Option, Some};
-ghost use Rattle.std.specs.{Prelude.{chars, slice_index, true, ℕ}, Str.{IsUtf8}};
+ghost use Rattle.std.specs.Prelude.{◌≢◌, ◌⊎◌, [], chars, codes, false, if◌then◌else◌, None, Option};
+ghost use Rattle.std.specs.{Prelude.{slice_index, Some, true, ℕ}, Str.{IsUtf8}};
 ghost use Rattle.{fc_board.specs.declared.rule.Variant.{Variant}, fc_card.specs.Types.{Text}};
 ghost use Rattle.fc_board.specs.Boards.{Board};
 ghost use Rattle.fc_board.specs.Games.{bakers_game, eight_off, freecell, Game, game_of};
@@ -10,14 +10,14 @@ ghost use Rattle.fc_text.specs.{Bytes.{line_feed}, Lines.{lines_from, Piece}, Pr
 ghost use Rattle.fc_text.specs.Spelling.{board_of, Spells};
 ghost use Rattle.fc_record.specs.{Grammar.{begins_with, heading_of}, RecordTexts.{header_mark}};
 ghost use Rattle.fc_collect.specs.declared.streams.faults.Summary.{Summary};
-ghost use Rattle.fc_import.specs.Import.{AreIn, BoardNeedsNoNote, count_text, Imported, IsApart};
-ghost use Rattle.fc_import.specs.Import.{CanBe, IsBuilt, IsNoBoard, IsPrinted, IsReadAs, IsShown};
+ghost use Rattle.fc_import.specs.Import.{AreIn, BoardNeedsNoNote, CanBe, count_text, Imported};
+ghost use Rattle.fc_import.specs.Import.{IsApart, IsBuilt, IsNoBoard, IsPrinted, IsReadAs, IsShown};
 ghost use Rattle.fc_import.specs.Import.{lines_in, ListNeedsNoNote, Makes, may_be, most_dealt};
 ghost use Rattle.fc_import.specs.Import.{numbered, Reading, refusals, StaysLast};
 ghost use Rattle.fc_import.specs.inside.{of_columns};
 ghost use Rattle.fc_import.specs.Notes.{name_by, Place, place_text, SaysUnless, State};
-ghost use Rattle.fc_import.specs.Scan.{HasFewCards, is_list, IsQuiet, moves_in, named_card};
-ghost use Rattle.fc_import.specs.Scan.{IsProse, named_cards, said_in};
+ghost use Rattle.fc_import.specs.Scan.{HasFewCards, is_list, IsProse, IsQuiet, moves_in};
+ghost use Rattle.fc_import.specs.Scan.{named_card, named_cards, said_in};
 ghost use Rattle.fc_import.specs.Strips.{has_no_groups, is_dealt, tells_columns};
 ghost use Rattle.fc_import.specs.Words.{decoded, letters_of, named_in, named_lines, text_read};
 ghost use Rattle.fc_import.specs.declared.{

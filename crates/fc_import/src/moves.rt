@@ -1,16 +1,16 @@
 //! The moves that words name, one word after another.
 ghost use Rattle.std.specs.Char.{is_ascii_alphabetic, is_ascii_lowercase};
 ghost use Rattle.std.specs.{List.{list_all, list_any, prefix_len}, Option.{is_some}};
-ghost use Rattle.std.specs.Prelude.{◌++◌, ◌==◌, ◌||◌, ◌∷◌, ◌≡◌, drop, false, IfOk, if◌then◌else◌};
-ghost use Rattle.std.specs.Prelude.{◌&&◌, ◌+◌, length, min, nat_lt, None, not, OnOk};
+ghost use Rattle.std.specs.Prelude.{◌&&◌, ◌++◌, ◌+◌, ◌==◌, ◌||◌, ◌∷◌, ◌≡◌, drop, false, IfOk};
+ghost use Rattle.std.specs.Prelude.{if◌then◌else◌, length, min, nat_lt, None, not, OnOk};
 ghost use Rattle.std.specs.Str.{str_eq_ignore_ascii_case, str_to_ascii_lowercase};
 ghost use Rattle.fc_card.specs.Types.{Text};
 ghost use Rattle.fc_text.specs.{Bytes.{blank, is_gap}, reader.{run_named}};
-ghost use Rattle.fc_import.specs.Scan.{after_arrow, after_first, after_gap, after_letters};
-ghost use Rattle.fc_import.specs.Scan.{after_next, after_word, before_dots, has_dots, is_arrow};
-ghost use Rattle.fc_import.specs.Scan.{is_card_move, is_glued, is_label, is_number, is_pointed};
-ghost use Rattle.fc_import.specs.Scan.{are_cards, are_glued, is_sure, is_unread, solution_names, sureness, with_move};
-ghost use Rattle.fc_import.specs.Names.{is_among};
+ghost use Rattle.fc_import.specs.{Names.{is_among}, Scan.{after_arrow, after_first, after_gap}};
+ghost use Rattle.fc_import.specs.Scan.{after_letters, after_next, after_word, are_cards, are_glued};
+ghost use Rattle.fc_import.specs.Scan.{before_dots, has_dots, is_arrow, is_card_move, is_glued};
+ghost use Rattle.fc_import.specs.Scan.{is_label, is_number, is_pointed, is_sure, is_unread};
+ghost use Rattle.fc_import.specs.Scan.{solution_names, sureness, with_move};
 ghost use Rattle.fc_import.specs.Seen.{piece_of, said_of};
 
 use crate::labels::is_pile_name;

@@ -6,7 +6,7 @@ use crate::hearing::{LineHeard, is_drawn, is_in_words, is_list, moves_in};
 use crate::labels::LabelKind;
 use crate::marks::Shape;
 use crate::moves::are_glued;
-use crate::scan::{LineSeen, Placed, named_card};
+use crate::scan::{LineSeen, Placed};
 use crate::words::{Words, before_mark, uncommented};
 use fc_board::Rule;
 use fc_text::{Line, Lines};
@@ -574,9 +574,6 @@ enum Said {
 }
 
 fn said_of_height(word: &[u8], suit: Option<usize>) -> Said {
-    if let (Some(card), None) = (named_card(word), suit) {
-        return Said::Height(usize::from(card.suit().number()), card.rank().number());
-    }
     match (suit, word) {
         (None, [letter, height @ ..]) => match (suit_of(*letter), height) {
             (Some(place), []) => Said::Suit(place),

@@ -1,7 +1,6 @@
 //! Which boards play can make of a deal.
-ghost use Rattle.std.specs.Prelude.{◌↔◌, ◌≡◌, All, IsTrue};
+ghost use Rattle.std.specs.Prelude.{◌↔◌, ◌≡◌, ◌⊎◌, All, IsTrue};
 ghost use Rattle.fc_import.specs.Import.{CanBe, IsBuilt};
-ghost use Rattle.std.specs.Prelude.{◌⊎◌};
 ghost use Rattle.fc_import.specs.declared.options.LinesAre.TheVariants.{Columns as AsColumns};
 
 use crate::options::LinesAre;

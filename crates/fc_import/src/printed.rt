@@ -1,6 +1,6 @@
 //! What fcanon prints, which is imported as it is: no line of it is a guess.
 ghost use Rattle.std.specs.Prelude.{◌++◌, ◌<◌, ◌∷◌, ◌≡◌, ◌≢◌, ◌≤◌, [], false, IfOk, IfSome, IsNone};
-ghost use Rattle.std.specs.Prelude.{IsSome, length, Some, true};
+ghost use Rattle.std.specs.Prelude.{IsSome, length, None, Some, true, ℕ};
 ghost use Rattle.fc_card.specs.Types.{Text};
 ghost use Rattle.fc_board.specs.Boards.{Board as Layout, IsWellFormed};
 ghost use Rattle.fc_board.specs.{Moves.{move_count, MoveList as SaidList}, Play.{Legal}};
@@ -8,7 +8,9 @@ ghost use Rattle.fc_text.specs.{Bytes.{line_feed}, Notation.{most_moves, print},
 ghost use Rattle.fc_record.specs.Grammar.{begins_with, heading_of, is_name};
 ghost use Rattle.fc_record.specs.Printing.{after_blank, header_text, list_line};
 ghost use Rattle.fc_record.specs.RecordTexts.{header_mark};
-ghost use Rattle.fc_import.specs.{inside.{form_of, TakesAsItIs}, Notes.{name_by}};
+ghost use Rattle.fc_import.specs.Import.{IsPrinted};
+ghost use Rattle.fc_import.specs.inside.{form_of, KeepsFirst, TakesAsItIs, TakesFirst};
+ghost use Rattle.fc_import.specs.Notes.{name_by};
 
 use crate::line::line_len;
 use crate::made::{Form, Made, line_of};
@@ -21,9 +23,29 @@ use fc_text::take_printed;
 use std::alloc::{AllocError, Global};
 
 impl<R: Rule> Made<R> {
-    /// Takes the header and the board at the front of the text, if both are as fcanon prints them
-    /// and the header gives a name. Returns how many bytes they have.
-    pub(crate) fn take_record(&mut self, text: &[u8]) -> Result<Option<usize>, AllocError>
+    /// Takes a record or a list at the front of the text, if it is as fcanon prints it. Returns how
+    /// many bytes it has.
+    pub(crate) fn take_printed(&mut self, text: &[u8]) -> Result<Option<usize>, AllocError>
+        requires { 0 < length text.now }
+        ensures takes { IfOk result (λ taken. IfSome taken (λ len.
+            TakesFirst R.VARIANT R.game text.now len self.old self.new)) }
+        ensures kept { IfOk result (λ taken. IsNone taken → self.new ≡ self.old) }
+        ensures found { IsPrinted R.VARIANT R.game self.old.last text.now → IfOk result
+            (λ taken. (len : ℕ) × (taken ≡ Some len)
+            × KeepsFirst R.VARIANT R.game text.now len self.old self.new) }
+    {
+        if text[0] == b'@' {
+            return self.take_record(text);
+        }
+        if text[0] == b'>' {
+            return self.take_list(text);
+        }
+        Ok(None)
+    }
+
+    // Takes the header and the board at the front of the text, if both are as fcanon prints them
+    // and the header gives a name. Returns how many bytes they have.
+    fn take_record(&mut self, text: &[u8]) -> Result<Option<usize>, AllocError>
         requires { 0 < length text.now }
         ensures taken { IfOk result (λ taken. IfSome taken (λ len.
             TakesAsItIs R.VARIANT R.game text.now len self.old self.new)) }
@@ -51,9 +73,9 @@ impl<R: Rule> Made<R> {
         Ok(Some(end))
     }
 
-    /// Takes the list at the front of the text, if it is as fcanon prints it, and legal on the last
-    /// board. Returns how many bytes it has.
-    pub(crate) fn take_list(&mut self, text: &[u8]) -> Result<Option<usize>, AllocError>
+    // Takes the list at the front of the text, if it is as fcanon prints it, and legal on the last
+    // board. Returns how many bytes it has.
+    fn take_list(&mut self, text: &[u8]) -> Result<Option<usize>, AllocError>
         requires some { 0 < length text.now }
         requires no_header { begins_with header_mark text.now ≡ false }
         ensures taken { IfOk result (λ taken. IfSome taken (λ len.

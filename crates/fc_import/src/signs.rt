@@ -1,9 +1,9 @@
 //! What the characters of a text stand for: letters of suits, ends of lines, blanks, or nothing.
-ghost use Rattle.std.specs.Prelude.{◌%◌, ◌&&◌, ◌++◌, ◌==◌, ◌||◌, ◌≡◌, [], All, chars, false};
-ghost use Rattle.std.specs.Prelude.{IfOk, if◌then◌else◌, IsTrue, OnOk, slice_index, true};
+ghost use Rattle.std.specs.Prelude.{◌%◌, ◌&&◌, ◌++◌, ◌==◌, ◌||◌, ◌≡◌, [], All, chars, false, IfOk};
+ghost use Rattle.std.specs.Prelude.{if◌then◌else◌, IsTrue, OnOk, slice_index, true};
 ghost use Rattle.fc_text.specs.Bytes.{line_feed};
-ghost use Rattle.fc_import.specs.{inside.{is_alone}, Words.{is_between, letters_of, mark_for}};
-ghost use Rattle.fc_import.specs.Words.{stands_for, text_read};
+ghost use Rattle.fc_import.specs.inside.{is_alone};
+ghost use Rattle.fc_import.specs.Words.{is_between, letters_of, mark_for, stands_for, text_read};
 
 use crate::decoding::decode;
 use std::alloc::{AllocError, Global};

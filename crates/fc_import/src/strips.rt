@@ -1,11 +1,12 @@
 //! Under which columns the cards of rows stand: each column has a strip of each line.
-ghost use Rattle.std.specs.List.{count_by, list_any};
-ghost use Rattle.std.specs.{Prelude.{◌≡◌, [], if◌then◌else◌, None, slice_index_or}, Str.{bytes_eq}};
-ghost use Rattle.fc_import.specs.{Seen.{piece_of}, Strips.{has_card, has_strips, is_dealt}};
-ghost use Rattle.fc_import.specs.Strips.{is_mark, is_told, parts_fields, strip_of, whole_strips};
-ghost use Rattle.fc_import.specs.{Strips.{words_in}, Scan.{uncommented, words_of}};
-ghost use Rattle.fc_import.specs.Strips.{are_even, are_parted_by, between, has_no_groups};
-ghost use Rattle.{fc_text.specs.Lines.{lines_from}, std.specs.{List.{list_all}, Prelude.{◌&&◌}}};
+ghost use Rattle.std.specs.List.{count_by, list_all, list_any};
+ghost use Rattle.std.specs.Prelude.{◌&&◌, ◌≡◌, [], if◌then◌else◌, None, slice_index_or};
+ghost use Rattle.std.specs.Str.{bytes_eq};
+ghost use Rattle.fc_text.specs.Lines.{lines_from};
+ghost use Rattle.fc_import.specs.{Scan.{uncommented, words_of}, Seen.{piece_of}, Strips.{are_even}};
+ghost use Rattle.fc_import.specs.Strips.{are_parted_by, between, has_card, has_no_groups};
+ghost use Rattle.fc_import.specs.Strips.{has_strips, is_dealt, is_mark, is_told, parts_fields};
+ghost use Rattle.fc_import.specs.Strips.{strip_of, whole_strips, words_in};
 
 use crate::cards::first_card;
 use crate::words::{Word, Words, uncommented};

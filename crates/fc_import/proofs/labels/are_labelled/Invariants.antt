@@ -1,6 +1,6 @@
-use Rattle.{fc_text.specs.Left.{lines_left}, std.{proofs.Common.{◌≡◌}, specs.List.{list_all}}}
+use Rattle.std.{proofs.Common.{◌≡◌}, specs.List.{list_all}}
+use Rattle.{fc_import.specs.Strips.{is_labelled, tells_columns}, fc_text.specs.Left.{lines_left}}
 use Rattle.fc_import.specs.declared.layout.Layout.TheVariants.{Columns}
-use Rattle.fc_import.specs.Strips.{is_labelled, tells_columns}
 use Rattle.fc_import.proofs.labels.are_labelled.Given as goal
 
 abbrev pub invariant-loop-line : goal.invariant-loop-line

@@ -1,5 +1,5 @@
-use Rattle.fc_import.proofs.SignLemmas.{utf_8_stays}
 use Rattle.std.{proofs.Common.{refl}, specs.Char.{encode_utf8, Utf16.{utf16_chars}}}
+use Rattle.fc_import.proofs.SignLemmas.{utf_8_stays}
 use Rattle.fc_import.proofs.laws.utf_16_is_decoded.Goals as goal
 
 pub returns-clause-low_first : goal.returns-clause-low_first

@@ -1,5 +1,5 @@
 use Rattle.std.proofs.Common.{◌≡◌, All, subst, sym, true}
-use Rattle.fc_import.{proofs.SignLemmas.{all_stay}, specs.{inside.{is_alone}}}
+use Rattle.fc_import.{proofs.SignLemmas.{all_stay}, specs.inside.{is_alone}}
 use Rattle.fc_import.proofs.signs.read_text.Goals as goal
 
 pub returns-then-are_alone : goal.returns-then-are_alone

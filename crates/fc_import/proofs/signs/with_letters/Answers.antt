@@ -1,5 +1,5 @@
-use Rattle.std.proofs.Common.{◌&&◌, ◌++◌, ◌==◌, ◌∙◌, ◌∷◌, [], ap, append-nil, append_assoc, false, if◌then◌else◌, map-id, sym}
-use Rattle.std.proofs.lemmas.Iterator.{Consumers.{YieldsList-end}, YieldsList-from_chars}
+use Rattle.std.proofs.Common.{◌&&◌, ◌++◌, ◌==◌, ◌∙◌, ◌∷◌, [], ap, append-nil, append_assoc, false, if◌then◌else◌}
+use Rattle.std.proofs.{Common.{map-id, sym}, lemmas.Iterator.{Consumers.{YieldsList-end}, YieldsList-from_chars}}
 use Rattle.{fc_import.specs.Words.{letters_of, stands_for}, fc_text.specs.Bytes.{line_feed}}
 use Rattle.fc_import.proofs.signs.with_letters.Goals as goal
 

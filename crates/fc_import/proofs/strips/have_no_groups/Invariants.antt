@@ -1,5 +1,5 @@
-use Rattle.{fc_text.specs.{Left.{lines_left}, Lines.{lines_from}}, std.{proofs.Common.{◌≡◌}, specs.List.{list_all}}}
-use Rattle.fc_import.specs.Strips.{has_no_groups}
+use Rattle.std.{proofs.Common.{◌≡◌}, specs.List.{list_all}}
+use Rattle.{fc_import.specs.Strips.{has_no_groups}, fc_text.specs.{Left.{lines_left}, Lines.{lines_from}}}
 use Rattle.fc_import.proofs.strips.have_no_groups.Given as goal
 
 abbrev pub invariant-loop-line : goal.invariant-loop-line

@@ -6,7 +6,7 @@ use Rattle.fc_import.proofs.FrontLemmas.{in_front}
 use Rattle.fc_import.proofs.PrintedLemmas.{begins, Begins, front_of_header, front_of_list, with_list, with_record}
 use Rattle.fc_import.specs.{Import.{IsPrinted}, inside.{KeepsFirst, TakesAsItIs}}
 use Rattle.fc_import.specs.declared.made.Made.{Made}
-use Rattle.fc_import.proofs.import.Importer.take_as_it_is.Goals as goal
+use Rattle.fc_import.proofs.made.Made.take_printed.Goals as goal
 
 -- what was found was taken
 both : {E L : Type 0} (P Q : ℕ → Type 0) (len : ℕ) (result : Result (Option ℕ) E)
@@ -36,10 +36,10 @@ returns-then-text-eq64-clause-found g c = λ printed. by (begins g.R.Rule.VARIAN
     text = c.args.text.now
 
     old : Made g.row.R.Denot
-    old = c.args.self.now.made
+    old = c.args.self.now
 
     new : Made g.row.R.Denot
-    new = c.take_record.new.self.made
+    new = c.take_record.new.self
 
     by : Begins g.R.Rule.VARIANT g.R.Rule.game old.last text
         → IfOk c.take_record.result (λ taken. (len : ℕ) × (taken ≡ Some len) × KeepsFirst {R = g.row.R.Denot}
@@ -65,10 +65,10 @@ returns-then-text-eq62-clause-found g c = λ printed. by (begins g.R.Rule.VARIAN
     text = c.args.text.now
 
     old : Made g.row.R.Denot
-    old = c.args.self.now.made
+    old = c.args.self.now
 
     new : Made g.row.R.Denot
-    new = c.take_list.new.self.made
+    new = c.take_list.new.self
 
     by : Begins g.R.Rule.VARIANT g.R.Rule.game old.last text
         → IfOk c.take_list.result (λ taken. (len : ℕ) × (taken ≡ Some len) × KeepsFirst {R = g.row.R.Denot}
@@ -86,12 +86,12 @@ returns-then-text-eq62-clause-found g c = λ printed. by (begins g.R.Rule.VARIAN
         (λ taken last. goes_on taken last is more)
 
 pub returns-clause-found : goal.returns-clause-found
-returns-clause-found g c = λ printed. by (begins g.R.Rule.VARIANT g.R.Rule.game c.args.self.now.made.last
+returns-clause-found g c = λ printed. by (begins g.R.Rule.VARIANT g.R.Rule.game c.args.self.now.last
     c.args.text.now printed c.requires)
   where
-    by : Begins g.R.Rule.VARIANT g.R.Rule.game c.args.self.now.made.last c.args.text.now → (len : ℕ) × (None ≡ Some len)
-        × KeepsFirst {R = g.row.R.Denot} g.R.Rule.VARIANT g.R.Rule.game c.args.text.now len c.args.self.now.made
-        c.args.self.now.made
+    by : Begins g.R.Rule.VARIANT g.R.Rule.game c.args.self.now.last c.args.text.now → (len : ℕ) × (None ≡ Some len)
+        × KeepsFirst {R = g.row.R.Denot} g.R.Rule.VARIANT g.R.Rule.game c.args.text.now len c.args.self.now
+        c.args.self.now
     by (with_record name board rest one some well more is) =
         let e = ap (λ text. get_or text 0 0) is ∙ front_of_header g.R.Rule.VARIANT name
         (text_of board ++ rest) in absurd (omega (arith, e, c.if-text-eq64.false))
