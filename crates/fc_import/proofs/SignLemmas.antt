@@ -45,7 +45,9 @@ low_alone byte alone = elim (leb_tells byte 127) [
 
 -- a byte of ASCII that ends no line, or a line feed, stands for itself
 alone_stays : (byte : ℕ) → is_alone byte ≡ true → (byte == 0x0D, stands_for byte) ≡ itself byte
-alone_stays byte alone = sym (ap (λ test. if test then (byte == 0x0D, stands_for byte) else itself byte) alone) ∙ sign_at byte (low_alone byte alone)
+alone_stays byte alone =
+    sym (ap (λ test. if test then (byte == 0x0D, stands_for byte) else itself byte) alone)
+    ∙ sign_at byte (low_alone byte alone)
 
 -- ---- texts of such bytes
 
@@ -59,7 +61,8 @@ letters_stay (byte ∷ rest) all =
 is_ascii : (text : List ℕ) → All (λ byte. is_alone byte ≡ true) text → IsAscii text
 is_ascii [] all place = omega arith
 is_ascii (byte ∷ rest) all zero = low_alone byte (all 0 0 (omega arith))
-is_ascii (byte ∷ rest) all (suc place) = is_ascii rest (λ place none inside. all (suc place) none (omega (arith, inside))) place
+is_ascii (byte ∷ rest) all (suc place) =
+    is_ascii rest (λ place none inside. all (suc place) none (omega (arith, inside))) place
 
 -- bytes that begin with no mark of UTF-16 are read as UTF-8
 no_mark : (bytes : List ℕ) → slice_index bytes 0 < 0xFE → decoded bytes ≡ utf8_lossy bytes

@@ -61,14 +61,15 @@ silent_as place piece said so (inl (holds, none)) silent = inl (so holds, none)
 silent_as place piece said so (inr (fails, note)) silent = absurd (note_said place piece said note silent)
 
 -- where nothing was said, no note is needed
-needs_no_note : {holds : Type 0} (place : Place) (piece said : List ℕ) → SaysUnless holds place piece said → said ≡ [] → holds
+needs_no_note : {holds : Type 0} (place : Place) (piece said : List ℕ) → SaysUnless holds place piece said
+    → said ≡ [] → holds
 needs_no_note place piece said (inl (holds, none)) silent = holds
 needs_no_note place piece said (inr (fails, note)) silent = absurd (note_said place piece said note silent)
 
 -- play can make a board that is written in silence
-pub can_be_silent : {variant : Variant} {game : Game} {state : State} {piece : List ℕ} {next : State} {written said : List ℕ}
-    → Reading variant game state piece next written said → said ≡ [] → written ≢ [] → (board : Board) → next.last ≡ Some board
-    → CanBe game piece board ⊎ (state.last ≡ Some board)
+pub can_be_silent : {variant : Variant} {game : Game} {state : State} {piece : List ℕ} {next : State}
+    {written said : List ℕ} → Reading variant game state piece next written said → said ≡ [] → written ≢ []
+    → (board : Board) → next.last ≡ Some board → CanBe game piece board ⊎ (state.last ≡ Some board)
 can_be_silent (passed apart quiet) silent some board is = absurd (some refl)
 can_be_silent (left_out said apart names prose note) silent some board is = absurd (some refl)
 can_be_silent {game = game} {state = state} {piece = piece} (a_board name other said game_is named well can of says) silent some board is =
@@ -80,12 +81,13 @@ can_be_silent (refused_board said note) silent some board is = absurd (some refl
 can_be_silent (refused_list last said apart stays note) silent some board is = absurd (some refl)
 
 -- and one that is written where lines are not said to be columns
-pub can_be_unsaid : {variant : Variant} {game : Game} {state : State} {piece : List ℕ} {next : State} {written said : List ℕ}
-    → Reading variant game state piece next written said → state.options.lines_are ≢ AsColumns → written ≢ []
-    → (board : Board) → next.last ≡ Some board → CanBe game piece board ⊎ (state.last ≡ Some board)
+pub can_be_unsaid : {variant : Variant} {game : Game} {state : State} {piece : List ℕ} {next : State}
+    {written said : List ℕ} → Reading variant game state piece next written said
+    → state.options.lines_are ≢ AsColumns → written ≢ [] → (board : Board) → next.last ≡ Some board → CanBe game piece board ⊎ (state.last ≡ Some board)
 can_be_unsaid (passed apart quiet) unsaid some board is = absurd (some refl)
 can_be_unsaid (left_out said apart names prose note) unsaid some board is = absurd (some refl)
-can_be_unsaid (a_board name other said game_is named well (inl columns) of says) unsaid some board is = absurd (unsaid columns)
+can_be_unsaid (a_board name other said game_is named well (inl columns) of says) unsaid some board is =
+    absurd (unsaid columns)
 can_be_unsaid {game = game} {piece = piece} (a_board name other said game_is named well (inr can) of says) unsaid some board is =
     inl (subst (CanBe game piece) (let e : other ≡ board = cc in e) can)
 can_be_unsaid (once_more other said last begun of says) unsaid some board is = absurd (some refl)

@@ -1,5 +1,5 @@
--- The names of the parts of a board. From: Freecell Solver's board text, and the names that sites, books and solvers use.
-use Rattle.std.specs.{List.{list_any}, Prelude.{◌∷◌, [], Bool, codes, List}}
+-- The names of the parts of a board. From: Freecell Solver's board text, and how sites and books name them.
+use Rattle.std.specs.{List.{list_any}, Prelude.{◌||◌, ◌∷◌, [], Bool, codes, List}}
 use Rattle.std.specs.Str.{str_eq_ignore_ascii_case}
 use Rattle.fc_card.specs.Types.{Text}
 
@@ -20,3 +20,7 @@ columns_names = codes "columns" ∷ codes "tableau" ∷ codes "stacks" ∷ codes
 -- in any case
 abbrev pub is_among : (word : Text) → (names : List Text) → Bool
 is_among word names = list_any (str_eq_ignore_ascii_case word) names
+
+-- a name of piles
+abbrev pub is_pile_name : Text → Bool
+is_pile_name word = is_among word (codes "free" ∷ cells_names) || is_among word foundations_names || is_among word column_names

@@ -13,7 +13,7 @@ use Rattle.fc_text.specs.Lines.{Piece, with_end, words_from}
 use Rattle.fc_text.specs.Notation.{cell_letters, column_digits, count_letter, home_letter}
 use Rattle.fc_text.specs.{reader.{run_named}, Spelling.{card_spelled}}
 use Rattle.fc_record.specs.{Grammar.{begins_with}, RecordTexts.{header_mark}}
-use Rattle.fc_import.specs.Names.{cells_names, column_names, foundations_names, is_among}
+use Rattle.fc_import.specs.Names.{is_among, is_pile_name}
 
 -- -------- The words of a line: letters and digits together. From: how sites, books and solvers write boards and moves.
 
@@ -140,10 +140,6 @@ after_first game said word next =
 abbrev pub after_letters : Game → Said → (letters : Text) → Said
 after_letters game said letters =
     if is_some (run_named game letters) then with_move said letters (if said.pointed then 2 else sureness letters) else with_other said false
-
--- a name of piles
-abbrev pub is_pile_name : Text → Bool
-is_pile_name word = is_among word (codes "free" ∷ cells_names) || is_among word foundations_names || is_among word column_names
 
 -- a word where the target of a move from this pile comes next
 abbrev pub after_arrow : Game → Said → (from : ℕ) → (word : Text) → Said

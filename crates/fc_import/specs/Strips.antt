@@ -83,13 +83,13 @@ are_below strips board line =
 -- -------- Whether lines with the number of a column are that column. From: this project's profile.
 
 -- no card, or one of the column of the number that the label says, if it says one
-abbrev pub is_of_label : LabelKind → Board → Option Card → Bool
-is_of_label (Column number) board (Some card) = has_card (slice_index_or board.columns (number - 1) []) card
-is_of_label label board card = true
+abbrev pub fits_label : LabelKind → Board → Option Card → Bool
+fits_label (Column number) board (Some card) = has_card (slice_index_or board.columns (number - 1) []) card
+fits_label label board card = true
 
--- the first card that the line names
-abbrev pub is_labelled : Board → (line : Text) → Bool
-is_labelled board line = is_of_label (label_of (uncommented line)) board (slice_get (named_cards line) 0)
+-- the first card that the line names is in the column of the line's number, if there are both
+abbrev pub fits_its_number : Board → (line : Text) → Bool
+fits_its_number board line = fits_label (label_of (uncommented line)) board (slice_get (named_cards line) 0)
 
 -- -------- Whether one line has the cards in the order of dealing. From: how Microsoft's deals are written in one line.
 
@@ -116,5 +116,5 @@ has_no_groups line = is_none (slice_get (named_cards line) 0) || are_even (uncom
 -- each word of rows that names a card of a column is in that column's strip; cards in the order of dealing are all of a deal, in no groups; and in layouts where a line has the cards of one column, its first card is in the column of its number, if it has one
 abbrev pub tells_columns : Layout → (piece : Text) → Board → Bool
 tells_columns (Rows strips) piece board = list_all (λ line. are_below strips board line.bytes) (lines_from 0 piece)
-tells_columns Deal piece board = (is_dealt board && list_all (λ line. has_no_groups line.bytes) (lines_from 0 piece)) && list_all (λ line. is_labelled board line.bytes) (lines_from 0 piece)
-tells_columns layout piece board = list_all (λ line. is_labelled board line.bytes) (lines_from 0 piece)
+tells_columns Deal piece board = (is_dealt board && list_all (λ line. has_no_groups line.bytes) (lines_from 0 piece)) && list_all (λ line. fits_its_number board line.bytes) (lines_from 0 piece)
+tells_columns layout piece board = list_all (λ line. fits_its_number board line.bytes) (lines_from 0 piece)

@@ -4,9 +4,9 @@ ghost use Rattle.fc_text.specs.Bytes.{colon};
 ghost use Rattle.fc_import.specs.Labels.{all_words, is_column_number, is_numbered, label_of};
 ghost use Rattle.fc_import.specs.Labels.{said_by_front, said_by_one, said_by_two, said_by_words};
 ghost use Rattle.fc_import.specs.{Labels.{says_column}, Names.{cells_names, column_names}};
-ghost use Rattle.fc_import.specs.Names.{columns_names, foundations_names, is_among};
-ghost use Rattle.fc_import.specs.{Scan.{is_pile_name}, Seen.{piece_of}};
-ghost use Rattle.fc_import.specs.Strips.{is_labelled, is_of_label, tells_columns};
+ghost use Rattle.fc_import.specs.Names.{columns_names, foundations_names, is_among, is_pile_name};
+ghost use Rattle.fc_import.specs.Seen.{piece_of};
+ghost use Rattle.fc_import.specs.Strips.{fits_its_number, fits_label, tells_columns};
 ghost use Rattle.fc_import.specs.declared.layout.Layout.TheVariants.{Columns};
 
 use crate::cards::first_card;
@@ -46,29 +46,29 @@ pub(crate) fn label_of(text: &[u8], front: &[u8]) -> LabelKind
 }
 
 /// Whether the first card of each line with the number of a column is in that column.
-pub(crate) fn are_labelled<R: Rule>(lines: &[u8], board: &Board<R>) -> bool
+pub(crate) fn fit_their_numbers<R: Rule>(lines: &[u8], board: &Board<R>) -> bool
     ensures { result ≡ tells_columns Columns lines.now board.now }
 {
     for line in Lines::new(lines) {
-        if !is_labelled(line.text, board) {
+        if !fits_its_number(line.text, board) {
             return false;
         }
     }
     true
 }
 
-fn is_labelled<R: Rule>(line: &[u8], board: &Board<R>) -> bool
-    ensures { result ≡ is_labelled board.now line.now }
+fn fits_its_number<R: Rule>(line: &[u8], board: &Board<R>) -> bool
+    ensures { result ≡ fits_its_number board.now line.now }
 {
     let text = uncommented(line);
     let label = label_of(text, before_mark(b':', text));
-    is_of_label(label, board, first_card(line))
+    fits_label(label, board, first_card(line))
 }
 
 // Whether there is no card, or it is in the column of the number that the label says, if it says
 // one.
-fn is_of_label<R: Rule>(label: LabelKind, board: &Board<R>, card: Option<Card>) -> bool
-    ensures { result ≡ is_of_label label board.now card }
+fn fits_label<R: Rule>(label: LabelKind, board: &Board<R>, card: Option<Card>) -> bool
+    ensures { result ≡ fits_label label board.now card }
 {
     match (label, card) {
         (LabelKind::Column(number), Some(card)) => {

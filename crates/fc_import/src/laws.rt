@@ -193,6 +193,8 @@ pub fn cards_are_dealt_in_no_groups()
 /// A line with the number of a column, as a label or before a dot, is that column, and no other,
 /// where lines are read as columns that `show` does not read.
 pub fn numbers_are_those_of_columns()
+    ensures unnumbered { tells_columns Columns (codes "KS" ++ line_feed ∷ codes "KH")
+        (of_columns ((50 ∷ []) ∷ (51 ∷ []) ∷ [])) ≡ true }
     ensures told { tells_columns Columns (codes "1. KH" ++ line_feed ∷ codes "Column 2: KS")
         (of_columns ((50 ∷ []) ∷ (51 ∷ []) ∷ [])) ≡ true }
     ensures exchanged { tells_columns Columns (codes "2: KH" ++ line_feed ∷ codes "1: KS")

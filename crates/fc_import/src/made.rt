@@ -23,7 +23,7 @@ ghost use Rattle.fc_import.specs.declared.tally.Fate.TheVariants.{ABoard};
 
 use crate::cards::{are_in, named_lines, told_lines};
 use crate::hearing::is_in_words;
-use crate::labels::{are_labelled, says_column};
+use crate::labels::{fit_their_numbers, says_column};
 use crate::layout::{Layout, layout_words};
 use crate::naming::{copied, name_given, names_game, numbered, title_or_number};
 use crate::options::{ImportOptions, LinesAre, Noted};
@@ -372,7 +372,7 @@ impl<R: Rule> Made<R> {
         if layout == Layout::Deal && !are_dealt(piece, board) {
             return Ok(None);
         }
-        if !are_labelled(piece, board) {
+        if !fit_their_numbers(piece, board) {
             return Ok(None);
         }
         let named = named_lines(self.alloc, piece)?;

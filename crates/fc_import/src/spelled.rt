@@ -6,7 +6,7 @@ ghost use Rattle.fc_import.specs.Import.{BoardNeedsNoNote, HasLines, SpellsOut};
 ghost use Rattle.fc_import.specs.Words.{named_lines};
 
 use crate::cards::{by_columns, is_packed};
-use crate::labels::are_labelled;
+use crate::labels::fit_their_numbers;
 use crate::layout::Layout;
 use crate::options::Noted;
 use crate::playable::can_be;
@@ -27,7 +27,7 @@ fn has_lines<R: Rule>(
     ensures well_formed { IsWellFormed R.game board.now }
 {
     let columns = by_columns(alloc, board)?;
-    Ok(is_equal(named, columns.as_slice()) && is_packed(board) && are_labelled(lines, board))
+    Ok(is_equal(named, columns.as_slice()) && is_packed(board) && fit_their_numbers(lines, board))
 }
 
 /// Whether `show` reads the lines, which name these cards, as the board, which is known, or they are

@@ -1,4 +1,4 @@
-use Rattle.std.proofs.Common.{◌++◌, ◌∷◌, ◌≡◌, ◌≢◌, [], All, ap, arith, inl, inr, List, refl, ℕ}
+use Rattle.std.proofs.Common.{◌++◌, ◌∷◌, ◌≡◌, ◌≢◌, [], All, ap, arith, inl, inr, List, refl, suc, zero, ℕ}
 use Rattle.std.{proofs.lemmas.List.Elements.{All-cons, All-nil}, specs.Prelude.{codes, slice_index}}
 use Rattle.fc_board.specs.{Games.{freecell}, Moves.{MoveList, OneCard, Runs}}
 use Rattle.fc_text.{proofs.ReadingLemmas.{Spells-from_faultless}, specs.{Bytes.{line_feed}, Printed.{text_of}}}
@@ -16,12 +16,16 @@ ten_spells = Spells-from_faultless freecell ten refl
 no_card_built : IsBuilt freecell []
 no_card_built place dealt inside = absurd (omega (arith, inside))
 
-one_built : (columns : List (List ℕ)) → All (IsBuilt freecell) columns → All (IsBuilt freecell) ([] ∷ columns)
-one_built columns built = All-cons (IsBuilt freecell) [] columns no_card_built built
+abbrev empty_columns : ℕ → List (List ℕ)
+empty_columns zero = []
+empty_columns (suc count) = [] ∷ empty_columns count
+
+empty_built : (count : ℕ) → All (IsBuilt freecell) (empty_columns count)
+empty_built zero = All-nil (IsBuilt freecell)
+empty_built (suc count) = All-cons (IsBuilt freecell) [] (empty_columns count) no_card_built (empty_built count)
 
 ten_built : All (IsBuilt freecell) (board_of freecell ten).columns
-ten_built =
-    one_built ([] ∷ [] ∷ [] ∷ [] ∷ [] ∷ [] ∷ [] ∷ []) (one_built ([] ∷ [] ∷ [] ∷ [] ∷ [] ∷ [] ∷ []) (one_built ([] ∷ [] ∷ [] ∷ [] ∷ [] ∷ []) (one_built ([] ∷ [] ∷ [] ∷ [] ∷ []) (one_built ([] ∷ [] ∷ [] ∷ []) (one_built ([] ∷ [] ∷ []) (one_built ([] ∷ []) (one_built [] (All-nil (IsBuilt freecell)))))))))
+ten_built = empty_built 8
 
 not_printed : ten ≢ text_of (board_of freecell ten)
 not_printed same = let e : 49 ≡ 84 = ap (λ text. slice_index text 40) same in absurd (omega (arith, e))

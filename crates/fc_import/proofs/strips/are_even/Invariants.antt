@@ -4,4 +4,5 @@ use Rattle.fc_import.proofs.strips.are_even.Given as goal
 
 -- the words that are left are parted by the mark if all are
 abbrev pub invariant-loop-word : goal.invariant-loop-word
-invariant-loop-word l = are_parted_by l.text l.mark l.start (words_left l.word-iterator) ≡ are_even (uncommented l.line) (words_of l.line)
+invariant-loop-word l =
+    are_parted_by l.text l.mark l.start (words_left l.word-iterator) ≡ are_even (uncommented l.line) (words_of l.line)

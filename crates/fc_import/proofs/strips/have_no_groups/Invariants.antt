@@ -4,4 +4,5 @@ use Rattle.fc_import.proofs.strips.have_no_groups.Given as goal
 
 abbrev pub invariant-loop-line : goal.invariant-loop-line
 invariant-loop-line l =
-    list_all (λ line. has_no_groups line.bytes) (lines_left l.line-iterator) ≡ list_all (λ line. has_no_groups line.bytes) (lines_from 0 l.lines)
+    list_all (λ line. has_no_groups line.bytes) (lines_left l.line-iterator)
+    ≡ list_all (λ line. has_no_groups line.bytes) (lines_from 0 l.lines)

@@ -1,7 +1,0 @@
-use Rattle.std.{proofs.Common.{◌≡◌}, specs.List.{list_all}}
-use Rattle.{fc_import.specs.Strips.{is_labelled, tells_columns}, fc_text.specs.Left.{lines_left}}
-use Rattle.fc_import.specs.declared.layout.Layout.TheVariants.{Columns}
-use Rattle.fc_import.proofs.labels.are_labelled.Given as goal
-
-abbrev pub invariant-loop-line : goal.invariant-loop-line
-invariant-loop-line g l = list_all (λ line. is_labelled l.board line.bytes) (lines_left l.line-iterator) ≡ tells_columns Columns l.lines l.board
