@@ -251,10 +251,11 @@ lists_moves game in_words line = is_list game line && not (in_words && is_drawn 
 abbrev pub is_sure_move : Game → Text → Bool
 is_sure_move game word = is_sure word && is_some (run_named game word)
 
--- after this word, two single characters that come one after the other are a move: so moves are cut into two
-abbrev pub are_cut : Game → (before : Text) → List (Piece × ℕ) → Bool
-are_cut game before [] = false
-are_cut game before (word ∷ words) = (length before == 1 && length word.0.bytes == 1 && is_sure_move game (slice_index before 0 ∷ slice_index word.0.bytes 0 ∷ [])) || are_cut game word.0.bytes words
+-- single characters, of which the first two are a move: so moves may be cut into two
+abbrev pub are_single : Game → List (Piece × ℕ) → Bool
+are_single game words =
+    nat_le 2 (length words) && list_all (λ word. length word.0.bytes == 1) words
+    && is_sure_move game (slice_index (word_at words 0) 0 ∷ slice_index (word_at words 1) 0 ∷ [])
 
 -- a number comes first, as that of a line, and then a move
 abbrev pub is_numbered_move : Game → List (Piece × ℕ) → Bool
@@ -272,7 +273,7 @@ pub record HasFewMoves (game : Game) (line : Text) : Type 0 where
   pub half : (2 * moves_in game line ≤ length (words_of line)) ⊎ (is_number_alone (words_of line) ≡ true)
   pub sure : (said_in game line).sure ≤ 1
   pub led : (said_in game line).led ≡ false
-  pub parted : are_cut game [] (words_of line) ≡ false
+  pub parted : are_single game (words_of line) ≡ false
   pub unnumbered : is_numbered_move game (words_of line) ≡ false
 
 -- a line passes in silence that names no card, is no list, and names few moves: so a solution never does

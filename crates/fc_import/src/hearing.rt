@@ -1,15 +1,16 @@
 //! What the words of a line say of moves: the only place where a byte becomes a move.
-ghost use Rattle.std.specs.{List.{list_all}, Prelude.{◌&&◌, ◌*◌, ◌++◌, ◌==◌, ◌∷◌, ◌≡◌, ◌≤◌, ◌⊎◌}};
-ghost use Rattle.std.specs.Prelude.{[], count_by, false, IfOk, if◌then◌else◌, IsTrue, length, None};
-ghost use Rattle.std.specs.Prelude.{slice_index, true};
+ghost use Rattle.std.specs.{List.{list_all}, Prelude.{◌*◌, ◌==◌, ◌∷◌, ◌≡◌, ◌≤◌, ◌⊎◌, [], count_by}};
+ghost use Rattle.std.specs.Prelude.{false, IfOk, if◌then◌else◌, IsTrue, length, None, slice_index};
+ghost use Rattle.std.specs.Prelude.{true};
 ghost use Rattle.fc_text.specs.Bytes.{blank};
-ghost use Rattle.fc_import.specs.Scan.{after_word, are_cut, HasFewMoves, is_drawn, is_drawn_word};
-ghost use Rattle.fc_import.specs.Scan.{is_in_words, is_list, is_number_alone, is_numbered_move};
-ghost use Rattle.fc_import.specs.Scan.{is_sure_move, said_in, word_at, words_of};
+ghost use Rattle.fc_import.specs.Scan.{after_word, are_single, HasFewMoves, is_drawn};
+ghost use Rattle.fc_import.specs.Scan.{is_drawn_word, is_in_words, is_list, is_number_alone};
+ghost use Rattle.fc_import.specs.Scan.{is_numbered_move, is_sure_move, said_in, word_at, words_of};
 ghost use Rattle.fc_import.specs.Seen.{IsHeard, IsSeen, piece_of, said_of};
 
 use crate::moves::{Heard, has_small_letters, is_number, is_sure};
 use crate::scan::{LineSeen, named_card};
+use crate::signs::byte_at;
 use crate::solver::{push_solver_move, word_at};
 use crate::words::{Word, Words, uncommented};
 use fc_board::Rule;
@@ -69,7 +70,7 @@ impl LineHeard {
         if self.heard.sure > 1 || self.heard.led {
             return false;
         }
-        !are_cut::<R>(line) && !is_numbered_move::<R>(line)
+        !are_single::<R>(line, seen) && !is_numbered_move::<R>(line)
     }
 }
 
@@ -95,26 +96,22 @@ fn has_half(line: &[u8], seen: &LineSeen, count: usize) -> bool
     count <= seen.words / 2 || seen.is_number_alone(line)
 }
 
-// Whether two words of the line, one after the other, are the two signs of a move.
-fn are_cut<R: Rule>(line: &[u8]) -> bool
-    ensures { result ≡ are_cut R.game [] (words_of line.now) }
+// Whether each word is one sign, and the first two are a move.
+fn are_single<R: Rule>(line: &[u8], seen: &LineSeen) -> bool
+    requires { IsSeen line.now seen.now }
+    ensures { result ≡ are_single R.game (words_of line.now) }
 {
-    let mut before: &[u8] = b"";
-    for word in Words::new(uncommented(line)) {
-        if is_cut::<R>(before, word.text) {
-            return true;
-        }
-        before = word.text;
-    }
-    false
+    seen.words >= 2 && is_each_single(line) && begins_single::<R>(line)
 }
 
-// Whether both words are single signs, and a move together.
-fn is_cut<R: Rule>(first: &[u8], second: &[u8]) -> bool
-    ensures { result ≡ (length first.now == 1 && length second.now == 1
-        && is_sure_move R.game (slice_index first.now 0 ∷ slice_index second.now 0 ∷ [])) }
+// Whether the first signs of the first two words of the line are a move with a digit and a letter.
+fn begins_single<R: Rule>(line: &[u8]) -> bool
+    ensures { result ≡ is_sure_move R.game (slice_index (word_at (words_of line.now) 0) 0
+        ∷ slice_index (word_at (words_of line.now) 1) 0 ∷ []) }
 {
-    is_single(first) && is_single(second) && is_sure_move::<R>(&[first[0], second[0]])
+    let text = uncommented(line);
+    let letters = [byte_at(word_at(text, 0), 0), byte_at(word_at(text, 1), 0)];
+    is_sure_move::<R>(letters.as_slice())
 }
 
 // Whether the first word of the line is a number, and the second a move.
@@ -130,6 +127,18 @@ fn is_sure_move<R: Rule>(word: &[u8]) -> bool
     ensures { result ≡ is_sure_move R.game word.now }
 {
     is_sure(word) && run_named::<R>(word).is_some()
+}
+
+// Whether each word of the line is one sign.
+fn is_each_single(line: &[u8]) -> bool
+    ensures { result ≡ list_all (λ word. length word.0.bytes == 1) (words_of line.now) }
+{
+    for word in Words::new(uncommented(line)) {
+        if !is_single(word.text) {
+            return false;
+        }
+    }
+    true
 }
 
 // Hears the next word, unless the line says a move as Freecell Solver does.

@@ -93,7 +93,6 @@ pub fn solutions_are_not_quiet()
     ensures pair { ¬ IsQuiet freecell (codes "3 a") }
     ensures numbered { ¬ IsQuiet freecell (codes "1 3a") }
     ensures last { ¬ IsQuiet freecell (codes "Step 1: 3a") }
-    ensures cut { ¬ IsQuiet freecell (codes "1. 3 a and 3 b") }
     ensures from { ¬ IsQuiet freecell (codes "from 3 to a") }
     ensures pile { ¬ IsQuiet freecell (codes "column 3 to cell a") }
     ensures arrow { ¬ IsQuiet freecell (codes "so 3->4") }

@@ -157,3 +157,13 @@ fn is_among(low: u32, high: u32, number: u32) -> bool
 {
     low <= number && number <= high
 }
+
+/// The byte at this place, or 0 past the end.
+pub(crate) fn byte_at(text: &[u8], at: usize) -> u8
+    ensures { result ≡ slice_index text.now at }
+{
+    match text.get(at) {
+        Some(byte) => *byte,
+        None => 0,
+    }
+}

@@ -15,7 +15,6 @@ loop-sign-preserved c = λ rest.
 
 pub returns : goal.returns
 returns c =
-    let end = YieldsList-end (YieldsList-from_chars c.args.text.now c.utf8.text cc)
-    c.loop-sign.yielded _ c.loop-sign.yielded_by _ _ c.in-None.is c.next.ensures.steps in
+    let end = YieldsList-end (YieldsList-from_chars c.args.text.now c.utf8.text cc) c.loop-sign.yielded _ c.loop-sign.yielded_by _ _ c.in-None.is c.next.ensures.steps in
     sym (append-nil c.loop-sign.made.items) ∙ sym (c.loop-sign.invariant [])
     ∙ ap (letters_of false) (append-nil c.loop-sign.yielded ∙ sym (map-id c.loop-sign.yielded) ∙ end.0)
