@@ -9,6 +9,9 @@ use fc_record::push_number;
 use memchr::memrchr;
 use std::alloc::{AllocError, Global};
 
+/// The most bytes of a block whose line feeds are counted in a byte.
+const MOST_COUNTED: usize = 255;
+
 /// The name that the last header gives, or nothing, the number of its line, and that of the next
 /// line. Lines are numbered from 1.
 #[derive(Drop)]
@@ -76,7 +79,26 @@ pub(crate) fn line_after(line: usize, text: &[u8]) -> usize
 pub(crate) fn line_feeds(text: &[u8]) -> usize
     ensures { result ≡ line_feeds text.now }
 {
-    text.iter().filter(|byte| **byte == b'\n').count()
+    let mut left = text;
+    let mut count = 0;
+    while left.len() > MOST_COUNTED {
+        let (first, later) = left.split_at(MOST_COUNTED);
+        count += usize::from(line_feeds_of_block(first));
+        left = later;
+    }
+    count + usize::from(line_feeds_of_block(left))
+}
+
+// How many line feeds a block has. In counts of one byte a processor adds up sixteen bytes at once.
+fn line_feeds_of_block(block: &[u8]) -> u8
+    requires { length block.now ≤ 255 }
+    ensures { result ≡ line_feeds block.now }
+{
+    let mut count: u8 = 0;
+    for byte in block {
+        count += u8::from(*byte == b'\n');
+    }
+    count
 }
 
 // The number of the next character in the last line of the text, from 1.
