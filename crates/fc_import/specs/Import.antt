@@ -1,15 +1,15 @@
 -- What a text is imported as.
 use Rattle.std.specs.{Fmt.{decimal}, Io.KnownBytes.{IsAtEnd}}
-use Rattle.std.specs.{List.{before_first, flat_map, list_any}, Option.{option_to_list}}
+use Rattle.std.specs.{List.{before_first, flat_map, list_any}, Option.{is_some, option_to_list}}
 use Rattle.std.specs.Prelude.{◌&&◌, ◌++◌, ◌+◌, ◌-◌, ◌<◌, ◌==◌, ◌||◌, ◌↔◌, ◌∷◌, ◌≡◌, ◌≢◌, ◌≤◌, ◌⊎◌}
 use Rattle.std.specs.Prelude.{[], All, Bool, codes, Err, false, if◌then◌else◌, length, List, map}
-use Rattle.std.specs.Prelude.{None, Ok, Option, Result, slice_get, slice_index, slice_index_or}
+use Rattle.std.specs.Prelude.{None, not, Ok, Option, Result, slice_get, slice_index, slice_index_or}
 use Rattle.std.specs.{Prelude.{Some, take, true, ℕ}, Str.{bytes_eq}}
 use Rattle.fc_card.specs.{places, Types.{Card, Pile, Text}}
 use Rattle.fc_board.specs.{Boards.{Board, IsWellFormed}, Games.{Builds, Game, game_of}}
 use Rattle.fc_board.specs.{Moves.{move_count, MoveList, OneCard, Runs}, Play.{Legal}}
 use Rattle.fc_board.specs.declared.rule.Variant.{Variant}
-use Rattle.fc_text.specs.{Bytes.{line_feed}, Lines.{lines_from, words}}
+use Rattle.fc_text.specs.{Bytes.{line_feed}, Lines.{lines_from, Piece, words}}
 use Rattle.fc_text.specs.Notation.{IsRunToken, IsToken, Listed, most_moves, separates_tokens}
 use Rattle.fc_text.specs.{Printed.{text_of}, Spelling.{Spells}}
 use Rattle.fc_record.specs.Grammar.{begins_with, is_line_feed, is_name, list_mark}
@@ -24,8 +24,8 @@ use Rattle.fc_collect.specs.declared.streams.faults.Summary.{Summary}
 use Rattle.fc_import.specs.{Labels.{says_column}, Notes.{after, after_heading, counted}}
 use Rattle.fc_import.specs.Notes.{first_state, IsNote, line_feeds, SaysUnless, State}
 use Rattle.fc_import.specs.Scan.{HasFewCards, is_in_words, is_list, is_number_alone, IsProse}
-use Rattle.fc_import.specs.{Scan.{IsQuiet, lists_moves, said_in, words_of}, Strips.{tells_columns}}
-use Rattle.fc_import.specs.Words.{ended, named_in, named_lines, text_read}
+use Rattle.fc_import.specs.Scan.{IsQuiet, lists_moves, named_cards, said_in, words_of}
+use Rattle.fc_import.specs.{Strips.{tells_columns}, Words.{ended, named_in, named_lines, text_read}}
 use Rattle.fc_import.specs.declared.{
   layout.Layout.{Layout, TheVariants.{Columns, ColumnsInLine, Deal, Rows}},
   options.{ImportOptions.{ImportOptions}, LinesAre.{LinesAre}},
@@ -63,11 +63,19 @@ pub record IsPacked (board : Board) : Type 0 where
   pub columns : All (λ column. column ≢ []) board.columns
   pub cells : ArePacked board.cells
 
--- each line that names cards names those of the cells or of the next column, none of these is empty, and a line with the number of a column is that one
+-- no line without words comes between two that name cards: by what came before, whether one with cards did, and a line without words after it
+abbrev pub stand_together : (begun parted : Bool) → List Piece → Bool
+stand_together begun parted [] = true
+stand_together begun parted (line ∷ lines) =
+    if is_some (slice_get (named_cards line.bytes) 0) then not parted && stand_together true false lines
+    else stand_together begun (parted || (begun && length (words_of line.bytes) == 0)) lines
+
+-- each line that names cards names those of the cells or of the next column, none of these is empty, a line with the number of a column is that one, and no blank line comes between them
 pub record HasLines (piece : Text) (board : Board) : Type 0 where
   pub named : named_lines piece ≡ by_columns board
   pub packed : IsPacked board
   pub told : tells_columns Columns piece board ≡ true
+  pub together : stand_together false false (lines_from 0 piece) ≡ true
 
 -- `show` reads the lines as the board, or they are its lines
 abbrev pub SpellsOut : Game → (piece : Text) → Board → Type 0

@@ -21,9 +21,13 @@ use Rattle.fc_import.specs.Names.{is_among, is_pile_name}
 abbrev pub parts_words : ℕ → Bool
 parts_words byte = not (is_ascii_alphanumeric byte || nat_le 128 byte)
 
--- the line before a comment
+-- the line before a comment, which the first number sign begins, but before a digit within the line, as in `Column #1`
 abbrev pub uncommented : Text → Text
-uncommented line = before_first (λ byte. byte == number_sign) line
+uncommented [] = []
+uncommented (byte ∷ rest) =
+    let front = before_first (λ byte. byte == number_sign) (byte ∷ rest) in
+    let is_number = not (list_all is_gap front) && is_ascii_digit (slice_index rest (length front)) in
+    if is_number then byte ∷ rest else front
 
 -- each with the place of its end
 abbrev pub words_of : Text → List (Piece × ℕ)
@@ -44,17 +48,17 @@ named_cards line = if begins_with header_mark line then [] else cards_in line
 
 -- -------- The moves that they name: `2a`, `23v2`, `2->6`, `5 to a`, with numbers and labels before them, as `12. 2a` and `Solution: 2a`. From: standard FreeCell move notation, and how sites and programs write it.
 
--- what words name so far: the moves, each after a blank; the pile that a move is from whose target comes next, and whether its arrow has a point; whether each word is of a move; how sure it is that one is: not by digits or letters alone (0), by one that is a card too (1), or else (2); and whether a sure one came before any other word
+-- what words name so far: the moves, each after a blank; the pile that a move is from whose target comes next, and its arrow; whether each word is of a move; how sure it is that one is: not by digits or letters alone (0), by one that is a card too (1), or else (2); and whether a sure one came before any other word
 pub record Said : Type 0 where
   pub moves : Text
   pub from : Option ℕ
-  pub pointed : Bool
+  pub arrow : ℕ
   pub all : Bool
   pub sure : ℕ
   pub led : Bool
 
 abbrev pub nothing_said : Said
-nothing_said = record { moves = []; from = None; pointed = false; all = true; sure = 0; led = false }
+nothing_said = record { moves = []; from = None; arrow = 0; all = true; sure = 0; led = false }
 
 -- the next mark after blanks and tabs
 abbrev pub after_gap : Text → Text
@@ -69,6 +73,10 @@ is_arrow next =
 -- it is an arrow with a point, as `->`, `=>` and `>`
 abbrev pub is_pointed : Text → Bool
 is_pointed next = slice_index next 0 == 0x3E || slice_index next 1 == 0x3E
+
+-- `>` for an arrow with a point, and else its first byte
+abbrev pub arrow_of : Text → ℕ
+arrow_of next = if is_pointed next then 0x3E else slice_index next 0
 
 abbrev pub is_number : Text → Bool
 is_number word = list_all is_ascii_digit word
@@ -97,7 +105,7 @@ abbrev pub with_move : Said → (word : Text) → (sure : ℕ) → Said
 with_move said word sure = record {
   moves = said.moves ++ (blank ∷ str_to_ascii_lowercase word);
   from = None;
-  pointed = false;
+  arrow = 0;
   all = said.all;
   sure = min 2 (said.sure + sure);
   led = said.led || (nat_lt 0 sure && said.all);
@@ -127,26 +135,31 @@ is_unread game word next = is_some (run_named game word) || is_glued game word |
 
 -- the next word is of no move, or of one in a form that is not read
 abbrev pub with_other : Said → (unread : Bool) → Said
-with_other said unread = record said { from = None; pointed = false; all = false; led = said.led || unread }
+with_other said unread = record said { from = None; arrow = 0; all = false; led = said.led || unread }
 
 -- a word where no target comes next
 abbrev pub after_first : Game → Said → (word next : Text) → Said
 after_first game said word next =
     if is_some (run_named game word) && not (is_pointed next) then with_move said word (sureness word)
-    else if length word == 1 && is_arrow next then record said { from = Some (slice_index word 0); pointed = is_pointed next }
+    else if length word == 1 && is_arrow next then record said { from = Some (slice_index word 0); arrow = arrow_of next }
     else with_other said (is_unread game word next)
 
 -- the letters of a pile and of the target after an arrow
 abbrev pub after_letters : Game → Said → (letters : Text) → Said
 after_letters game said letters =
-    if is_some (run_named game letters) then with_move said letters (if said.pointed then 2 else sureness letters) else with_other said false
+    if is_some (run_named game letters) then with_move said letters (if said.arrow == 0x3E then 2 else sureness letters) else with_other said false
+
+-- the word begins a target that is not read: the name of a pile or, where a digit and `to` or an arrow with a point come before it, any but a number, as in `3 to the cell`
+abbrev pub is_target : (from arrow : ℕ) → (word : Text) → Bool
+is_target from arrow word =
+    is_pile_name word || (is_ascii_digit from && (arrow == 0x3E || arrow == 0x74) && not (is_number word))
 
 -- a word where the target of a move from this pile comes next
 abbrev pub after_arrow : Game → Said → (from : ℕ) → (word : Text) → Said
 after_arrow game said from word =
     if bytes_eq word (codes "to") then said
     else if length word == 1 then after_letters game said (from ∷ word)
-    else with_other said (is_pile_name word)
+    else with_other said (is_target from said.arrow word)
 
 abbrev pub after_next : Game → Said → Option ℕ → (word next : Text) → Said
 after_next game said None word next = after_first game said word next
@@ -251,15 +264,15 @@ lists_moves game in_words line = is_list game line && not (in_words && is_drawn 
 abbrev pub is_sure_move : Game → Text → Bool
 is_sure_move game word = is_sure word && is_some (run_named game word)
 
--- single characters, of which the first two are a move: so moves may be cut into two
-abbrev pub are_single : Game → List (Piece × ℕ) → Bool
-are_single game words =
-    nat_le 2 (length words) && list_all (λ word. length word.0.bytes == 1) words
-    && is_sure_move game (slice_index (word_at words 0) 0 ∷ slice_index (word_at words 1) 0 ∷ [])
+-- two single signs together, or the first of two words
+abbrev pub joined : (first second : Text) → Text
+joined first second = if length first == 1 && length second == 1 then first ++ second else first
 
--- a number comes first, as that of a line, and then a move
-abbrev pub is_numbered_move : Game → List (Piece × ℕ) → Bool
-is_numbered_move game words = is_number (word_at words 0) && is_sure_move game (word_at words 1)
+-- the line begins with a move, which may be cut into two signs, or has one after a number
+abbrev pub begins_with_move : Game → List (Piece × ℕ) → Bool
+begins_with_move game words =
+    is_sure_move game (joined (word_at words 0) (word_at words 1))
+    || (is_number (word_at words 0) && is_sure_move game (joined (word_at words 1) (word_at words 2)))
 
 -- how many moves its words name, among others too
 abbrev pub moves_in : Game → Text → ℕ
@@ -273,8 +286,7 @@ pub record HasFewMoves (game : Game) (line : Text) : Type 0 where
   pub half : (2 * moves_in game line ≤ length (words_of line)) ⊎ (is_number_alone (words_of line) ≡ true)
   pub sure : (said_in game line).sure ≤ 1
   pub led : (said_in game line).led ≡ false
-  pub parted : are_single game (words_of line) ≡ false
-  pub unnumbered : is_numbered_move game (words_of line) ≡ false
+  pub begun : begins_with_move game (words_of line) ≡ false
 
 -- a line passes in silence that names no card, is no list, and names few moves: so a solution never does
 pub record IsQuiet (game : Game) (line : Text) : Type 0 where

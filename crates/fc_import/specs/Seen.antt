@@ -18,7 +18,7 @@ words_left words = map with_end (words_from parts_words words.at (drop words.at 
 
 -- what was said, by these moves and what is kept beside them
 abbrev pub said_of : (moves : Text) → Heard → Said
-said_of moves heard = record { moves = moves; from = heard.from; pointed = heard.pointed; all = heard.all; sure = heard.sure; led = heard.led }
+said_of moves heard = record { moves = moves; from = heard.from; arrow = heard.arrow; all = heard.all; sure = heard.sure; led = heard.led }
 
 -- the cards among cards and gaps
 abbrev pub cards_of : List Placed → List Card

@@ -1,16 +1,14 @@
 //! What the words of a line say of moves: the only place where a byte becomes a move.
-ghost use Rattle.std.specs.{List.{list_all}, Prelude.{◌*◌, ◌==◌, ◌∷◌, ◌≡◌, ◌≤◌, ◌⊎◌, [], count_by}};
-ghost use Rattle.std.specs.Prelude.{false, IfOk, if◌then◌else◌, IsTrue, length, None, slice_index};
-ghost use Rattle.std.specs.Prelude.{true};
+ghost use Rattle.std.specs.Prelude.{◌*◌, ◌==◌, ◌≡◌, ◌≤◌, ◌⊎◌, count_by, false, IfOk, if◌then◌else◌};
+ghost use Rattle.std.specs.Prelude.{IsTrue, length, None, true};
 ghost use Rattle.fc_text.specs.Bytes.{blank};
-ghost use Rattle.fc_import.specs.Scan.{after_word, are_single, HasFewMoves, is_drawn};
+ghost use Rattle.fc_import.specs.Scan.{after_word, begins_with_move, HasFewMoves, is_drawn};
 ghost use Rattle.fc_import.specs.Scan.{is_drawn_word, is_in_words, is_list, is_number_alone};
-ghost use Rattle.fc_import.specs.Scan.{is_numbered_move, is_sure_move, said_in, word_at, words_of};
+ghost use Rattle.fc_import.specs.Scan.{is_sure_move, joined, word_at, words_of};
 ghost use Rattle.fc_import.specs.Seen.{IsHeard, IsSeen, piece_of, said_of};
 
 use crate::moves::{Heard, has_small_letters, is_number, is_sure};
 use crate::scan::{LineSeen, named_card};
-use crate::signs::byte_at;
 use crate::solver::{push_solver_move, word_at};
 use crate::words::{Word, Words, uncommented};
 use fc_board::Rule;
@@ -70,7 +68,7 @@ impl LineHeard {
         if self.heard.sure > 1 || self.heard.led {
             return false;
         }
-        !are_single::<R>(line, seen) && !is_numbered_move::<R>(line)
+        !begins_with_move::<R>(line)
     }
 }
 
@@ -96,30 +94,23 @@ fn has_half(line: &[u8], seen: &LineSeen, count: usize) -> bool
     count <= seen.words / 2 || seen.is_number_alone(line)
 }
 
-// Whether each word is one sign, and the first two are a move.
-fn are_single<R: Rule>(line: &[u8], seen: &LineSeen) -> bool
-    requires { IsSeen line.now seen.now }
-    ensures { result ≡ are_single R.game (words_of line.now) }
-{
-    seen.words >= 2 && is_each_single(line) && begins_single::<R>(line)
-}
-
-// Whether the first signs of the first two words of the line are a move with a digit and a letter.
-fn begins_single<R: Rule>(line: &[u8]) -> bool
-    ensures { result ≡ is_sure_move R.game (slice_index (word_at (words_of line.now) 0) 0
-        ∷ slice_index (word_at (words_of line.now) 1) 0 ∷ []) }
+// Whether the line begins with a move, which may be cut into two signs, or has one after a number.
+fn begins_with_move<R: Rule>(line: &[u8]) -> bool
+    ensures { result ≡ begins_with_move R.game (words_of line.now) }
 {
     let text = uncommented(line);
-    let letters = [byte_at(word_at(text, 0), 0), byte_at(word_at(text, 1), 0)];
-    is_sure_move::<R>(letters.as_slice())
+    let (first, second) = (word_at(text, 0), word_at(text, 1));
+    is_move_in::<R>(first, second) || is_number(first) && is_move_in::<R>(second, word_at(text, 2))
 }
 
-// Whether the first word of the line is a number, and the second a move.
-fn is_numbered_move<R: Rule>(line: &[u8]) -> bool
-    ensures { result ≡ is_numbered_move R.game (words_of line.now) }
+// Whether the first of two words is a move, or both are signs of one.
+fn is_move_in<R: Rule>(first: &[u8], second: &[u8]) -> bool
+    ensures { result ≡ is_sure_move R.game (joined first.now second.now) }
 {
-    let text = uncommented(line);
-    is_number(word_at(text, 0)) && is_sure_move::<R>(word_at(text, 1))
+    match (first, second) {
+        ([one], [other]) => is_sure_move::<R>(&[*one, *other]),
+        _ => is_sure_move::<R>(first),
+    }
 }
 
 // Whether the word is a move with a digit and a letter.
@@ -127,18 +118,6 @@ fn is_sure_move<R: Rule>(word: &[u8]) -> bool
     ensures { result ≡ is_sure_move R.game word.now }
 {
     is_sure(word) && run_named::<R>(word).is_some()
-}
-
-// Whether each word of the line is one sign.
-fn is_each_single(line: &[u8]) -> bool
-    ensures { result ≡ list_all (λ word. length word.0.bytes == 1) (words_of line.now) }
-{
-    for word in Words::new(uncommented(line)) {
-        if !is_single(word.text) {
-            return false;
-        }
-    }
-    true
 }
 
 // Hears the next word, unless the line says a move as Freecell Solver does.
@@ -202,14 +181,14 @@ fn is_single(word: &[u8]) -> bool
 // What is heard before the first word: whether it is of a move that Freecell Solver says.
 fn first_heard(is_said: bool) -> Heard
     ensures from { result.from ≡ None }
-    ensures pointed { result.pointed ≡ false }
+    ensures arrow { result.arrow ≡ 0 }
     ensures all { result.all ≡ true }
     ensures sure { result.sure ≡ if is_said then 1 else 0 }
     ensures led { result.led ≡ is_said }
 {
     Heard {
         from: None,
-        pointed: false,
+        arrow: 0,
         all: true,
         sure: u8::from(is_said),
         led: is_said,

@@ -1,15 +1,11 @@
 //! Importing a text, piece by piece. What the lines look like is a guess, of which nothing is
 //! promised; what is made of them is tested before it is written.
-ghost use Rattle.std.specs.Prelude.{◌++◌, ◌<◌, ◌≡◌, ◌≢◌, ◌≤◌, [], false, IfOk, IfSome, IsNone};
-ghost use Rattle.std.specs.Prelude.{IsTrue, length, None, OnOk, Some, take, true, ℕ};
-ghost use Rattle.fc_card.specs.Types.{Text};
-ghost use Rattle.fc_board.specs.Boards.{Board as AnyBoard, IsWellFormed};
-ghost use Rattle.fc_board.specs.{Moves.{move_count, MoveList}, Play.{Legal}};
-ghost use Rattle.fc_text.specs.{Notation.{most_moves}, Printed.{text_of}, Spelling.{Spells}};
-ghost use Rattle.fc_record.specs.Grammar.{begins_with, is_name};
-ghost use Rattle.fc_record.specs.{Printing.{header_text, list_line}, RecordTexts.{header_mark}};
+ghost use Rattle.std.specs.Prelude.{◌<◌, ◌≡◌, [], false, IfOk, IfSome, IsTrue, length, None, OnOk};
+ghost use Rattle.std.specs.Prelude.{Some, take, true};
+ghost use Rattle.fc_text.specs.Spelling.{Spells};
+ghost use Rattle.fc_record.specs.{Grammar.{begins_with}, RecordTexts.{header_mark}};
 ghost use Rattle.fc_import.specs.{Import.{HasNoHeader, IsPrinted}, inside.{AreWhole, IsMade}};
-ghost use Rattle.fc_import.specs.inside.{KeepsFirst, Takes, TakesAsItIs, TakesFirst, TakesName};
+ghost use Rattle.fc_import.specs.inside.{KeepsFirst, Takes, TakesFirst, TakesName};
 
 use crate::layout::{Drafted, Layout, draft_of, read_rows, strips_of};
 use crate::line::line_len;
@@ -37,7 +33,7 @@ const NO_MOVES: &[u8] =
     b"not imported: this solution has no moves: take what fc-solve -m -snx prints";
 
 const NO_MOVE: &[u8] =
-    b" is no move: write the moves of a solution alone, or # before a line of words";
+    b" is no move: write the moves of a solution alone, or # and a blank before a line of words";
 
 const NO_LABEL: &[u8] =
     b" is no name or number of this line: write Freecells: or Foundations:, or leave it out";
@@ -48,6 +44,9 @@ const OTHER_HEADER: &[u8] =
     b"not imported: the header names another game: import it with --variant";
 
 const OTHER_TITLE: &[u8] = b"not imported: the title names another game: import it with --variant";
+
+const PARTED: &[u8] =
+    b"not imported: a blank line parts these: write - for an empty column, Freecells: before cells";
 
 const QUESTION: &[u8] =
     b"not imported: these may be columns or rows: say which, with --columns or --rows";
@@ -314,6 +313,7 @@ impl<R: Rule> Importer<R> {
         }
         match (first_misplaced(piece), read_board::<R>(lines)) {
             (Some((at, words)), _) => self.refuse_word(lines, at, words),
+            _ if piece.is_whole() && piece.is_parted() => self.refuse(lines, PARTED),
             (None, Ok(_)) => self.refuse(lines, NO_BOARD),
             (None, Err(fault)) => self.refuse_fault(lines, fault),
         }

@@ -12,12 +12,12 @@ ghost use Rattle.fc_record.specs.{Grammar.{begins_with, heading_of}, RecordTexts
 ghost use Rattle.fc_collect.specs.declared.streams.faults.Summary.{Summary};
 ghost use Rattle.fc_import.specs.Import.{AreIn, BoardNeedsNoNote, CanBe, count_text, Imported};
 ghost use Rattle.fc_import.specs.Import.{IsApart, IsBuilt, IsNoBoard, IsPrinted, IsReadAs, IsShown};
-ghost use Rattle.fc_import.specs.Import.{lines_in, ListNeedsNoNote, Makes, may_be, most_dealt};
-ghost use Rattle.fc_import.specs.Import.{numbered, Reading, refusals, StaysLast};
+ghost use Rattle.fc_import.specs.Import.{lines_in, ListNeedsNoNote, Makes, may_be, numbered};
+ghost use Rattle.fc_import.specs.Import.{Reading, refusals, SpellsOut, stand_together, StaysLast};
 ghost use Rattle.fc_import.specs.inside.{of_columns};
 ghost use Rattle.fc_import.specs.Notes.{name_by, Place, place_text, SaysUnless, State};
 ghost use Rattle.fc_import.specs.Scan.{HasFewCards, is_list, IsProse, IsQuiet, moves_in};
-ghost use Rattle.fc_import.specs.Scan.{named_card, named_cards, said_in};
+ghost use Rattle.fc_import.specs.Scan.{named_card, named_cards, said_in, uncommented};
 ghost use Rattle.fc_import.specs.Strips.{has_no_groups, is_dealt, tells_columns};
 ghost use Rattle.fc_import.specs.Words.{decoded, letters_of, named_in, named_lines, text_read};
 ghost use Rattle.fc_import.specs.declared.{
@@ -92,17 +92,63 @@ pub fn solutions_are_not_quiet()
     ensures single { ¬ IsQuiet freecell (codes "3 a 3 b") }
     ensures pair { ¬ IsQuiet freecell (codes "3 a") }
     ensures numbered { ¬ IsQuiet freecell (codes "1 3a") }
+    ensures number_sign { ¬ IsQuiet freecell (codes "Solution #1: 3a 3b") }
+    ensures cut { ¬ IsQuiet freecell (codes "12. 3 a (king)") }
+    ensures begun { ¬ IsQuiet freecell (codes "3 a (king)") }
     ensures last { ¬ IsQuiet freecell (codes "Step 1: 3a") }
     ensures from { ¬ IsQuiet freecell (codes "from 3 to a") }
     ensures pile { ¬ IsQuiet freecell (codes "column 3 to cell a") }
     ensures arrow { ¬ IsQuiet freecell (codes "so 3->4") }
+    ensures words { ¬ IsQuiet freecell (codes "3 to the foundation") }
+    ensures words_of_arrow { ¬ IsQuiet freecell (codes "3 -> any cell") }
+    ensures from_cell { ¬ IsQuiet freecell (codes "a to column 5") }
+    ensures dash { ¬ IsQuiet freecell (codes "3 - home") }
     ensures cards { ¬ IsQuiet freecell (codes "JDKD2S") }
     ensures number { IsQuiet freecell (codes "24") }
     ensures title { IsQuiet freecell (codes "Game 12") }
     ensures numbers { IsQuiet freecell (codes "Deals 1 to 8") }
+    ensures more_numbers { IsQuiet freecell (codes "1 to 32000") }
+    ensures heading { IsQuiet freecell (codes "Game 5 - hard") }
+    ensures bold { IsQuiet freecell (codes "<b>Dear Jim") }
+    ensures apart { IsQuiet freecell (codes "1 2v2") }
     ensures card { IsProse freecell (codes "dig out the 7H") }
+    ensures card_second { IsProse freecell (codes "The 7H is buried") }
     ensures card_first { ¬ IsProse freecell (codes "7H is buried") }
     ensures card_numbered { ¬ IsProse freecell (codes "1 3h zz") }
+{}
+
+/// Nothing after the first `#` of a line is a word, but where words come before it and a digit next,
+/// as in `Column #1`.
+pub fn comments_are_no_words()
+    ensures after { uncommented (codes "KH # KS") ≡ codes "KH " }
+    ensures first { uncommented (codes "#KH") ≡ [] }
+    ensures last { uncommented (codes "KH #") ≡ codes "KH " }
+    ensures none { uncommented (codes "KH KS") ≡ codes "KH KS" }
+    ensures nothing { uncommented [] ≡ [] }
+    ensures number { uncommented (codes "Column #1: KH") ≡ codes "Column #1: KH" }
+    ensures number_first { uncommented (codes " #1: KH") ≡ codes " " }
+    ensures later { uncommented (codes "KH # as #1") ≡ codes "KH " }
+{}
+
+/// Where lines of columns that `show` does not read need no note, no line without words comes
+/// between two that name cards.
+pub fn lines_stand_together()
+    ensures together { stand_together false false
+        (lines_from 0 (codes "KH" ++ line_feed ∷ codes "KS" ++ line_feed ∷ codes "QH")) ≡ true }
+    ensures around { stand_together false false (lines_from 0
+        (line_feed ∷ codes "KH" ++ line_feed ∷ codes "KS" ++ line_feed ∷ line_feed ∷ [])) ≡ true }
+    ensures named { stand_together false false
+        (lines_from 0 (codes "KH" ++ line_feed ∷ codes "Tableau:" ++ line_feed ∷ codes "KS")) ≡ true }
+    ensures blank { stand_together false false
+        (lines_from 0 (codes "KH" ++ line_feed ∷ line_feed ∷ codes "KS")) ≡ false }
+    ensures mark { stand_together false false
+        (lines_from 0 (codes "KH" ++ line_feed ∷ codes " -" ++ line_feed ∷ codes "KS")) ≡ false }
+    ensures later { stand_together false false (lines_from 0
+        (codes "KH" ++ line_feed ∷ codes "KS" ++ line_feed ∷ line_feed ∷ codes "QH")) ≡ false }
+    ensures before_words { stand_together false false (lines_from 0
+        (codes "KH" ++ line_feed ∷ line_feed ∷ codes "now" ++ line_feed ∷ codes "KS")) ≡ false }
+    ensures read { (game : Game) (piece : Text) (board : Board) → SpellsOut game piece board
+        → ¬ Spells game piece board → stand_together false false (lines_from 0 piece) ≡ true }
 {}
 
 /// Where nothing is written for a piece, and nothing said of it, no line of it lists moves; but for

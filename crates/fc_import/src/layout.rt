@@ -9,11 +9,10 @@ use crate::piece::{Piece, PieceLine};
 use crate::playable::{MOST_DEALT, is_playable};
 use crate::scan::{Placed, named_card};
 use crate::strips::{Strips, fields_in, has_strips, strip_of, words_in};
-use crate::words::{Word, Words};
+use crate::words::Words;
 use arrayvec::ArrayVec;
 use fc_board::{Board, Height, Rule, no_cards};
 use fc_card::Card;
-use fc_text::read_board;
 
 /// How the lines of a piece have its cards.
 #[derive(Clone, Copy, PartialEq, Eq, Debug)]
@@ -246,7 +245,7 @@ fn board_in<R: Rule>(text: &[u8], piece: &Piece, layout: Layout) -> Option<Board
         return None;
     }
     let cells = cells_of::<R>(piece)?;
-    let columns = columns_of(text, piece, layout)?;
+    let columns = columns_of::<R>(text, piece, layout)?;
     let heights = heights_of(piece)?;
     board_of::<R>(heights, cells, columns)
 }
@@ -334,14 +333,23 @@ fn cells_of<R: Rule>(piece: &Piece) -> Option<[Option<Card>; 8]> {
 }
 
 // The columns that the lines are in the layout. A blank line between columns stands for an empty
-// one, if a board has room for all.
-fn columns_of(text: &[u8], piece: &Piece, layout: Layout) -> Option<[ArrayVec<Card, 52>; 8]> {
+// one, if a board has room for all. Else it says nothing if the lines have labels, or as many stand
+// between any two.
+fn columns_of<R: Rule>(
+    text: &[u8],
+    piece: &Piece,
+    layout: Layout,
+) -> Option<[ArrayVec<Card, 52>; 8]> {
     let rows = piece.rows.as_slice();
     let blanks = match rows.last() {
         Some(last) => last.blanks,
         None => 0,
     };
     let has_blanks = layout == Layout::Columns && rows.len().saturating_add(blanks) <= 8;
+    let are_apart = !has_blanks || may_have_cells::<R>(piece);
+    if are_apart && piece.is_parted() && !has_labels(text, piece) {
+        return None;
+    }
     let mut columns = no_cards();
     let mut rows_before: usize = 0;
     for line in rows {
@@ -358,6 +366,22 @@ fn columns_of(text: &[u8], piece: &Piece, layout: Layout) -> Option<[ArrayVec<Ca
         rows_before = rows_before.saturating_add(usize::from(line.shape.cards > 0 || !is_row));
     }
     Some(columns)
+}
+
+// Whether no line is named as that of the cells, and it may be the first one or the last one, which
+// a blank line parts from the others.
+fn may_have_cells<R: Rule>(piece: &Piece) -> bool {
+    if piece.held.cells.is_some() {
+        return false;
+    }
+    let rows = piece.rows.as_slice();
+    let is_short = |line: &PieceLine| line.shape.cards <= R::CELLS;
+    match (rows, rows) {
+        ([first, second, ..], [.., before, last]) => {
+            is_short(first) && second.blanks > 0 || is_short(last) && last.blanks > before.blanks
+        }
+        _ => false,
+    }
 }
 
 // Puts the cards of a line on their columns.

@@ -1,16 +1,14 @@
 //! The moves that words name, one word after another.
-ghost use Rattle.std.specs.Char.{is_ascii_alphabetic, is_ascii_lowercase};
-ghost use Rattle.std.specs.{List.{list_all, list_any, prefix_len}, Option.{is_some}};
-ghost use Rattle.std.specs.Prelude.{◌&&◌, ◌++◌, ◌+◌, ◌==◌, ◌||◌, ◌∷◌, ◌≡◌, drop, false, IfOk};
-ghost use Rattle.std.specs.Prelude.{if◌then◌else◌, length, min, nat_lt, None, not, OnOk};
-ghost use Rattle.std.specs.Str.{str_eq_ignore_ascii_case, str_to_ascii_lowercase};
-ghost use Rattle.fc_card.specs.Types.{Text};
-ghost use Rattle.fc_text.specs.{Bytes.{blank, is_gap}, reader.{run_named}};
+ghost use Rattle.std.specs.Char.{is_ascii_alphabetic, is_ascii_digit, is_ascii_lowercase};
+ghost use Rattle.std.specs.{List.{list_all, list_any}, Option.{is_some}, Prelude.{◌&&◌, ◌++◌, ◌+◌}};
+ghost use Rattle.std.specs.Prelude.{◌==◌, ◌||◌, ◌≡◌, drop, false, IfOk, length, min, nat_lt, None};
+ghost use Rattle.std.specs.{Prelude.{not, OnOk}, Str.{str_to_ascii_lowercase}};
+ghost use Rattle.{fc_card.specs.Types.{Text}, fc_text.specs.{Bytes.{blank}, reader.{run_named}}};
 ghost use Rattle.fc_import.specs.{Names.{is_among}, Scan.{after_arrow, after_first, after_gap}};
 ghost use Rattle.fc_import.specs.Scan.{after_letters, after_next, after_word, are_cards, are_glued};
-ghost use Rattle.fc_import.specs.Scan.{before_dots, has_dots, is_arrow, is_card_move, is_glued};
-ghost use Rattle.fc_import.specs.Scan.{is_label, is_number, is_pointed, is_sure, is_unread};
-ghost use Rattle.fc_import.specs.Scan.{solution_names, sureness, with_move};
+ghost use Rattle.fc_import.specs.Scan.{arrow_of, before_dots, has_dots, is_arrow, is_card_move};
+ghost use Rattle.fc_import.specs.Scan.{is_glued, is_label, is_number, is_pointed, is_sure};
+ghost use Rattle.fc_import.specs.Scan.{is_target, is_unread, solution_names, sureness, with_move};
 ghost use Rattle.fc_import.specs.Seen.{piece_of, said_of};
 
 use crate::labels::is_pile_name;
@@ -23,9 +21,10 @@ use std::alloc::AllocError;
 /// What is kept of the words of a line beside its moves.
 #[derive(Clone, Copy, Debug)]
 pub(crate) struct Heard {
-    /// The pile that a move is from whose target comes next, and whether its arrow has a point.
+    /// The pile that a move is from whose target comes next, and its arrow: `>` for one with a
+    /// point, and else its first byte.
     pub(crate) from: Option<u8>,
-    pub(crate) pointed: bool,
+    pub(crate) arrow: u8,
     /// Whether each word is of a move.
     pub(crate) all: bool,
     /// How sure it is that a word is a move: not (0), but for a card (1), or so (2); and whether a
@@ -84,14 +83,14 @@ impl Heard {
     // Passes a word that is of no move, or of one in a form that is not read.
     fn with_other(self, is_unread: bool) -> Heard
         ensures from { result.from ≡ None }
-        ensures pointed { result.pointed ≡ false }
+        ensures arrow { result.arrow ≡ 0 }
         ensures all { result.all ≡ false }
         ensures sure { result.sure ≡ self.sure }
         ensures led { result.led ≡ (self.led || is_unread) }
     {
         Heard {
             from: None,
-            pointed: false,
+            arrow: 0,
             all: false,
             led: self.led || is_unread,
             ..self
@@ -113,7 +112,7 @@ impl Heard {
         if begins_move(word, next) {
             return Ok(Heard {
                 from: Some(word[0]),
-                pointed: is_pointed(next),
+                arrow: arrow_of(next),
                 ..self
             });
         }
@@ -135,7 +134,7 @@ impl Heard {
         if word.len() == 1 {
             return self.take_letters::<R>(&[from, word[0]], moves);
         }
-        Ok(self.with_other(is_pile_name(word)))
+        Ok(self.with_other(is_target(from, self.arrow, word)))
     }
 
     // Takes the letters of a pile and of the target after an arrow.
@@ -144,7 +143,11 @@ impl Heard {
             ≡ after_letters R.game (said_of moves.old.items self) letters.now) }
     {
         if run_named::<R>(letters).is_some() {
-            let sure = if self.pointed { 2 } else { sureness(letters) };
+            let sure = if self.arrow == b'>' {
+                2
+            } else {
+                sureness(letters)
+            };
             return self.with_move(letters, sure, moves);
         }
         Ok(self.with_other(false))
@@ -159,7 +162,7 @@ impl Heard {
         push_lower(moves, word)?;
         Ok(Heard {
             from: None,
-            pointed: false,
+            arrow: 0,
             all: self.all,
             sure: more_sure(self.sure, sure),
             led: self.led || is_first(sure, self.all),
@@ -179,6 +182,20 @@ fn begins_move(word: &[u8], next: &[u8]) -> bool
     ensures { result ≡ (length word.now == 1 && is_arrow next.now) }
 {
     word.len() == 1 && is_arrow(next)
+}
+
+// Whether the word begins a target that is not read.
+fn is_target(from: u8, arrow: u8, word: &[u8]) -> bool
+    ensures { result ≡ is_target from arrow word.now }
+{
+    is_pile_name(word) || from.is_ascii_digit() && is_going(arrow) && !is_number(word)
+}
+
+// Whether the arrow is `to`, or has a point.
+fn is_going(arrow: u8) -> bool
+    ensures { result ≡ (arrow == 0x3E || arrow == 0x74) }
+{
+    arrow == b'>' || arrow == b't'
 }
 
 fn has_dots(next: &[u8]) -> bool
@@ -331,6 +348,17 @@ fn is_arrow(next: &[u8]) -> bool
         [b'-' | b'=' | b'>', ..] => true,
         [b't', b'o', b' ', ..] => true,
         _ => false,
+    }
+}
+
+// The arrow that comes next: `>` for one with a point, and else its first byte.
+fn arrow_of(next: &[u8]) -> u8
+    ensures { result ≡ arrow_of next.now }
+{
+    match next {
+        [b'>', ..] | [_, b'>', ..] => b'>',
+        [first, ..] => *first,
+        [] => 0,
     }
 }
 

@@ -277,6 +277,21 @@ impl Piece {
         self.held.count >= 52
     }
 
+    /// Whether blank lines stand between some lines of cards, but not as many between any two.
+    pub(crate) fn is_parted(&self) -> bool {
+        let mut blanks: usize = 0;
+        let mut first: Option<usize> = None;
+        for line in self.rows.as_slice().iter().skip(1) {
+            let gap = line.blanks.saturating_sub(blanks);
+            if gap != first.unwrap_or(gap) {
+                return true;
+            }
+            first = Some(gap);
+            blanks = line.blanks;
+        }
+        false
+    }
+
     /// The cards and gaps of a line.
     pub(crate) fn placed(&self, line: &PieceLine) -> &[Placed] {
         self.placed

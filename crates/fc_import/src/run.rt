@@ -1,5 +1,5 @@
 //! The run that imports an input.
-ghost use Rattle.std.specs.Prelude.{◌++◌, ◌+◌, ◌-◌, ◌<◌, ◌^◌, ◌≡◌, ◌≤◌, [], Err, IfOk, length, ℕ};
+ghost use Rattle.std.specs.Prelude.{◌++◌, ◌+◌, ◌-◌, ◌<◌, ◌^◌, ◌≡◌, ◌≤◌, [], Err, IfOk, length};
 ghost use Rattle.fc_card.specs.Types.{Text};
 ghost use Rattle.fc_collect.specs.Limits.{most_bytes, standard};
 ghost use Rattle.fc_collect.specs.{Promises.{ReadsAsCounted, WritesAsCounted}, Runs.{RunsWithin}};

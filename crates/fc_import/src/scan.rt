@@ -1,6 +1,6 @@
 //! The cards and gaps of a line, seen once: the only place where a byte becomes a card.
-ghost use Rattle.std.specs.{List.{list_all}, Option.{option_to_list}};
-ghost use Rattle.std.specs.Prelude.{◌&&◌, ◌++◌, ◌-◌, ◌^◌, ◌≡◌, drop, IfOk, length, min, OnOk, take};
+ghost use Rattle.std.specs.Option.{option_to_list};
+ghost use Rattle.std.specs.Prelude.{◌&&◌, ◌++◌, ◌-◌, ◌≡◌, drop, IfOk, OnOk, take};
 ghost use Rattle.fc_text.specs.Spelling.{card_spelled};
 ghost use Rattle.fc_import.specs.Scan.{cards_in, is_number, is_number_alone, named_card, words_of};
 ghost use Rattle.fc_import.specs.Seen.{cards_of, IsSeen};

@@ -1,6 +1,6 @@
 //! What the characters of a text stand for: letters of suits, ends of lines, blanks, or nothing.
 ghost use Rattle.std.specs.Prelude.{◌%◌, ◌&&◌, ◌++◌, ◌==◌, ◌||◌, ◌≡◌, [], All, chars, false, IfOk};
-ghost use Rattle.std.specs.Prelude.{if◌then◌else◌, IsTrue, OnOk, slice_index, true};
+ghost use Rattle.std.specs.Prelude.{if◌then◌else◌, IsTrue, OnOk, true};
 ghost use Rattle.fc_text.specs.Bytes.{line_feed};
 ghost use Rattle.fc_import.specs.inside.{is_alone};
 ghost use Rattle.fc_import.specs.Words.{is_between, letters_of, mark_for, stands_for, text_read};
@@ -156,14 +156,4 @@ fn is_among(low: u32, high: u32, number: u32) -> bool
     ensures { result ≡ is_between low high number }
 {
     low <= number && number <= high
-}
-
-/// The byte at this place, or 0 past the end.
-pub(crate) fn byte_at(text: &[u8], at: usize) -> u8
-    ensures { result ≡ slice_index text.now at }
-{
-    match text.get(at) {
-        Some(byte) => *byte,
-        None => 0,
-    }
 }

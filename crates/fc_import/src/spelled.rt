@@ -1,18 +1,19 @@
 //! Whether lines spell out a board, and whether that is noted.
-ghost use Rattle.std.specs.Prelude.{◌<◌, ◌↔◌, ◌≡◌, IfOk, IsTrue, length};
+ghost use Rattle.std.specs.Prelude.{◌<◌, ◌==◌, ◌↔◌, ◌≡◌, false, IfOk, IsTrue, length};
 ghost use Rattle.fc_board.specs.Boards.{IsWellFormed};
 ghost use Rattle.fc_text.specs.{Lines.{lines_from}, Printed.{text_of}, Spelling.{Spells}};
-ghost use Rattle.fc_import.specs.Import.{BoardNeedsNoNote, HasLines, SpellsOut};
-ghost use Rattle.fc_import.specs.Words.{named_lines};
+ghost use Rattle.fc_import.specs.Import.{BoardNeedsNoNote, HasLines, SpellsOut, stand_together};
+ghost use Rattle.fc_import.specs.{Scan.{words_of}, Words.{named_lines}};
 
-use crate::cards::{by_columns, is_packed};
+use crate::cards::{by_columns, first_card, is_packed};
 use crate::labels::fit_their_numbers;
 use crate::layout::Layout;
 use crate::options::Noted;
 use crate::playable::can_be;
 use crate::walk::line_feeds;
+use crate::words::{Words, uncommented};
 use fc_board::{Board, Rule};
-use fc_text::{BoardView, read_board, write_board};
+use fc_text::{BoardView, Lines, read_board, write_board};
 use std::alloc::{AllocError, Global};
 
 // Whether the lines, which name these cards, are those of the cells and the columns of the board.
@@ -27,7 +28,32 @@ fn has_lines<R: Rule>(
     ensures well_formed { IsWellFormed R.game board.now }
 {
     let columns = by_columns(alloc, board)?;
-    Ok(is_equal(named, columns.as_slice()) && is_packed(board) && fit_their_numbers(lines, board))
+    let are_named = is_equal(named, columns.as_slice()) && is_packed(board);
+    Ok(are_named && fit_their_numbers(lines, board) && stand_together(lines))
+}
+
+// Whether no line without words comes between two that name cards.
+fn stand_together(lines: &[u8]) -> bool
+    ensures { result ≡ stand_together false false (lines_from 0 lines.now) }
+{
+    let (mut is_begun, mut is_parted) = (false, false);
+    for line in Lines::new(lines) {
+        if first_card(line.text).is_some() {
+            if is_parted {
+                return false;
+            }
+            is_begun = true;
+        } else {
+            is_parted = is_parted || is_begun && has_no_words(line.text);
+        }
+    }
+    true
+}
+
+fn has_no_words(line: &[u8]) -> bool
+    ensures { result ≡ (length (words_of line.now) == 0) }
+{
+    Words::new(uncommented(line)).next().is_none()
 }
 
 /// Whether `show` reads the lines, which name these cards, as the board, which is known, or they are

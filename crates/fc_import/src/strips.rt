@@ -4,9 +4,9 @@ ghost use Rattle.std.specs.Prelude.{◌&&◌, ◌≡◌, [], if◌then◌else◌
 ghost use Rattle.std.specs.Str.{bytes_eq};
 ghost use Rattle.fc_text.specs.Lines.{lines_from};
 ghost use Rattle.fc_import.specs.{Scan.{uncommented, words_of}, Seen.{piece_of}, Strips.{are_even}};
-ghost use Rattle.fc_import.specs.Strips.{are_parted_by, between, has_card, has_no_groups};
-ghost use Rattle.fc_import.specs.Strips.{has_strips, is_dealt, is_mark, is_told, parts_fields};
-ghost use Rattle.fc_import.specs.Strips.{strip_of, whole_strips, words_in};
+ghost use Rattle.fc_import.specs.Strips.{between, has_card, has_no_groups, has_strips, is_dealt};
+ghost use Rattle.fc_import.specs.Strips.{is_mark, is_told, parts_fields, strip_of, whole_strips};
+ghost use Rattle.fc_import.specs.Strips.{words_in};
 
 use crate::cards::first_card;
 use crate::words::{Word, Words, uncommented};

@@ -1,13 +1,12 @@
 //! Where an import is in its text, and the notes on places there.
-ghost use Rattle.std.specs.{Fmt.{decimal}, Prelude.{◌++◌, ◌-◌, ◌<◌, ◌≡◌, ◌≤◌, ◌⊎◌, codes}};
-ghost use Rattle.std.specs.Prelude.{if◌then◌else◌, length, OnOk};
+ghost use Rattle.std.specs.Prelude.{◌++◌, ◌-◌, ◌<◌, ◌≡◌, ◌≤◌, ◌⊎◌, if◌then◌else◌, length, OnOk};
 ghost use Rattle.fc_import.specs.inside.{place_of, printing, PutsNote};
 ghost use Rattle.fc_import.specs.{Notes.{line_after, line_feeds, place_text}, Words.{is_between}};
 
 use crate::tally::counted;
 use fc_record::push_number;
 use memchr::memrchr;
-use std::alloc::{AllocError, Global};
+use std::alloc::AllocError;
 
 /// The most bytes of a block whose line feeds are counted in a byte.
 const MOST_COUNTED: usize = 255;
