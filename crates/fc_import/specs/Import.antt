@@ -50,18 +50,9 @@ lines_in (Rows strips) board = flat_map (λ row. ended (in_row board row)) (plac
 lines_in Deal board = ended (flat_map (in_row board) (places 52))
 lines_in layout board = flat_map ended board.columns
 
--- the cards in the cells, and those of each column
-abbrev pub by_columns : Board → List ℕ
-by_columns board = ended (in_cells board) ++ lines_in Columns board
-
 -- no cell before a taken one is empty
 abbrev pub ArePacked : List (Option ℕ) → Type 0
 ArePacked cells = (place : ℕ) → 1 ≤ place → place < length cells → slice_index_or cells (place - 1) None ≡ None → slice_index_or cells place None ≡ None
-
--- no column is empty, and no cell before a taken one
-pub record IsPacked (board : Board) : Type 0 where
-  pub columns : All (λ column. column ≢ []) board.columns
-  pub cells : ArePacked board.cells
 
 -- no line without words comes between two that name cards: by what came before, whether one with cards did, and a line without words after it
 abbrev pub stand_together : (begun parted : Bool) → List Piece → Bool
@@ -72,8 +63,9 @@ stand_together begun parted (line ∷ lines) =
 
 -- each line that names cards names those of the cells or of the next column, none of these is empty, a line with the number of a column is that one, and no blank line comes between them
 pub record HasLines (piece : Text) (board : Board) : Type 0 where
-  pub named : named_lines piece ≡ by_columns board
-  pub packed : IsPacked board
+  pub named : named_lines piece ≡ ended (in_cells board) ++ lines_in Columns board
+  pub columns : All (λ column. column ≢ []) board.columns
+  pub cells : ArePacked board.cells
   pub told : tells_columns Columns piece board ≡ true
   pub together : stand_together false false (lines_from 0 piece) ≡ true
 
@@ -81,13 +73,9 @@ pub record HasLines (piece : Text) (board : Board) : Type 0 where
 abbrev pub SpellsOut : Game → (piece : Text) → Board → Type 0
 SpellsOut game piece board = Spells game piece board ⊎ HasLines piece board
 
--- how many cards a deal puts into a column at most
-abbrev pub most_dealt : ℕ
-most_dealt = 7
-
--- each card of a column that comes after as many as a deal has there goes on the card before it
+-- each card of a column that comes after seven, as many as a deal has there at most, goes on the card before it
 abbrev pub IsBuilt : Game → (column : Pile) → Type 0
-IsBuilt game column = (place : ℕ) → most_dealt ≤ place → place < length column → Builds game (slice_index column place) (slice_index column (place - 1))
+IsBuilt game column = (place : ℕ) → 7 ≤ place → place < length column → Builds game (slice_index column place) (slice_index column (place - 1))
 
 -- play can make the columns of the board, or the lines are the board as it is printed
 abbrev pub CanBe : Game → (piece : Text) → Board → Type 0

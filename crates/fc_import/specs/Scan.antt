@@ -60,23 +60,16 @@ pub record Said : Type 0 where
 abbrev pub nothing_said : Said
 nothing_said = record { moves = []; from = None; arrow = 0; all = true; sure = 0; led = false }
 
--- the next mark after blanks and tabs
-abbrev pub after_gap : Text → Text
-after_gap rest = drop (prefix_len is_gap rest) rest
-
--- it is an arrow, a dash, or `to` and a blank
-abbrev pub is_arrow : Text → Bool
-is_arrow next =
+-- the arrow that comes next: `>` for one with a point, as `->` and `=>`, a dash, `=`, or the `t` of `to` and a blank; else 0
+abbrev pub arrow_of : (next : Text) → ℕ
+arrow_of next =
     let mark = slice_index next 0 in
-    mark == dash || mark == 0x3D || mark == 0x3E || bytes_eq (take 3 next) (codes "to ")
+    if mark == 0x3E || slice_index next 1 == 0x3E then 0x3E
+    else if mark == dash || mark == 0x3D || bytes_eq (take 3 next) (codes "to ") then mark else 0
 
--- it is an arrow with a point, as `->`, `=>` and `>`
-abbrev pub is_pointed : Text → Bool
-is_pointed next = slice_index next 0 == 0x3E || slice_index next 1 == 0x3E
-
--- `>` for an arrow with a point, and else its first byte
-abbrev pub arrow_of : Text → ℕ
-arrow_of next = if is_pointed next then 0x3E else slice_index next 0
+-- a point, or `to`
+abbrev pub is_going : (arrow : ℕ) → Bool
+is_going arrow = arrow == 0x3E || arrow == 0x74
 
 abbrev pub is_number : Text → Bool
 is_number word = list_all is_ascii_digit word
@@ -117,7 +110,7 @@ is_glued game word = nat_le 4 (length word) && is_sure (take 2 word) && is_some 
 
 -- a card that goes somewhere, as `KC to a`, in capitals
 abbrev pub is_card_move : (word next : Text) → Bool
-is_card_move word next = is_some (named_card word) && not (list_any is_ascii_lowercase word) && (is_pointed next || bytes_eq (take 3 next) (codes "to "))
+is_card_move word next = is_some (named_card word) && not (list_any is_ascii_lowercase word) && is_going (arrow_of next)
 
 -- each two letters are a card
 abbrev pub are_cards : Text → Bool
@@ -140,8 +133,8 @@ with_other said unread = record said { from = None; arrow = 0; all = false; led 
 -- a word where no target comes next
 abbrev pub after_first : Game → Said → (word next : Text) → Said
 after_first game said word next =
-    if is_some (run_named game word) && not (is_pointed next) then with_move said word (sureness word)
-    else if length word == 1 && is_arrow next then record said { from = Some (slice_index word 0); arrow = arrow_of next }
+    if is_some (run_named game word) && not (arrow_of next == 0x3E) then with_move said word (sureness word)
+    else if length word == 1 && not (arrow_of next == 0) then record said { from = Some (slice_index word 0); arrow = arrow_of next }
     else with_other said (is_unread game word next)
 
 -- the letters of a pile and of the target after an arrow
@@ -152,7 +145,7 @@ after_letters game said letters =
 -- the word begins a target that is not read: the name of a pile or, where a digit and `to` or an arrow with a point come before it, any but a number, as in `3 to the cell`
 abbrev pub is_target : (from arrow : ℕ) → (word : Text) → Bool
 is_target from arrow word =
-    is_pile_name word || (is_ascii_digit from && (arrow == 0x3E || arrow == 0x74) && not (is_number word))
+    is_pile_name word || (is_ascii_digit from && is_going arrow && not (is_number word))
 
 -- a word where the target of a move from this pile comes next
 abbrev pub after_arrow : Game → Said → (from : ℕ) → (word : Text) → Said
@@ -166,16 +159,13 @@ after_next game said None word next = after_first game said word next
 after_next game said (Some from) word next = after_arrow game said from word
 
 -- where dots come next, moves are left out
-abbrev pub has_dots : (next : Text) → Bool
-has_dots next = bytes_eq (take 3 next) (codes "...")
-
 abbrev pub before_dots : Said → (next : Text) → Said
-before_dots said next = if has_dots next then with_other said false else said
+before_dots said next = if bytes_eq (take 3 next) (codes "...") then with_other said false else said
 
 abbrev pub after_word : Game → (text : Text) → Said → Piece × ℕ → Said
 after_word game text said word =
     let after = drop word.1 text in
-    let next = after_gap after in
+    let next = drop (prefix_len is_gap after) after in
     if is_label word.0.bytes after then said else before_dots (after_next game said said.from word.0.bytes next) next
 
 -- -------- The move that a line of Freecell Solver's says, as `Move 2 cards from stack 0 to stack 5`. From: what `fc-solve -m` prints.
@@ -194,15 +184,11 @@ abbrev pub count_said : Text → Option ℕ
 count_said (digit ∷ []) = if nat_le 0x32 digit && nat_le digit 0x39 then Some digit else None
 count_said _ = None
 
-abbrev pub with_count : Option ℕ → Text
-with_count None = []
-with_count (Some digit) = count_letter ∷ digit ∷ []
-
 abbrev pub move_said : (count from_kind from_number to_kind to_number : Text) → Text
 move_said count from_kind from_number to_kind to_number =
     let source = pile_said from_kind from_number in
     let target = pile_said to_kind to_number in
-    source ∷ target ∷ (if is_ascii_digit source && is_ascii_digit target then with_count (count_said count) else [])
+    source ∷ target ∷ (if is_ascii_digit source && is_ascii_digit target then flat_map (λ digit. count_letter ∷ digit ∷ []) (option_to_list (count_said count)) else [])
 
 abbrev pub word_at : List (Piece × ℕ) → ℕ → Text
 word_at words place = slice_index_or (map (λ word. word.0.bytes) words) place []

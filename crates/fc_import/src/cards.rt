@@ -4,10 +4,10 @@ ghost use Rattle.std.specs.{List.{flat_map}, Option.{option_to_list}, Prelude.{�
 ghost use Rattle.std.specs.Prelude.{◌≢◌, ◌≤◌, ◌⊎◌, [], All, IfOk, IfSome, IsSome, IsTrue, length};
 ghost use Rattle.std.specs.Prelude.{List, OnOk, slice_get, true, ℕ};
 ghost use Rattle.{fc_board.specs.Boards.{IsWellFormed}, fc_card.specs.{places}};
-ghost use Rattle.fc_import.specs.Import.{AreIn, ArePacked, by_columns, in_cells, in_row, IsPacked};
-ghost use Rattle.fc_import.specs.{Import.{lines_in, lines_of}, inside.{part}, Scan.{named_cards}};
+ghost use Rattle.fc_import.specs.Import.{AreIn, ArePacked, in_cells, in_row, lines_in, lines_of};
+ghost use Rattle.fc_import.specs.{inside.{part}, Scan.{named_cards}};
 ghost use Rattle.fc_import.specs.{Strips.{are_below, tells_columns}, Words.{ended, named_lines}};
-ghost use Rattle.fc_import.specs.declared.layout.Layout.TheVariants.{ColumnsInLine, Rows};
+ghost use Rattle.fc_import.specs.declared.layout.Layout.TheVariants.{Columns, ColumnsInLine, Rows};
 
 use crate::layout::Layout;
 use crate::marks::ends_column;
@@ -180,7 +180,8 @@ fn is_joined(whole: &[u8], first: &[u8], second: &[u8]) -> bool
 
 /// The cards in the cells, and those of each column, with an end after each.
 pub(crate) fn by_columns<R: Rule>(alloc: Global, board: &Board<R>) -> Result<Vec<u8>, AllocError>
-    ensures cards { IfOk result (λ cards. cards.items ≡ by_columns board.now) }
+    ensures cards { IfOk result (λ cards. cards.items
+        ≡ ended (in_cells board.now) ++ lines_in Columns board.now) }
     ensures well_formed { IsWellFormed R.game board.now }
 {
     let mut cards = line_of_cells(alloc, board)?;
@@ -330,7 +331,8 @@ fn push_some(cards: &mut Vec<u8>, card: Option<Card>) -> Result<(), AllocError>
 
 /// Whether no column of the board is empty, and no cell before a taken one.
 pub(crate) fn is_packed<R: Rule>(board: &Board<R>) -> bool
-    ensures { IsTrue result ↔ IsPacked board.now }
+    ensures { IsTrue result
+        ↔ (All (λ column. column ≢ []) board.now.columns × ArePacked board.now.cells) }
 {
     has_full_columns(board) && are_packed(board.cells())
 }

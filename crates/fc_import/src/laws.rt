@@ -55,6 +55,7 @@ pub fn words_name_moves()
     ensures numbered { (said_in freecell (codes "1. 2a 2) 3b 3: 5h")).moves ≡ codes " 2a 3b 5h" }
     ensures labelled { (said_in freecell (codes "Solution: 2a 3b")).moves ≡ codes " 2a 3b" }
     ensures arrows { (said_in freecell (codes "2->6, 5 => a")).moves ≡ codes " 26 5a" }
+    ensures dashes { (said_in freecell (codes "2-6 5 = a 3>b")).moves ≡ codes " 26 5a 3b" }
     ensures to { (said_in freecell (codes "5 to a")).moves ≡ codes " 5a" }
     ensures stacks { (said_in freecell (codes "Move 2 cards from stack 0 to stack 5")).moves
         ≡ codes " 16v2" }
@@ -109,6 +110,7 @@ pub fn solutions_are_not_quiet()
     ensures numbers { IsQuiet freecell (codes "Deals 1 to 8") }
     ensures more_numbers { IsQuiet freecell (codes "1 to 32000") }
     ensures heading { IsQuiet freecell (codes "Game 5 - hard") }
+    ensures other_words { IsQuiet freecell (codes "5 tons") }
     ensures bold { IsQuiet freecell (codes "<b>Dear Jim") }
     ensures apart { IsQuiet freecell (codes "1 2v2") }
     ensures card { IsProse freecell (codes "dig out the 7H") }

@@ -1,15 +1,15 @@
 //! The moves that words name, one word after another.
 ghost use Rattle.std.specs.Char.{is_ascii_alphabetic, is_ascii_digit, is_ascii_lowercase};
-ghost use Rattle.std.specs.{List.{list_all, list_any}, Option.{is_some}, Prelude.{◌&&◌, ◌++◌, ◌+◌}};
-ghost use Rattle.std.specs.Prelude.{◌==◌, ◌||◌, ◌≡◌, drop, false, IfOk, length, min, nat_lt, None};
-ghost use Rattle.std.specs.{Prelude.{not, OnOk}, Str.{str_to_ascii_lowercase}};
-ghost use Rattle.{fc_card.specs.Types.{Text}, fc_text.specs.{Bytes.{blank}, reader.{run_named}}};
-ghost use Rattle.fc_import.specs.{Names.{is_among}, Scan.{after_arrow, after_first, after_gap}};
-ghost use Rattle.fc_import.specs.Scan.{after_letters, after_next, after_word, are_cards, are_glued};
-ghost use Rattle.fc_import.specs.Scan.{arrow_of, before_dots, has_dots, is_arrow, is_card_move};
-ghost use Rattle.fc_import.specs.Scan.{is_glued, is_label, is_number, is_pointed, is_sure};
-ghost use Rattle.fc_import.specs.Scan.{is_target, is_unread, solution_names, sureness, with_move};
-ghost use Rattle.fc_import.specs.Seen.{piece_of, said_of};
+ghost use Rattle.std.specs.{List.{list_all, list_any, prefix_len}, Option.{is_some}};
+ghost use Rattle.std.specs.Prelude.{◌&&◌, ◌++◌, ◌+◌, ◌==◌, ◌||◌, ◌≡◌, codes, drop, false, IfOk};
+ghost use Rattle.std.specs.Prelude.{length, min, nat_lt, None, not, OnOk, take};
+ghost use Rattle.std.specs.Str.{bytes_eq, str_to_ascii_lowercase};
+ghost use Rattle.{fc_card.specs.Types.{Text}, fc_text.specs.{Bytes.{is_gap}, reader.{run_named}}};
+ghost use Rattle.fc_import.specs.{Names.{is_among}, Scan.{after_arrow, after_first, after_letters}};
+ghost use Rattle.fc_import.specs.Scan.{after_next, after_word, are_cards, are_glued, arrow_of};
+ghost use Rattle.fc_import.specs.Scan.{before_dots, is_card_move, is_glued, is_going, is_label};
+ghost use Rattle.fc_import.specs.Scan.{is_number, is_sure, is_target, is_unread, solution_names};
+ghost use Rattle.fc_import.specs.{Scan.{sureness, with_move}, Seen.{piece_of, said_of}};
 
 use crate::labels::is_pile_name;
 use crate::scan::named_card;
@@ -172,16 +172,16 @@ impl Heard {
 
 // Whether the word is a move, and no pile with an arrow after it.
 fn is_read<R: Rule>(word: &[u8], next: &[u8]) -> bool
-    ensures { result ≡ (is_some (run_named R.game word.now) && not (is_pointed next.now)) }
+    ensures { result ≡ (is_some (run_named R.game word.now) && not (arrow_of next.now == 0x3E)) }
 {
-    run_named::<R>(word).is_some() && !is_pointed(next)
+    run_named::<R>(word).is_some() && arrow_of(next) != b'>'
 }
 
 // Whether the word may be a pile with an arrow after it.
 fn begins_move(word: &[u8], next: &[u8]) -> bool
-    ensures { result ≡ (length word.now == 1 && is_arrow next.now) }
+    ensures { result ≡ (length word.now == 1 && not (arrow_of next.now == 0)) }
 {
-    word.len() == 1 && is_arrow(next)
+    word.len() == 1 && arrow_of(next) != 0
 }
 
 // Whether the word begins a target that is not read.
@@ -191,15 +191,8 @@ fn is_target(from: u8, arrow: u8, word: &[u8]) -> bool
     is_pile_name(word) || from.is_ascii_digit() && is_going(arrow) && !is_number(word)
 }
 
-// Whether the arrow is `to`, or has a point.
-fn is_going(arrow: u8) -> bool
-    ensures { result ≡ (arrow == 0x3E || arrow == 0x74) }
-{
-    arrow == b'>' || arrow == b't'
-}
-
 fn has_dots(next: &[u8]) -> bool
-    ensures { result ≡ has_dots next.now }
+    ensures { result ≡ bytes_eq (take 3 next.now) (codes "...") }
 {
     matches!(next, [b'.', b'.', b'.', ..])
 }
@@ -322,9 +315,7 @@ fn is_glued<R: Rule>(word: &[u8]) -> bool
 fn is_card_move(word: &[u8], next: &[u8]) -> bool
     ensures { result ≡ is_card_move word.now next.now }
 {
-    named_card(word).is_some()
-        && !has_small_letters(word)
-        && (is_pointed(next) || matches!(next, [b't', b'o', b' ', ..]))
+    named_card(word).is_some() && !has_small_letters(word) && is_going(arrow_of(next))
 }
 
 pub(crate) fn has_small_letters(word: &[u8]) -> bool
@@ -335,38 +326,28 @@ pub(crate) fn has_small_letters(word: &[u8]) -> bool
 
 // What comes after blanks and tabs.
 fn after_gap(rest: &[u8]) -> &[u8]
-    ensures { result.now ≡ after_gap rest.now }
+    ensures { result.now ≡ drop (prefix_len is_gap rest.now) rest.now }
 {
     &rest[gap_len(rest)..]
 }
 
-// Whether an arrow comes next, a dash, or `to` and a blank.
-fn is_arrow(next: &[u8]) -> bool
-    ensures { result ≡ is_arrow next.now }
-{
-    match next {
-        [b'-' | b'=' | b'>', ..] => true,
-        [b't', b'o', b' ', ..] => true,
-        _ => false,
-    }
-}
-
-// The arrow that comes next: `>` for one with a point, and else its first byte.
+// The arrow that comes next: `>` for one with a point, a dash, `=` or the `t` of `to`, or 0.
 fn arrow_of(next: &[u8]) -> u8
     ensures { result ≡ arrow_of next.now }
 {
     match next {
         [b'>', ..] | [_, b'>', ..] => b'>',
-        [first, ..] => *first,
-        [] => 0,
+        [mark @ (b'-' | b'='), ..] => *mark,
+        [b't', b'o', b' ', ..] => b't',
+        _ => 0,
     }
 }
 
-// Whether an arrow with a point comes next.
-fn is_pointed(next: &[u8]) -> bool
-    ensures { result ≡ is_pointed next.now }
+// Whether the arrow has a point, or is `to`.
+fn is_going(arrow: u8) -> bool
+    ensures { result ≡ is_going arrow }
 {
-    matches!(next, [b'>', ..] | [_, b'>', ..])
+    arrow == b'>' || arrow == b't'
 }
 
 pub(crate) fn push_lower(moves: &mut Vec<u8>, word: &[u8]) -> Result<(), AllocError>
