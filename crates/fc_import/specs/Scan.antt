@@ -21,13 +21,12 @@ use Rattle.fc_import.specs.Names.{is_among, is_pile_name}
 abbrev pub parts_words : ℕ → Bool
 parts_words byte = not (is_ascii_alphanumeric byte || nat_le 128 byte)
 
--- the line before a comment, which the first number sign begins, but before a digit within the line, as in `Column #1`
+-- the line before a comment, which the first number sign begins, but before a digit, as in `Column #1`
 abbrev pub uncommented : Text → Text
 uncommented [] = []
 uncommented (byte ∷ rest) =
     let front = before_first (λ byte. byte == number_sign) (byte ∷ rest) in
-    let is_number = not (list_all is_gap front) && is_ascii_digit (slice_index rest (length front)) in
-    if is_number then byte ∷ rest else front
+    if is_ascii_digit (slice_index rest (length front)) then byte ∷ rest else front
 
 -- each with the place of its end
 abbrev pub words_of : Text → List (Piece × ℕ)
@@ -64,8 +63,8 @@ nothing_said = record { moves = []; from = None; arrow = 0; all = true; sure = 0
 abbrev pub arrow_of : (next : Text) → ℕ
 arrow_of next =
     let mark = slice_index next 0 in
-    if mark == 0x3E || slice_index next 1 == 0x3E then 0x3E
-    else if mark == dash || mark == 0x3D || bytes_eq (take 3 next) (codes "to ") then mark else 0
+    if mark == dash || mark == 0x3D then (if slice_index next 1 == 0x3E then 0x3E else mark)
+    else if mark == 0x3E || bytes_eq (take 3 next) (codes "to ") then mark else 0
 
 -- a point, or `to`
 abbrev pub is_going : (arrow : ℕ) → Bool
@@ -108,9 +107,13 @@ with_move said word sure = record {
 abbrev pub is_glued : Game → Text → Bool
 is_glued game word = nat_le 4 (length word) && is_sure (take 2 word) && is_some (run_named game (take 2 word)) && is_some (run_named game (take 2 (drop 2 word)))
 
--- a card that goes somewhere, as `KC to a`, in capitals
+-- a card in capitals
+abbrev pub is_capital_card : Text → Bool
+is_capital_card word = is_some (named_card word) && not (list_any is_ascii_lowercase word)
+
+-- one that goes somewhere, as `KC to a`
 abbrev pub is_card_move : (word next : Text) → Bool
-is_card_move word next = is_some (named_card word) && not (list_any is_ascii_lowercase word) && is_going (arrow_of next)
+is_card_move word next = is_capital_card word && is_going (arrow_of next)
 
 -- each two letters are a card
 abbrev pub are_cards : Text → Bool
@@ -133,30 +136,31 @@ with_other said unread = record said { from = None; arrow = 0; all = false; led 
 -- a word where no target comes next
 abbrev pub after_first : Game → Said → (word next : Text) → Said
 after_first game said word next =
-    if is_some (run_named game word) && not (arrow_of next == 0x3E) then with_move said word (sureness word)
+    if is_some (run_named game word) && not (arrow_of next == 0x3E) && not (is_card_move word next) then with_move said word (sureness word)
     else if length word == 1 && not (arrow_of next == 0) then record said { from = Some (slice_index word 0); arrow = arrow_of next }
     else with_other said (is_unread game word next)
 
--- the letters of a pile and of the target after an arrow
+-- the letters of a pile and of the target after an arrow: after a point or `to` they are no card
 abbrev pub after_letters : Game → Said → (letters : Text) → Said
 after_letters game said letters =
-    if is_some (run_named game letters) then with_move said letters (if said.arrow == 0x3E then 2 else sureness letters) else with_other said false
+    let is_told = said.arrow == 0x3E || (said.arrow == 0x74 && is_sure letters) in
+    if is_some (run_named game letters) then with_move said letters (if is_told then 2 else sureness letters) else with_other said false
 
 -- the word begins a target that is not read: the name of a pile or, where a digit and `to` or an arrow with a point come before it, any but a number, as in `3 to the cell`
 abbrev pub is_target : (from arrow : ℕ) → (word : Text) → Bool
 is_target from arrow word =
     is_pile_name word || (is_ascii_digit from && is_going arrow && not (is_number word))
 
--- a word where the target of a move from this pile comes next
-abbrev pub after_arrow : Game → Said → (from : ℕ) → (word : Text) → Said
-after_arrow game said from word =
+-- a word where the target of a move from this pile comes next: no other target may come after it
+abbrev pub after_arrow : Game → Said → (from : ℕ) → (word next : Text) → Said
+after_arrow game said from word next =
     if bytes_eq word (codes "to") then said
-    else if length word == 1 then after_letters game said (from ∷ word)
-    else with_other said (is_target from said.arrow word)
+    else if length word == 1 && not (is_going (arrow_of next)) then after_letters game said (from ∷ word)
+    else with_other said (length word == 1 || is_target from said.arrow word)
 
 abbrev pub after_next : Game → Said → Option ℕ → (word next : Text) → Said
 after_next game said None word next = after_first game said word next
-after_next game said (Some from) word next = after_arrow game said from word
+after_next game said (Some from) word next = after_arrow game said from word next
 
 -- where dots come next, moves are left out
 abbrev pub before_dots : Said → (next : Text) → Said
@@ -166,7 +170,7 @@ abbrev pub after_word : Game → (text : Text) → Said → Piece × ℕ → Sai
 after_word game text said word =
     let after = drop word.1 text in
     let next = drop (prefix_len is_gap after) after in
-    if is_label word.0.bytes after then said else before_dots (after_next game said said.from word.0.bytes next) next
+    if is_label word.0.bytes after && is_none said.from then said else before_dots (after_next game said said.from word.0.bytes next) next
 
 -- -------- The move that a line of Freecell Solver's says, as `Move 2 cards from stack 0 to stack 5`. From: what `fc-solve -m` prints.
 
@@ -218,11 +222,21 @@ said_in game line =
 abbrev pub is_number_alone : List (Piece × ℕ) → Bool
 is_number_alone words = length words == 1 && list_all (λ word. is_number word.0.bytes) words
 
+-- the word is a move with a small letter, or a sign of one
+abbrev pub is_small_move : Game → Text → Bool
+is_small_move game word = (length word == 1 || is_some (run_named game word)) && list_any is_ascii_lowercase word
+
+-- no word is the number after a number sign, and none a card in capitals beside moves with small letters, as in `7b (8C)`
+abbrev pub is_plain : Game → (line : Text) → Bool
+is_plain game line =
+    list_all (λ byte. not (byte == number_sign)) (uncommented line)
+    && not (list_any (λ word. is_capital_card word.0.bytes) (words_of line) && list_any (λ word. is_small_move game word.0.bytes) (words_of line))
+
 -- the line begins as fcanon's lists do, or each of its words is of a move; a number alone is none
 abbrev pub is_list : Game → Text → Bool
 is_list game line =
     let said = said_in game line in
-    slice_index line 0 == 0x3E || (said.all && is_none said.from && nat_lt 0 (length said.moves) && not (is_number_alone (words_of line)))
+    slice_index line 0 == 0x3E || (said.all && is_none said.from && nat_lt 0 (length said.moves) && not (is_number_alone (words_of line)) && is_plain game line)
 
 -- -------- A solution in Freecell Solver's words, with boards between its moves. From: what `fc-solve -sam` prints.
 
@@ -234,7 +248,7 @@ is_in_words text = bytes_eq (take 5 text) (codes "Move ") || bytes_eq (take 5 te
 abbrev pub is_drawn_word : Text → Bool
 is_drawn_word word =
     length word == 1 || bytes_eq word (codes "10") || bytes_eq word (codes "Foundations") || bytes_eq word (codes "Freecells")
-    || (is_some (named_card word) && not (list_any is_ascii_lowercase word))
+    || is_capital_card word
 
 -- a line of a drawn board
 abbrev pub is_drawn : (line : Text) → Bool
@@ -254,11 +268,22 @@ is_sure_move game word = is_sure word && is_some (run_named game word)
 abbrev pub joined : (first second : Text) → Text
 joined first second = if length first == 1 && length second == 1 then first ++ second else first
 
--- the line begins with a move, which may be cut into two signs, or has one after a number
+-- the line begins with a move, which may be cut into two signs, or has one after a number or a name of a solution
 abbrev pub begins_with_move : Game → List (Piece × ℕ) → Bool
 begins_with_move game words =
     is_sure_move game (joined (word_at words 0) (word_at words 1))
-    || (is_number (word_at words 0) && is_sure_move game (joined (word_at words 1) (word_at words 2)))
+    || ((is_number (word_at words 0) || is_among (word_at words 0) solution_names) && is_sure_move game (joined (word_at words 1) (word_at words 2)))
+
+-- a letter of piles and of suits
+abbrev pub is_suit_too : Text → Bool
+is_suit_too word = is_among word (codes "c" ∷ codes "d" ∷ codes "h" ∷ [])
+
+-- two signs that come one after the other are a move, and may be no card
+abbrev pub has_cut_move : Game → (before : Text) → List (Piece × ℕ) → Bool
+has_cut_move game before [] = false
+has_cut_move game before (word ∷ words) =
+    (length before == 1 && is_sure_move game (joined before word.0.bytes) && not (is_suit_too before || is_suit_too word.0.bytes))
+    || has_cut_move game word.0.bytes words
 
 -- how many moves its words name, among others too
 abbrev pub moves_in : Game → Text → ℕ
@@ -266,13 +291,14 @@ moves_in game line = count_by (λ byte. byte == blank) (said_in game line).moves
 
 -- -------- What a line may be that no board and no list is made of. From: this project's profile.
 
--- a line of other words names few moves: less than four, by at most half of its words, but for a number alone; none that is sure, but for one that is a card too, and that neither first nor after a number that is; and none in a form that is not read
+-- a line of other words names few moves: less than four, by at most half of its words, but for a number alone; none that is sure, but for one that is a card too, and that neither first nor after a number or a name of a solution that is; none cut into two signs, but for such a one; and none in a form that is not read
 pub record HasFewMoves (game : Game) (line : Text) : Type 0 where
   pub few : moves_in game line < 4
   pub half : (2 * moves_in game line ≤ length (words_of line)) ⊎ (is_number_alone (words_of line) ≡ true)
   pub sure : (said_in game line).sure ≤ 1
   pub led : (said_in game line).led ≡ false
   pub begun : begins_with_move game (words_of line) ≡ false
+  pub uncut : has_cut_move game [] (words_of line) ≡ false
 
 -- a line passes in silence that names no card, is no list, and names few moves: so a solution never does
 pub record IsQuiet (game : Game) (line : Text) : Type 0 where

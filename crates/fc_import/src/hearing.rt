@@ -1,14 +1,19 @@
 //! What the words of a line say of moves: the only place where a byte becomes a move.
-ghost use Rattle.std.specs.Prelude.{◌*◌, ◌==◌, ◌≡◌, ◌≤◌, ◌⊎◌, count_by, false, IfOk, if◌then◌else◌};
-ghost use Rattle.std.specs.Prelude.{IsTrue, length, None, true};
-ghost use Rattle.fc_text.specs.Bytes.{blank};
-ghost use Rattle.fc_import.specs.Scan.{after_word, begins_with_move, HasFewMoves, is_drawn};
-ghost use Rattle.fc_import.specs.Scan.{is_drawn_word, is_in_words, is_list, is_number_alone};
-ghost use Rattle.fc_import.specs.Scan.{is_sure_move, joined, word_at, words_of};
+ghost use Rattle.std.specs.{List.{list_all, list_any}, Option.{is_none, is_some}, Prelude.{◌&&◌}};
+ghost use Rattle.std.specs.Prelude.{◌*◌, ◌==◌, ◌||◌, ◌≡◌, ◌≤◌, ◌⊎◌, [], count_by, false, IfOk};
+ghost use Rattle.std.specs.Prelude.{if◌then◌else◌, IsTrue, length, None, not, true};
+ghost use Rattle.fc_text.specs.{Bytes.{blank, number_sign}, reader.{run_named}};
+ghost use Rattle.fc_import.specs.{Names.{is_among}, Scan.{after_word, begins_with_move}};
+ghost use Rattle.fc_import.specs.Scan.{has_cut_move, HasFewMoves, is_capital_card, is_drawn};
+ghost use Rattle.fc_import.specs.Scan.{is_drawn_word, is_in_words, is_list, is_number};
+ghost use Rattle.fc_import.specs.Scan.{is_number_alone, is_plain, is_small_move, is_suit_too};
+ghost use Rattle.fc_import.specs.Scan.{is_sure_move, joined, solution_names, word_at, words_of};
 ghost use Rattle.fc_import.specs.Seen.{IsHeard, IsSeen, piece_of, said_of};
 
-use crate::moves::{Heard, has_small_letters, is_number, is_sure};
-use crate::scan::{LineSeen, named_card};
+use crate::moves::{
+    Heard, has_small_letters, is_capital_card, is_number, is_solution_name, is_sure,
+};
+use crate::scan::LineSeen;
 use crate::solver::{push_solver_move, word_at};
 use crate::words::{Word, Words, uncommented};
 use fc_board::Rule;
@@ -53,6 +58,7 @@ impl LineHeard {
             && self.heard.from.is_none()
             && !moves.is_empty()
             && !seen.is_number_alone(line)
+            && is_plain::<R>(line)
     }
 
     /// Whether the line names few moves, which are these.
@@ -68,7 +74,7 @@ impl LineHeard {
         if self.heard.sure > 1 || self.heard.led {
             return false;
         }
-        !begins_with_move::<R>(line)
+        !begins_with_move::<R>(line) && !has_cut_move::<R>(line)
     }
 }
 
@@ -94,13 +100,21 @@ fn has_half(line: &[u8], seen: &LineSeen, count: usize) -> bool
     count <= seen.words / 2 || seen.is_number_alone(line)
 }
 
-// Whether the line begins with a move, which may be cut into two signs, or has one after a number.
+// Whether the line begins with a move, which may be cut into two signs, or has one after a number or
+// a name of a solution.
 fn begins_with_move<R: Rule>(line: &[u8]) -> bool
     ensures { result ≡ begins_with_move R.game (words_of line.now) }
 {
     let text = uncommented(line);
     let (first, second) = (word_at(text, 0), word_at(text, 1));
-    is_move_in::<R>(first, second) || is_number(first) && is_move_in::<R>(second, word_at(text, 2))
+    is_move_in::<R>(first, second) || is_lead(first) && is_move_in::<R>(second, word_at(text, 2))
+}
+
+// Whether the word is a number or a name of a solution.
+fn is_lead(word: &[u8]) -> bool
+    ensures { result ≡ (is_number word.now || is_among word.now solution_names) }
+{
+    is_number(word) || is_solution_name(word)
 }
 
 // Whether the first of two words is a move, or both are signs of one.
@@ -111,6 +125,82 @@ fn is_move_in<R: Rule>(first: &[u8], second: &[u8]) -> bool
         ([one], [other]) => is_sure_move::<R>(&[*one, *other]),
         _ => is_sure_move::<R>(first),
     }
+}
+
+// Whether two signs that come one after the other are a move, and no card.
+fn has_cut_move<R: Rule>(line: &[u8]) -> bool
+    ensures { result ≡ has_cut_move R.game [] (words_of line.now) }
+{
+    let mut before = b"".as_slice();
+    for word in Words::new(uncommented(line)) {
+        if is_cut_move::<R>(before, word.text) {
+            return true;
+        }
+        before = word.text;
+    }
+    false
+}
+
+// Whether both words are signs of a move, which may be no card.
+fn is_cut_move<R: Rule>(first: &[u8], second: &[u8]) -> bool
+    ensures { result ≡ (length first.now == 1 && is_sure_move R.game (joined first.now second.now)
+        && not (is_suit_too first.now || is_suit_too second.now)) }
+{
+    is_single(first)
+        && is_move_in::<R>(first, second)
+        && !(is_suit_too(first) || is_suit_too(second))
+}
+
+// Whether the word is a letter of piles and of suits.
+fn is_suit_too(word: &[u8]) -> bool
+    ensures { result ≡ is_suit_too word.now }
+{
+    word.eq_ignore_ascii_case(b"c")
+        || word.eq_ignore_ascii_case(b"d")
+        || word.eq_ignore_ascii_case(b"h")
+}
+
+// Whether no word is the number after a number sign, and none a card in capitals beside moves with
+// small letters.
+fn is_plain<R: Rule>(line: &[u8]) -> bool
+    ensures { result ≡ is_plain R.game line.now }
+{
+    has_no_number_sign(uncommented(line)) && !(has_capital_card(line) && has_small_move::<R>(line))
+}
+
+fn has_no_number_sign(text: &[u8]) -> bool
+    ensures { result ≡ list_all (λ byte. not (byte == number_sign)) text.now }
+{
+    text.iter().all(|byte| *byte != b'#')
+}
+
+fn has_capital_card(line: &[u8]) -> bool
+    ensures { result ≡ list_any (λ word. is_capital_card word.0.bytes) (words_of line.now) }
+{
+    for word in Words::new(uncommented(line)) {
+        if is_capital_card(word.text) {
+            return true;
+        }
+    }
+    false
+}
+
+// Whether a word is a move with a small letter, or a sign of one.
+fn has_small_move<R: Rule>(line: &[u8]) -> bool
+    ensures { result ≡ list_any (λ word. is_small_move R.game word.0.bytes) (words_of line.now) }
+{
+    for word in Words::new(uncommented(line)) {
+        if is_small_move::<R>(word.text) {
+            return true;
+        }
+    }
+    false
+}
+
+fn is_small_move<R: Rule>(word: &[u8]) -> bool
+    ensures { result ≡ is_small_move R.game word.now }
+{
+    (word.len() == 1 || run_named::<R>(word).is_some()) && has_small_letters(word)
 }
 
 // Whether the word is a move with a digit and a letter.
@@ -169,7 +259,7 @@ fn is_drawn_word(word: &[u8]) -> bool
         || word == b"10".as_slice()
         || word == b"Foundations".as_slice()
         || word == b"Freecells".as_slice()
-        || named_card(word).is_some() && !has_small_letters(word)
+        || is_capital_card(word)
 }
 
 fn is_single(word: &[u8]) -> bool

@@ -71,6 +71,12 @@ pub fn words_name_moves()
     ensures other_label { is_list freecell (codes "zz: 1a 2b") ≡ false }
     ensures other_pile { is_list freecell (codes "Move a card from stack 4 to stakc 0") ≡ false }
     ensures dots { is_list freecell (codes "1a ... 2b") ≡ false }
+    ensures label_within { is_list freecell (codes "1 - 3: c") ≡ false }
+    ensures number_sign { is_list freecell (codes "#3a") ≡ false }
+    ensures card { is_list freecell (codes "7b (8C)") ≡ false }
+    ensures card_after_arrow { is_list freecell (codes "7->b (8C)") ≡ false }
+    ensures capitals { is_list freecell (codes "Solution: 7B 8C") ≡ true }
+    ensures small_letters { is_list freecell (codes "7b 8c") ≡ true }
     ensures blank { is_list freecell (codes "  ") ≡ false }
     ensures marked { is_list freecell (codes "> 9z") ≡ true }
     ensures cells { is_list freecell (codes "1k") ≡ false }
@@ -96,6 +102,11 @@ pub fn solutions_are_not_quiet()
     ensures number_sign { ¬ IsQuiet freecell (codes "Solution #1: 3a 3b") }
     ensures cut { ¬ IsQuiet freecell (codes "12. 3 a (king)") }
     ensures begun { ¬ IsQuiet freecell (codes "3 a (king)") }
+    ensures within { ¬ IsQuiet freecell (codes "Then 3 a") }
+    ensures number_sign_first { ¬ IsQuiet freecell (codes "#1: 3a") }
+    ensures target { ¬ IsQuiet freecell (codes "from 1 to d") }
+    ensures two_targets { ¬ IsQuiet freecell (codes "1 - 3 to a") }
+    ensures named { ¬ IsQuiet freecell (codes "Moves: 2 c and") }
     ensures last { ¬ IsQuiet freecell (codes "Step 1: 3a") }
     ensures from { ¬ IsQuiet freecell (codes "from 3 to a") }
     ensures pile { ¬ IsQuiet freecell (codes "column 3 to cell a") }
@@ -110,17 +121,18 @@ pub fn solutions_are_not_quiet()
     ensures numbers { IsQuiet freecell (codes "Deals 1 to 8") }
     ensures more_numbers { IsQuiet freecell (codes "1 to 32000") }
     ensures heading { IsQuiet freecell (codes "Game 5 - hard") }
+    ensures heights { IsQuiet freecell (codes "H-9 C-K D-2 S-0") }
     ensures other_words { IsQuiet freecell (codes "5 tons") }
     ensures bold { IsQuiet freecell (codes "<b>Dear Jim") }
     ensures apart { IsQuiet freecell (codes "1 2v2") }
     ensures card { IsProse freecell (codes "dig out the 7H") }
     ensures card_second { IsProse freecell (codes "The 7H is buried") }
+    ensures card_moved { ¬ IsProse freecell (codes "we move 6C to c") }
     ensures card_first { ¬ IsProse freecell (codes "7H is buried") }
     ensures card_numbered { ¬ IsProse freecell (codes "1 3h zz") }
 {}
 
-/// Nothing after the first `#` of a line is a word, but where words come before it and a digit next,
-/// as in `Column #1`.
+/// Nothing after the first `#` of a line is a word, but where a digit comes next, as in `Column #1`.
 pub fn comments_are_no_words()
     ensures after { uncommented (codes "KH # KS") ≡ codes "KH " }
     ensures first { uncommented (codes "#KH") ≡ [] }
@@ -128,7 +140,7 @@ pub fn comments_are_no_words()
     ensures none { uncommented (codes "KH KS") ≡ codes "KH KS" }
     ensures nothing { uncommented [] ≡ [] }
     ensures number { uncommented (codes "Column #1: KH") ≡ codes "Column #1: KH" }
-    ensures number_first { uncommented (codes " #1: KH") ≡ codes " " }
+    ensures number_first { uncommented (codes " #1: KH") ≡ codes " #1: KH" }
     ensures later { uncommented (codes "KH # as #1") ≡ codes "KH " }
 {}
 

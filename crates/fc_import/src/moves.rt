@@ -2,14 +2,15 @@
 ghost use Rattle.std.specs.Char.{is_ascii_alphabetic, is_ascii_digit, is_ascii_lowercase};
 ghost use Rattle.std.specs.{List.{list_all, list_any, prefix_len}, Option.{is_some}};
 ghost use Rattle.std.specs.Prelude.{◌&&◌, ◌++◌, ◌+◌, ◌==◌, ◌||◌, ◌≡◌, codes, drop, false, IfOk};
-ghost use Rattle.std.specs.Prelude.{length, min, nat_lt, None, not, OnOk, take};
+ghost use Rattle.std.specs.Prelude.{if◌then◌else◌, length, min, nat_lt, None, not, OnOk, take};
 ghost use Rattle.std.specs.Str.{bytes_eq, str_to_ascii_lowercase};
 ghost use Rattle.{fc_card.specs.Types.{Text}, fc_text.specs.{Bytes.{is_gap}, reader.{run_named}}};
 ghost use Rattle.fc_import.specs.{Names.{is_among}, Scan.{after_arrow, after_first, after_letters}};
 ghost use Rattle.fc_import.specs.Scan.{after_next, after_word, are_cards, are_glued, arrow_of};
-ghost use Rattle.fc_import.specs.Scan.{before_dots, is_card_move, is_glued, is_going, is_label};
-ghost use Rattle.fc_import.specs.Scan.{is_number, is_sure, is_target, is_unread, solution_names};
-ghost use Rattle.fc_import.specs.{Scan.{sureness, with_move}, Seen.{piece_of, said_of}};
+ghost use Rattle.fc_import.specs.Scan.{before_dots, is_capital_card, is_card_move, is_glued};
+ghost use Rattle.fc_import.specs.Scan.{is_going, is_label, is_number, is_sure, is_target};
+ghost use Rattle.fc_import.specs.Scan.{is_unread, solution_names, sureness, with_move};
+ghost use Rattle.fc_import.specs.Seen.{piece_of, said_of};
 
 use crate::labels::is_pile_name;
 use crate::scan::named_card;
@@ -45,7 +46,7 @@ impl Heard {
             ≡ after_word R.game text.now (said_of moves.old.items self) (piece_of word.now)) }
     {
         let after = from(text, word.end);
-        if is_label(word.text, after) {
+        if is_label(word.text, after) && self.from.is_none() {
             return Ok(self);
         }
         let next = after_gap(after);
@@ -64,7 +65,7 @@ impl Heard {
     {
         match self.from {
             None => self.take_first::<R>(word, next, moves),
-            Some(from) => self.take_target::<R>(from, word, moves),
+            Some(from) => self.take_target::<R>(from, word, next, moves),
         }
     }
 
@@ -123,18 +124,19 @@ impl Heard {
         self,
         from: u8,
         word: &[u8],
+        next: &[u8],
         moves: &mut Vec<u8>,
     ) -> Result<Heard, AllocError>
         ensures { IfOk result (λ heard. said_of moves.new.items heard
-            ≡ after_arrow R.game (said_of moves.old.items self) from word.now) }
+            ≡ after_arrow R.game (said_of moves.old.items self) from word.now next.now) }
     {
         if word == b"to".as_slice() {
             return Ok(self);
         }
-        if word.len() == 1 {
+        if word.len() == 1 && !is_going(arrow_of(next)) {
             return self.take_letters::<R>(&[from, word[0]], moves);
         }
-        Ok(self.with_other(is_target(from, self.arrow, word)))
+        Ok(self.with_other(word.len() == 1 || is_target(from, self.arrow, word)))
     }
 
     // Takes the letters of a pile and of the target after an arrow.
@@ -143,12 +145,7 @@ impl Heard {
             ≡ after_letters R.game (said_of moves.old.items self) letters.now) }
     {
         if run_named::<R>(letters).is_some() {
-            let sure = if self.arrow == b'>' {
-                2
-            } else {
-                sureness(letters)
-            };
-            return self.with_move(letters, sure, moves);
+            return self.with_move(letters, sureness_after(self.arrow, letters), moves);
         }
         Ok(self.with_other(false))
     }
@@ -170,11 +167,12 @@ impl Heard {
     }
 }
 
-// Whether the word is a move, and no pile with an arrow after it.
+// Whether the word is a move, and no pile or card with an arrow after it.
 fn is_read<R: Rule>(word: &[u8], next: &[u8]) -> bool
-    ensures { result ≡ (is_some (run_named R.game word.now) && not (arrow_of next.now == 0x3E)) }
+    ensures { result ≡ (is_some (run_named R.game word.now) && not (arrow_of next.now == 0x3E)
+        && not (is_card_move word.now next.now)) }
 {
-    run_named::<R>(word).is_some() && arrow_of(next) != b'>'
+    run_named::<R>(word).is_some() && arrow_of(next) != b'>' && !is_card_move(word, next)
 }
 
 // Whether the word may be a pile with an arrow after it.
@@ -242,6 +240,18 @@ fn is_first(sure: u8, all: bool) -> bool
     sure > 0 && all
 }
 
+// How sure the letters after this arrow are a move: after a point or `to` they are no card.
+fn sureness_after(arrow: u8, letters: &[u8]) -> u8
+    ensures { result ≡ if arrow == 0x3E || (arrow == 0x74 && is_sure letters.now) then 2
+        else sureness letters.now }
+{
+    if arrow == b'>' || arrow == b't' && is_sure(letters) {
+        2
+    } else {
+        sureness(letters)
+    }
+}
+
 // How sure the word is a move: one of a digit and a letter may be a card.
 fn sureness(word: &[u8]) -> u8
     ensures { result ≡ sureness word.now }
@@ -273,7 +283,7 @@ fn is_label(word: &[u8], after: &[u8]) -> bool
     }
 }
 
-fn is_solution_name(word: &[u8]) -> bool
+pub(crate) fn is_solution_name(word: &[u8]) -> bool
     ensures { result ≡ is_among word.now solution_names }
 {
     word.eq_ignore_ascii_case(b"solution")
@@ -315,7 +325,14 @@ fn is_glued<R: Rule>(word: &[u8]) -> bool
 fn is_card_move(word: &[u8], next: &[u8]) -> bool
     ensures { result ≡ is_card_move word.now next.now }
 {
-    named_card(word).is_some() && !has_small_letters(word) && is_going(arrow_of(next))
+    is_capital_card(word) && is_going(arrow_of(next))
+}
+
+/// Whether the word is a card in capitals.
+pub(crate) fn is_capital_card(word: &[u8]) -> bool
+    ensures { result ≡ is_capital_card word.now }
+{
+    named_card(word).is_some() && !has_small_letters(word)
 }
 
 pub(crate) fn has_small_letters(word: &[u8]) -> bool
@@ -336,7 +353,7 @@ fn arrow_of(next: &[u8]) -> u8
     ensures { result ≡ arrow_of next.now }
 {
     match next {
-        [b'>', ..] | [_, b'>', ..] => b'>',
+        [b'>', ..] | [b'-' | b'=', b'>', ..] => b'>',
         [mark @ (b'-' | b'='), ..] => *mark,
         [b't', b'o', b' ', ..] => b't',
         _ => 0,

@@ -250,14 +250,14 @@ impl Piece {
     fn take_moves<R: Rule>(&mut self, line: Line<'_>, in_words: bool) -> Result<(), AllocError> {
         let text = line.text;
         let seen = LineSeen::of(text, &mut self.placed)?;
-        let LineHeard { heard, other } = LineHeard::of::<R>(text, &mut self.line_moves)?;
+        let heard = LineHeard::of::<R>(text, &mut self.line_moves)?;
         let is_between = in_words && (text.starts_with(SOLVED) || is_drawn(text));
         if seen.words == 0 || is_between {
             return Ok(());
         }
         let is_alone = seen.words == 1 && seen.numbers;
-        let is_list = text.starts_with(b">") || !self.line_moves.is_empty() && !is_alone;
-        if is_list && heard.all && heard.from.is_none() {
+        let is_read = heard.heard.all && heard.heard.from.is_none();
+        if is_read && heard.is_list::<R>(text, &seen, self.line_moves.as_slice()) {
             self.moves.extend_from_slice(self.line_moves.as_slice())?;
             return Ok(());
         }
@@ -268,7 +268,7 @@ impl Piece {
             self.moves.extend_from_slice(self.line_moves.as_slice())?;
             return Ok(());
         }
-        self.held.foreign = Some(line.start.saturating_add(other));
+        self.held.foreign = Some(line.start.saturating_add(heard.other));
         Ok(())
     }
 
@@ -319,7 +319,7 @@ impl Piece {
         let front = line.trim_ascii_start();
         Ok(match front {
             [] => LineKind::Blank,
-            [b'#', ..] => LineKind::Comment,
+            [b'#', ..] if uncommented(front).is_empty() => LineKind::Comment,
             [b'>', ..] if self.is_marked_list::<R>(line, seen)? => LineKind::Moves,
             [b'M', ..] if is_in_words(front) => LineKind::Moves,
             [b'=', b'=', ..] | [b'-', b'=', ..] => LineKind::Other,

@@ -1,7 +1,7 @@
 //! The words of a text: letters and digits together.
-ghost use Rattle.std.specs.List.{before_first, list_all, prefix_len};
+ghost use Rattle.std.specs.List.{before_first, prefix_len};
 ghost use Rattle.std.specs.Prelude.{◌+◌, ◌==◌, ◌≡◌, ◌≤◌, drop, length, map, not};
-ghost use Rattle.{fc_import.specs.Scan.{parts_words, uncommented}, fc_text.specs.Bytes.{is_gap}};
+ghost use Rattle.fc_import.specs.Scan.{parts_words, uncommented};
 
 use memchr::memchr;
 
@@ -114,21 +114,15 @@ fn parts_words(byte: u8) -> bool
     !(byte.is_ascii_alphanumeric() || 128 <= byte)
 }
 
-/// The line before a comment, which its first `#` begins, but before a digit within the line.
+/// The line before a comment, which its first `#` begins, but before a digit.
 pub(crate) fn uncommented(line: &[u8]) -> &[u8]
     ensures { result.now ≡ uncommented line.now }
 {
     let front = before_mark(b'#', line);
     match line.get(front.len() + 1) {
-        Some(b'0'..=b'9') if !are_gaps(front) => line,
+        Some(b'0'..=b'9') => line,
         _ => front,
     }
-}
-
-fn are_gaps(text: &[u8]) -> bool
-    ensures { result ≡ list_all is_gap text.now }
-{
-    text.iter().all(|byte| matches!(*byte, b' ' | b'\t'))
 }
 
 /// The text as far as the first of these marks.
